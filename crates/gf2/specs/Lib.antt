@@ -1,0 +1,4 @@
+pub mod Gf2
+pub mod Xor
+pub mod Division
+pub mod Light
