@@ -1,0 +1,37 @@
+/* The header code (01, "Parity" and "Headers"): the sixteen rows of matrix 6.2 as words, P1 least significant, and a search that
+ * encodes each of the 529 candidates: the word itself, each flipped bit, each two. */
+#include "baseline.h"
+
+static const uint16_t parity_words[16] = {0xD101, 0x7303, 0xB707, 0xEE0E, 0x0D1D, 0x1A3A, 0x3474, 0x68E8,
+                                          0x80D1, 0x81A2, 0x8344, 0x8688, 0x8D10, 0x9A20, 0xB440, 0xE880};
+
+static inline uint32_t codeword(uint16_t message) {
+    uint32_t parity = 0;
+    for (unsigned i = 0; i < 16; i++)
+        if (message >> i & 1) parity ^= parity_words[i];
+    return message | parity << 16;
+}
+
+static inline int fits(uint32_t candidate) { return codeword((uint16_t)candidate) == candidate; }
+
+uint32_t baseline_header_encode(uint16_t message) { return codeword(message); }
+
+static int found(uint32_t candidate, uint32_t count, uint16_t *message, uint32_t *flips) {
+    *message = (uint16_t)candidate;
+    *flips = count;
+    return 1;
+}
+
+int baseline_header_read(uint32_t word, uint16_t *message, uint32_t *flips) {
+    if (fits(word)) return found(word, 0, message, flips);
+    for (unsigned a = 0; a < 32; a++) {
+        uint32_t one = word ^ 1u << a;
+        if (fits(one)) return found(one, 1, message, flips);
+    }
+    for (unsigned a = 0; a < 32; a++)
+        for (unsigned b = a + 1; b < 32; b++) {
+            uint32_t two = word ^ 1u << a ^ 1u << b;
+            if (fits(two)) return found(two, 2, message, flips);
+        }
+    return 0;
+}
