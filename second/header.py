@@ -1,0 +1,163 @@
+#!/usr/bin/python3
+"""The independent second program for the header's parity and reading (01, "Parity" and "Headers").
+
+Two methods that share nothing: matrix 6.2 as printed, transposed; and long division of polynomials by the generator. They have to agree
+with each other and with the library on all 65,536 messages. Words are then read by distance alone: every codeword stands in a list, and
+a word belongs to the one that differs from it in at most two bits. No syndrome, no flipped candidates.
+
+Use: header.py COMMAND..   (the command that runs the header driver)
+"""
+import itertools
+import random
+import struct
+import sys
+
+from driver import Driver, numbers
+
+SEED = 201108
+
+# ES 201 108, clause 6.2.3, equation (6.2): the matrix as it is printed, before the sign T. Its columns are P1 to P16 only after the
+# transpose: row i belongs to message bit i.
+PRINTED = """
+1 0 0 0 0 0 0 0 1 0 0 0 1 0 1 1
+1 1 0 0 0 0 0 0 1 1 0 0 1 1 1 0
+1 1 1 0 0 0 0 0 1 1 1 0 1 1 0 1
+0 1 1 1 0 0 0 0 0 1 1 1 0 1 1 1
+1 0 1 1 1 0 0 0 1 0 1 1 0 0 0 0
+0 1 0 1 1 1 0 0 0 1 0 1 1 0 0 0
+0 0 1 0 1 1 1 0 0 0 1 0 1 1 0 0
+0 0 0 1 0 1 1 1 0 0 0 1 0 1 1 0
+1 0 0 0 1 0 1 1 0 0 0 0 0 0 0 1
+0 1 0 0 0 1 0 1 1 0 0 0 0 0 0 1
+0 0 1 0 0 0 1 0 1 1 0 0 0 0 0 1
+0 0 0 1 0 0 0 1 0 1 1 0 0 0 0 1
+0 0 0 0 1 0 0 0 1 0 1 1 0 0 0 1
+0 0 0 0 0 1 0 0 0 1 0 1 1 0 0 1
+0 0 0 0 0 0 1 0 0 0 1 0 1 1 0 1
+0 0 0 0 0 0 0 1 0 0 0 1 0 1 1 1
+"""
+MATRIX = [[int(x) for x in row.split()] for row in PRINTED.split("\n") if row]
+TRANSPOSED = [[MATRIX[i][j] for i in range(16)] for j in range(16)]
+
+# Equation (6.1), as the powers with a one.
+GENERATOR = {0, 8, 12, 14, 15}
+
+
+def by_matrix(message):
+    """The codeword: message, then transposed matrix times message."""
+    bits = [message >> i & 1 for i in range(16)]
+    word = message
+    for j, row in enumerate(TRANSPOSED):
+        p = sum(a * b for a, b in zip(row, bits)) % 2
+        word |= p << (16 + j)
+    return word
+
+
+def by_division(message):
+    """The codeword: a polynomial is the set of its powers; message bit i is X^(15+i)."""
+    left = {15 + i for i in range(16) if message >> i & 1}
+    ones = len(left)
+    while left and max(left) >= 15:
+        shift = max(left) - 15
+        left ^= {power + shift for power in GENERATOR}
+    word = message | sum(1 << (16 + power) for power in left)
+    return word | ((ones + len(left)) % 2) << 31
+
+
+# Two message halves of words at most two apart differ in at most two bits.
+NEAR = [0] + [1 << i for i in range(16)] + [1 << i | 1 << j for i, j in itertools.combinations(range(16), 2)]
+
+
+def nearest(codewords, word):
+    """(message, flips) of the codeword at most two bits away, or None."""
+    found = None
+    for step in NEAR:
+        message = (word ^ step) & 0xFFFF
+        distance = (codewords[message] ^ word).bit_count()
+        if distance <= 2:
+            if found is not None:
+                raise SystemExit("two codewords within two bits of %08x" % word)
+            found = (message, distance)
+    return found
+
+
+def nearest_of_all(codewords, word):
+    """The same with no shortcut: every one of the 65,536."""
+    close = [(c & 0xFFFF, (c ^ word).bit_count()) for c in codewords if (c ^ word).bit_count() <= 2]
+    return close[0] if close else None
+
+
+class Check:
+    def __init__(self, command):
+        self.driver = Driver(command)
+
+    def encode(self, messages):
+        call = b"E" + struct.pack("<I%dI" % len(messages), len(messages), *messages)
+        return numbers(self.driver.ask(call, 4 * len(messages)))
+
+    def read(self, words):
+        call = b"R" + struct.pack("<I%dI" % len(words), len(words), *words)
+        got = numbers(self.driver.ask(call, 12 * len(words)))
+        return [tuple(got[3 * i : 3 * i + 3]) for i in range(len(words))]
+
+    def compare(self, codewords, name, words, want_lost=None):
+        """Holds the library's readings to the nearest codeword; a lost word leaves both lent numbers (0xA55A) alone."""
+        lost = 0
+        for start in range(0, len(words), 20000):
+            part = words[start : start + 20000]
+            for word, got in zip(part, self.read(part)):
+                close = nearest(codewords, word)
+                want = (0, 0xA55A, 0xA55A) if close is None else (1,) + close
+                lost += close is None
+                if got != want:
+                    raise SystemExit("word %08x: the library reads %s, the second program %s" % (word, got, want))
+        if want_lost is not None and lost != want_lost:
+            raise SystemExit("%s: %d lost, not %d" % (name, lost, want_lost))
+        print("  %-58s %7d words, %7d lost" % (name, len(words), lost))
+
+
+def flipped(codeword, places):
+    for place in places:
+        codeword ^= 1 << place
+    return codeword
+
+
+def main():
+    rng = random.Random(SEED)
+    check = Check(sys.argv[1:])
+    codewords = [by_matrix(message) for message in range(65536)]
+    for message in range(65536):
+        if by_division(message) != codewords[message]:
+            raise SystemExit("message %04x: matrix and division disagree" % message)
+    print("  matrix 6.2 (transposed) and long division agree            65536 messages")
+    got = check.encode(range(65536))
+    for message in range(65536):
+        if got[message] != codewords[message]:
+            raise SystemExit("message %04x: library %08x, second program %08x" % (message, got[message], codewords[message]))
+    print("  the library's codewords agree with both                    65536 messages")
+    untransposed = sum(1 for i in range(16) if [r[i] for r in MATRIX] != MATRIX[i])
+    if untransposed == 0:
+        raise SystemExit("the matrix is its own transpose: the check could not tell them apart")
+
+    check.compare(codewords, "every codeword, clean", codewords, 0)
+    some = [0, 0xFFFF, 0x0008, 0x0010, 0x8000] + [rng.randrange(65536) for _ in range(27)]
+    for count in (1, 2):
+        words = [flipped(codewords[m], places) for m in some for places in itertools.combinations(range(32), count)]
+        check.compare(codewords, "every %d flip(s) of %d codewords" % (count, len(some)), words, 0)
+    three = [flipped(codewords[m], places) for m in some[:6] for places in itertools.combinations(range(32), 3)]
+    check.compare(codewords, "every three flips of 6 codewords: all lost", three, len(three))
+    four = [flipped(codewords[some[5]], places) for places in itertools.combinations(range(32), 4)]
+    check.compare(codewords, "every four flips of a codeword: 465 read as another", four, 35960 - 465)
+    for count in range(5):
+        words = [flipped(codewords[rng.randrange(65536)], rng.sample(range(32), count)) for _ in range(20000)]
+        check.compare(codewords, "random messages, %d flip(s)" % count, words, None if count == 4 else 20000 * (count == 3))
+    check.compare(codewords, "random words", [rng.getrandbits(32) for _ in range(60000)])
+    some = [rng.getrandbits(32) for _ in range(50)] + [flipped(rng.choice(codewords), rng.sample(range(32), k % 5)) for k in range(100)]
+    for word in some:
+        if nearest(codewords, word) != nearest_of_all(codewords, word):
+            raise SystemExit("word %08x: the shortcut misses a codeword" % word)
+    check.compare(codewords, "random and damaged words, against all codewords each", some)
+    check.driver.end()
+
+
+main()
