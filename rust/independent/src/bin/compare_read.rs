@@ -1,0 +1,474 @@
+//! Compares the library's reader with the independent version. Arguments: the command that runs the read driver.
+use independent::chance::{Chance, SEED};
+use independent::driver::{over, Call, Driver, LENT};
+use independent::header::{encode, Code};
+use independent::reading::{read, CODEBOOK, REPORT, THRESHOLDS};
+use independent::stream::{packet_of, packets_of, stream_of, INDICES, PAIRS};
+use independent::writing::{INVERSE, MULTIFRAME, SYNC};
+
+/// One multiframe before it is sent: a header word and twelve packets.
+#[derive(Clone)]
+struct Part {
+    header: u32,
+    packets: [u128; PAIRS],
+}
+
+impl Part {
+    fn octets(&self) -> Vec<u8> {
+        [&SYNC[..], &self.header.to_le_bytes(), &stream_of(&self.packets)].concat()
+    }
+}
+
+fn message(rate: u16, kind: u16, position: usize) -> u16 {
+    rate | kind << 2 | ((position % 16) as u16) << 3
+}
+
+/// A clean utterance; the last multiframe ends in zero frames.
+fn utterance(chance: &mut Chance, m: usize) -> Vec<Part> {
+    let (rate, kind) = (chance.pick(&[0, 1, 3]), chance.pick(&[0, 1]));
+    let n = 24 * (m - 1) + chance.below(24);
+    let frames: Vec<[u8; 7]> = (0..24 * m).map(|f| if f < n { chance.frame() } else { [0; 7] }).collect();
+    let part = |k: usize| Part {
+        header: encode(message(rate, kind, k + 1)),
+        packets: std::array::from_fn(|p| packet_of(&frames[24 * k + 2 * p], &frames[24 * k + 2 * p + 1])),
+    };
+    (0..m).map(part).collect()
+}
+
+fn image(parts: &[Part]) -> Vec<u8> {
+    parts.iter().flat_map(Part::octets).collect()
+}
+
+#[derive(Clone)]
+struct Tables {
+    codebook: Vec<i32>,
+    thresholds: Vec<i32>,
+}
+
+/// Nothing but zeros; values that flag about a sixth, a half or most index pairs; the ends of 32 bits.
+fn tables(chance: &mut Chance) -> Tables {
+    let zeros = Tables { codebook: vec![0; CODEBOOK], thresholds: vec![0; THRESHOLDS] };
+    let small = |chance: &mut Chance, n: usize| (0..n).map(|_| chance.below(2001) as i32 - 1000).collect();
+    let ends = [i32::MIN, i32::MIN + 1, -1, 0, 1, i32::MAX - 1, i32::MAX];
+    let edge = |chance: &mut Chance, n: usize| (0..n).map(|_| chance.pick(&ends)).collect();
+    match chance.below(8) {
+        0 => zeros,
+        1 => Tables { thresholds: vec![-1; THRESHOLDS], ..zeros },
+        2 | 3 => Tables { codebook: small(chance, CODEBOOK), thresholds: small(chance, THRESHOLDS).into_iter().map(|t: i32| t + 500).collect() },
+        4 => Tables { codebook: small(chance, CODEBOOK), thresholds: vec![1100; THRESHOLDS] },
+        5 => Tables { codebook: small(chance, CODEBOOK), thresholds: small(chance, THRESHOLDS) },
+        6 => Tables { codebook: edge(chance, CODEBOOK), thresholds: edge(chance, THRESHOLDS) },
+        _ => Tables { codebook: edge(chance, CODEBOOK), thresholds: vec![chance.pick(&[i32::MAX, i32::MAX - 1, i32::MIN]); THRESHOLDS] },
+    }
+}
+
+struct Check {
+    driver: Driver,
+    chance: Chance,
+    code: Code,
+}
+
+impl Check {
+    fn compare(&mut self, name: &str, octets: &[u8], tables: &Tables, rooms: (usize, usize)) {
+        let (index, report) = (self.chance.octets(rooms.0), self.chance.octets(rooms.1));
+        let call = Call::kind(b'R').octet(self.driver.mode()).octets(octets).signed(&tables.codebook).signed(&tables.thresholds);
+        let mut back = self.driver.call(call.octets(&index).octets(&report), 8 + 48 + rooms.0 + rooms.1);
+        let (number, kept) = (back.word(), back.word());
+        let answer: [u64; 6] = std::array::from_fn(|_| back.long());
+        let got = (number, kept, answer, back.take(rooms.0).to_vec(), back.take(rooms.1).to_vec());
+        let want = match read(&self.code, octets, &tables.codebook, &tables.thresholds, rooms.0, rooms.1) {
+            Ok(reading) => {
+                self.count_notes(&reading.report);
+                (0, 1, reading.answer, over(&index, &reading.index), over(&report, &reading.report))
+            }
+            Err(refusal) => {
+                let mut answer = [LENT as u64; 6];
+                answer[0] = refusal.place;
+                (refusal.number, 1, answer, index, report)
+            }
+        };
+        if got != want {
+            let first = |a: &[u8], b: &[u8]| a.iter().zip(b).position(|(x, y)| x != y);
+            println!("{name}: octets {octets:02x?}\nthresholds {:?} rooms {rooms:?}", tables.thresholds);
+            println!("library: number {number} kept {kept} answer {answer:?}");
+            println!("independent: number {} kept {} answer {:?}", want.0, want.1, want.2);
+            println!("first other octet of index {:?}, of report {:?}", first(&got.3, &want.3), first(&got.4, &want.4));
+            panic!("library and independent version differ");
+        }
+        self.driver.count(name, 1);
+        self.driver.count(&format!("of these answered with {number:2}"), 1);
+    }
+
+    /// How often each kind of note was seen, so that a reader of the counts can tell what was tried.
+    fn count_notes(&mut self, report: &[u8]) {
+        let pairs = |note: u8| report.chunks(REPORT).flat_map(|part| &part[1..]).filter(|&&n| n == note).count();
+        for note in [1, 2] {
+            self.driver.count(&format!("of these, pairs with note {note}"), pairs(note));
+        }
+        for note in report.iter().step_by(REPORT).filter(|&&note| note != 0) {
+            self.driver.count(&format!("of these, headers with note {note:2}"), 1);
+        }
+    }
+
+    /// With room to spare for as many multiframes as could be there.
+    fn compare_roomy(&mut self, name: &str, octets: &[u8], tables: &Tables) {
+        let m = octets.len() / MULTIFRAME;
+        let spare = self.chance.below(3) * 20;
+        self.compare(name, octets, tables, (INDICES * m + spare, REPORT * m + spare));
+    }
+
+    fn bad_packet(&mut self, packet: u128) -> u128 {
+        let at = self.chance.below(92);
+        match self.chance.below(3) {
+            0 => packet ^ 1 << at,
+            1 => packet ^ (((self.chance.below(15) as u128) + 1) << at.min(88)),
+            _ => packet ^ 1 << at ^ 1 << self.chance.below(92),
+        }
+    }
+
+    fn header_damage(&mut self, part: &mut Part, most: usize) {
+        let count = self.chance.below(most + 1);
+        for place in self.chance.places(count, 32) {
+            part.header ^= 1 << place;
+        }
+    }
+
+    /// Another message in the header: other settings, an expansion bit, rate 2, another counter.
+    fn other_header(&mut self, part: &mut Part) {
+        let bit = self.chance.below(16);
+        let was = part.header as u16;
+        part.header = encode(match self.chance.below(4) {
+            0 => self.chance.word() as u16,
+            1 => was & !3 | 2,
+            _ => was ^ 1 << bit,
+        });
+    }
+
+    fn clean(&mut self) {
+        for m in (1..=20).chain([64, 254, 255]) {
+            for _ in 0..if m > 20 { 5 } else { 100 } {
+                let parts = utterance(&mut self.chance, m);
+                let tables = tables(&mut self.chance);
+                self.compare_roomy("clean utterances of 1 to 20, 64, 254, 255 multiframes", &image(&parts), &tables);
+            }
+        }
+    }
+
+    fn headers(&mut self) {
+        for _ in 0..20_000 {
+            let m = 1 + self.chance.below(6);
+            let mut parts = utterance(&mut self.chance, m);
+            let most = 1 + self.chance.below(4);
+            for part in &mut parts {
+                if self.chance.once_in(4) {
+                    self.other_header(part);
+                }
+                self.header_damage(part, most);
+            }
+            let tables = tables(&mut self.chance);
+            self.compare_roomy("headers with other messages and 0 to 4 flips", &image(&parts), &tables);
+        }
+        for flips in 0..3 {
+            for _ in 0..600 {
+                let mut parts = utterance(&mut self.chance, 1);
+                if self.chance.once_in(2) {
+                    self.other_header(&mut parts[0]);
+                }
+                for place in self.chance.places(flips, 32) {
+                    parts[0].header ^= 1 << place;
+                }
+                let tables = tables(&mut self.chance);
+                self.compare_roomy("an only multiframe, 0 to 2 flips", &image(&parts), &tables);
+            }
+        }
+        let parts = utterance(&mut self.chance, 3);
+        let tables = tables(&mut self.chance);
+        for a in 0..32 {
+            for b in a..32 {
+                for k in 0..3 {
+                    let mut damaged = parts.clone();
+                    damaged[k].header ^= 1 << a | 1 << b;
+                    self.compare_roomy("every one and two flipped places of each of three headers", &image(&damaged), &tables);
+                }
+            }
+        }
+    }
+
+    /// All headers lost but two that agree, at every two places; and all but one.
+    fn lost_headers(&mut self) {
+        for m in [2, 5, 20] {
+            for a in 0..m {
+                for b in a..m {
+                    let mut parts = utterance(&mut self.chance, m);
+                    for (k, part) in parts.iter_mut().enumerate() {
+                        if k != a && k != b {
+                            part.header ^= 0b111 << self.chance.below(30);
+                        }
+                    }
+                    let tables = tables(&mut self.chance);
+                    self.compare_roomy("all headers lost but two, and but one", &image(&parts), &tables);
+                }
+            }
+        }
+    }
+
+    fn pairs(&mut self) {
+        for _ in 0..40_000 {
+            let m = 1 + self.chance.below(4);
+            let mut parts = utterance(&mut self.chance, m);
+            let rare = self.chance.pick(&[1, 2, 4, 12, 40]);
+            for k in 0..m {
+                for p in 0..PAIRS {
+                    if self.chance.once_in(rare) {
+                        parts[k].packets[p] = self.bad_packet(parts[k].packets[p]);
+                    }
+                }
+            }
+            let tables = tables(&mut self.chance);
+            self.compare_roomy("pairs with flips, bursts and double flips", &image(&parts), &tables);
+        }
+        for distance in 1..92 {
+            for at in (0..92 - distance).step_by(7) {
+                let mut parts = utterance(&mut self.chance, 2);
+                let (k, p) = (self.chance.below(2), self.chance.below(PAIRS));
+                parts[k].packets[p] ^= 1 << at | 1 << (at + distance);
+                let tables = tables(&mut self.chance);
+                self.compare_roomy("double flips at every distance", &image(&parts), &tables);
+            }
+        }
+    }
+
+    /// Every two flipped bits of a packet, in the middle of an octet and at its start, first, middle and last.
+    fn two_flips(&mut self) {
+        let parts = utterance(&mut self.chance, 2);
+        let tables = Tables { codebook: (0..CODEBOOK).map(|_| self.chance.below(2001) as i32).collect(), thresholds: vec![400; THRESHOLDS] };
+        for (k, p) in [(0, 0), (0, 11), (1, 6), (1, 11)] {
+            for a in 0..92 {
+                for b in a + 1..92 {
+                    let mut damaged = parts.clone();
+                    damaged[k].packets[p] ^= 1 << a | 1 << b;
+                    self.compare_roomy("every two flipped bits of four packets", &image(&damaged), &tables);
+                }
+            }
+        }
+    }
+
+    /// A run of bad pairs from every start to every end, so at both ends and across multiframes; with every table.
+    fn runs(&mut self) {
+        for m in [1, 2, 3] {
+            for start in 0..PAIRS * m {
+                for end in start + 1..=PAIRS * m {
+                    for _ in 0..4 {
+                        let mut parts = utterance(&mut self.chance, m);
+                        for p in start..end {
+                            parts[p / PAIRS].packets[p % PAIRS] ^= 1 << self.chance.below(92);
+                        }
+                        let tables = tables(&mut self.chance);
+                        self.compare_roomy("a run of bad pairs from every pair to every pair", &image(&parts), &tables);
+                    }
+                }
+            }
+        }
+        for good in [0, 1, 1500, 3058, 3059] {
+            let mut parts = utterance(&mut self.chance, 255);
+            for p in (0..3060).filter(|&p| p != good) {
+                parts[p / PAIRS].packets[p % PAIRS] ^= 1;
+            }
+            let tables = tables(&mut self.chance);
+            self.compare_roomy("255 multiframes with one good pair", &image(&parts), &tables);
+        }
+    }
+
+    /// Inverse syncs anywhere between, and cuts at every octet.
+    fn cuts(&mut self) {
+        for _ in 0..6_000 {
+            let m = self.chance.below(4);
+            let octets = self.spread(m);
+            let tables = tables(&mut self.chance);
+            self.compare_roomy("inverse syncs before, between and after", &octets, &tables);
+        }
+        for _ in 0..12 {
+            let m = 1 + self.chance.below(3);
+            let octets = self.spread(m);
+            let tables = tables(&mut self.chance);
+            for end in 0..=octets.len() {
+                self.compare_roomy("cut at every octet", &octets[..end], &tables);
+            }
+        }
+        for _ in 0..10_000 {
+            let m = self.chance.below(3);
+            let mut octets = self.spread(m);
+            let at = self.chance.below(octets.len() + 1);
+            match self.chance.below(4) {
+                0 => octets.insert(at, self.chance.pick(&[0x87, 0x78, 0xB2, 0x4D, 0x00])),
+                1 => octets.extend(&[0x87, 0xB2, 0x78, 0x4D, 0x87, 0x78][..self.chance.below(7)]),
+                2 => octets.truncate(at),
+                _ if at < octets.len() => octets[at] = self.chance.pick(&[0x87, 0x78, 0xB2, 0x4D, 0x00]),
+                _ => octets.push(0x78),
+            }
+            let tables = tables(&mut self.chance);
+            self.compare_roomy("octets put in, changed and cut", &octets, &tables);
+        }
+        for first in 0..=255u8 {
+            let tables = tables(&mut self.chance);
+            self.compare_roomy("every single octet", &[first], &tables);
+            for second in [0x00, 0x4D, 0xB2, 0xFF] {
+                self.compare_roomy("every first octet with 00, 4D, B2, FF", &[first, second], &tables);
+            }
+        }
+        for second in 0..=255u8 {
+            let tables = tables(&mut self.chance);
+            for first in [0x87, 0x78] {
+                self.compare_roomy("87 and 78 with every second octet", &[first, second], &tables);
+            }
+        }
+        for _ in 0..2_000 {
+            let n = self.chance.below(400);
+            let octets = self.chance.octets(n);
+            let tables = tables(&mut self.chance);
+            self.compare_roomy("random octets", &octets, &tables);
+        }
+    }
+
+    fn spread(&mut self, m: usize) -> Vec<u8> {
+        let parts = if m == 0 { vec![] } else { utterance(&mut self.chance, m) };
+        let mut octets = vec![];
+        for k in 0..=m {
+            for _ in 0..self.chance.pick(&[0, 0, 1, 2, 5]) {
+                octets.extend(INVERSE);
+            }
+            if k < m {
+                octets.extend(parts[k].octets());
+            }
+        }
+        octets
+    }
+
+    /// 255 multiframes and what can follow them.
+    fn most(&mut self) {
+        let tables = tables(&mut self.chance);
+        let parts = utterance(&mut self.chance, 256);
+        let whole = image(&parts[..255]);
+        let last = parts[255].octets();
+        for length in [0, 1, 2, 3, 143, 144] {
+            let octets = [&whole[..], &last[..length]].concat();
+            self.compare_roomy("255 multiframes and a part of the next", &octets, &tables);
+            let octets = [&whole[..], &INVERSE, &INVERSE, &last[..length]].concat();
+            self.compare_roomy("255 multiframes and a part of the next", &octets, &tables);
+        }
+        for tail in [&[0x78][..], &[0x78, 0x4D], &[0x78, 0x4D, 0x78], &[0x00], &[0x87, 0x00], &[0x78, 0xB2]] {
+            self.compare_roomy("255 multiframes and other octets", &[&whole[..], tail].concat(), &tables);
+        }
+        let long = [&INVERSE.repeat(30_000)[..], &whole].concat();
+        self.compare_roomy("60,000 octets of inverse sync before 255 multiframes", &long, &tables);
+    }
+
+    fn rooms(&mut self) {
+        for m in 1..=20 {
+            for short_index in [0, 1, INDICES, INDICES * m] {
+                for short_report in [0, 1, REPORT, REPORT * m] {
+                    let parts = utterance(&mut self.chance, m);
+                    let tables = tables(&mut self.chance);
+                    let rooms = (INDICES * m - short_index, REPORT * m - short_report);
+                    self.compare("buffers exact, one octet short, one multiframe short, empty", &image(&parts), &tables, rooms);
+                }
+            }
+        }
+        let parts = utterance(&mut self.chance, 255);
+        let tables = tables(&mut self.chance);
+        for rooms in [(42839, 3315), (42840, 3314), (42840, 3315), (42841, 3316), (0, 0)] {
+            self.compare("255 multiframes, buffers one octet short, exact, one more", &image(&parts), &tables, rooms);
+        }
+    }
+
+    fn table_lengths(&mut self) {
+        for codebook in [0, 1, 1279, 1280, 1281, 2560] {
+            for thresholds in [0, 1, 13, 14, 15, 28] {
+                for octets in [vec![], vec![0x87], image(&utterance(&mut self.chance, 2))] {
+                    let tables = Tables { codebook: vec![0; codebook], thresholds: vec![0; thresholds] };
+                    self.compare_roomy("codebooks and thresholds of other lengths", &octets, &tables);
+                }
+            }
+        }
+    }
+
+    /// Several faults at once: the order of the refusals.
+    fn mixed(&mut self) {
+        for _ in 0..20_000 {
+            let m = 1 + self.chance.below(3);
+            let mut parts = utterance(&mut self.chance, m);
+            let all_bad = self.chance.once_in(3);
+            for part in &mut parts {
+                if self.chance.once_in(2) {
+                    part.header = self.chance.word() as u32;
+                }
+                if self.chance.once_in(3) {
+                    self.other_header(part);
+                }
+                for p in 0..PAIRS {
+                    if all_bad || self.chance.once_in(3) {
+                        part.packets[p] ^= 1 << self.chance.below(92);
+                    }
+                }
+            }
+            let mut octets = image(&parts);
+            if self.chance.once_in(10) {
+                octets.truncate(octets.len() - self.chance.below(200).min(octets.len()));
+            }
+            let mut tables = tables(&mut self.chance);
+            if self.chance.once_in(30) {
+                tables.codebook.pop();
+            }
+            let short = |chance: &mut Chance| chance.pick(&[0, 0, 0, 1]);
+            let rooms = (INDICES * m - short(&mut self.chance), REPORT * m - short(&mut self.chance));
+            self.compare("several faults at once", &octets, &tables, rooms);
+        }
+    }
+
+    /// Octets beyond 32 bits in number; all are zero.
+    fn wide(&mut self) {
+        for len in [1u64 << 32, (1 << 32) + 144] {
+            let mut back = self.driver.call(Call::kind(b'L').long(len), 8 + 48);
+            assert_eq!((back.word(), back.word(), back.long()), (12, 1, 0), "{len} zero octets");
+            self.driver.count("more than 2^32 octets", 1);
+        }
+    }
+
+    /// The two replacements and the listing's input that 01 prints, as they stand there.
+    fn examples(&self) {
+        let mut listing = vec![0x87, 0xB2, 0x08, 0x00, 0x0E, 0xEE, 0x01];
+        listing.extend([0; 10]);
+        listing.push(0x04);
+        listing.extend([0; 126]);
+        let reading = read(&self.code, &listing, &[0; CODEBOOK], &[0; THRESHOLDS], 168, 13).ok().expect("01's listing is read");
+        assert_eq!((reading.answer, reading.report), ([0, 0, 1, 1, 0, 1], vec![0; 13]));
+        for (bad, want) in [(1..2, [1, 2, 2, 5, 5, 6, 7, 8]), (1..3, [1, 2, 2, 2, 7, 7, 7, 8])] {
+            let frames: Vec<[u8; 7]> = (1..=24).map(|f| [f; 7]).collect();
+            let mut packets: [u128; PAIRS] = std::array::from_fn(|p| packet_of(&frames[2 * p], &frames[2 * p + 1]));
+            bad.for_each(|p| packets[p] ^= 1);
+            let octets = Part { header: encode(8), packets }.octets();
+            let reading = read(&self.code, &octets, &[0; CODEBOOK], &[0; THRESHOLDS], 168, 13).ok().expect("it is read");
+            let got: Vec<u8> = reading.index.chunks(7).take(8).map(|frame| frame[0]).collect();
+            assert_eq!(got, want);
+            assert_eq!(packets_of(&octets[6..]), packets);
+        }
+    }
+}
+
+fn main() {
+    let mut check = Check { driver: Driver::start(), chance: Chance::new(SEED), code: Code::new() };
+    check.examples();
+    check.clean();
+    check.headers();
+    check.lost_headers();
+    check.pairs();
+    check.two_flips();
+    check.runs();
+    check.cuts();
+    check.most();
+    check.rooms();
+    check.table_lengths();
+    check.mixed();
+    check.wide();
+    check.driver.end(100_000);
+}

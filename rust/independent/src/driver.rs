@@ -1,0 +1,122 @@
+//! Talks to a driver (drive/*.c), which makes each call of the library and sends back what it left in the lent memory.
+use std::collections::BTreeMap;
+use std::io::{BufReader, BufWriter, Read, Write};
+use std::process::{Child, ChildStdin, ChildStdout, Command, Stdio};
+
+/// What the drivers put into a lent number before a call.
+pub const LENT: u32 = 0xA55A;
+
+pub struct Driver {
+    child: Child,
+    to: BufWriter<ChildStdin>,
+    from: BufReader<ChildStdout>,
+    calls: usize,
+    counts: BTreeMap<String, usize>,
+}
+
+impl Driver {
+    /// Starts the command that this program's arguments are.
+    pub fn start() -> Driver {
+        let words: Vec<String> = std::env::args().skip(1).collect();
+        let (program, rest) = words.split_first().expect("give the command that runs the driver");
+        let mut child = Command::new(program).args(rest).stdin(Stdio::piped()).stdout(Stdio::piped()).spawn().expect("the driver starts");
+        let to = BufWriter::new(child.stdin.take().unwrap());
+        let from = BufReader::new(child.stdout.take().unwrap());
+        Driver { child, to, from, calls: 0, counts: BTreeMap::new() }
+    }
+
+    /// Whether the next call lends its slices against the page before them (1) or after them (0): by turns.
+    pub fn mode(&self) -> u8 {
+        (self.calls % 2) as u8
+    }
+
+    pub fn call(&mut self, call: Call, answer: usize) -> Answer {
+        self.calls += 1;
+        let sent = self.to.write_all(&call.0).and_then(|()| self.to.flush());
+        let mut octets = vec![0; answer];
+        if sent.is_err() || self.from.read_exact(&mut octets).is_err() {
+            let status = self.child.wait();
+            panic!("the driver ended in call {} ({status:?}): it touched memory that was not lent, or failed", self.calls);
+        }
+        Answer { octets, at: 0 }
+    }
+
+    pub fn count(&mut self, name: &str, inputs: usize) {
+        *self.counts.entry(name.to_string()).or_default() += inputs;
+    }
+
+    /// Ends the driver and prints the counts.
+    pub fn end(self, at_least: usize) {
+        drop(self.to);
+        let mut child = self.child;
+        assert!(child.wait().expect("the driver ends").success(), "the driver failed");
+        for (name, count) in &self.counts {
+            println!("  {name:<58} {count:>8}");
+        }
+        let all: usize = self.counts.iter().filter(|(name, _)| !name.starts_with("of these")).map(|(_, n)| n).sum();
+        println!("  {:<58} {all:>8}", "inputs in all, library and independent version agree");
+        assert!(all >= at_least, "fewer inputs than the {at_least} that were promised");
+    }
+}
+
+#[derive(Default)]
+pub struct Call(Vec<u8>);
+
+impl Call {
+    pub fn kind(kind: u8) -> Call {
+        Call(vec![kind])
+    }
+
+    pub fn octet(mut self, x: u8) -> Call {
+        self.0.push(x);
+        self
+    }
+
+    pub fn long(mut self, x: u64) -> Call {
+        self.0.extend(x.to_le_bytes());
+        self
+    }
+
+    pub fn octets(mut self, slice: &[u8]) -> Call {
+        self.0.extend((slice.len() as u32).to_le_bytes());
+        self.0.extend(slice);
+        self
+    }
+
+    pub fn words(mut self, slice: &[u32]) -> Call {
+        self.0.extend((slice.len() as u32).to_le_bytes());
+        self.0.extend(slice.iter().flat_map(|x| x.to_le_bytes()));
+        self
+    }
+
+    pub fn signed(mut self, slice: &[i32]) -> Call {
+        self.0.extend((slice.len() as u32).to_le_bytes());
+        self.0.extend(slice.iter().flat_map(|x| x.to_le_bytes()));
+        self
+    }
+}
+
+pub struct Answer {
+    octets: Vec<u8>,
+    at: usize,
+}
+
+impl Answer {
+    pub fn take(&mut self, n: usize) -> &[u8] {
+        self.at += n;
+        &self.octets[self.at - n..self.at]
+    }
+
+    pub fn word(&mut self) -> u32 {
+        u32::from_le_bytes(self.take(4).try_into().unwrap())
+    }
+
+    pub fn long(&mut self) -> u64 {
+        u64::from_le_bytes(self.take(8).try_into().unwrap())
+    }
+}
+
+/// The lent octets with `new` laid over their start.
+pub fn over(lent: &[u8], new: &[u8]) -> Vec<u8> {
+    [new, &lent[new.len()..]].concat()
+}
