@@ -6,7 +6,7 @@ an outside voice, python3-crccheck's Crc4G704 over the eleven data octets (88 bi
 CRC-4/G-704 reads them): its value's bits 0 to 3 are packet bits 88 to 91. Both are held to the streams that the library packs, and to
 what it says of damaged ones.
 
-Use: crc.py COMMAND..   (the command that runs the stream driver)
+Use: stream.py COMMAND..   (the command that runs the stream driver)
 """
 import itertools
 import random
