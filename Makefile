@@ -41,7 +41,7 @@ RUN :=
 JUDGED := "the literal version against itself"
 endif
 
-.PHONY: test bench lib clean packages independent wrapper wrapper-literal crctable
+.PHONY: test bench lib clean packages independent wrapper wrapper-literal example crctable
 .SECONDARY:
 .DELETE_ON_ERROR:
 
@@ -114,6 +114,18 @@ wrapper: $(ARCHIVE)
 
 wrapper-literal: $(BUILD)/libbaseline.a
 	cd rust && DSR_LIB_DIR=$(abspath $(BUILD)) DSR_LIB_NAME=baseline $(CARGO) test --quiet --offline -p dsr --target-dir target/literal
+
+# The C example, held to what it has to print.
+example: $(BUILD)/$(LIB)/example
+	$(RUN) $< | diff - c/example.out
+
+$(BUILD)/library/example: c/example.c $(HEADERS) $(ARCHIVE)
+	@mkdir -p $(@D)
+	$(LIBRARY_CC) $(WARN) -O2 $< $(WITH) -o $@
+
+$(BUILD)/literal/example: c/example.c $(HEADERS) $(BASELINE) baseline/as_library.c
+	@mkdir -p $(@D)
+	gcc $(WARN) -O2 $< $(BASELINE) $(WITH) -o $@
 
 # The compiler turns the CRC register's loop into a table of 256 octets by itself, if the loop keeps its shape: a small edit loses it
 # silently, and packing and unpacking with it. The table is a section of its own, 100 (hex) octets long, and code refers to it.

@@ -13,13 +13,23 @@ fn a_stream_comes_back() {
     assert_eq!(notes, [0, 0, 0, 0, 0, 0, 0, 0, 0, 0, 0, 1]);
 }
 
+/// The stream bits that are set when the first index is the only one that is not zero.
+fn ones_of(index: u8) -> Vec<usize> {
+    let (mut indices, mut stream) = ([0; 168], [0xEE; 138]);
+    indices[0] = index;
+    assert!(pack(&indices, &mut stream));
+    (0..1104).filter(|t| stream[t / 8] >> (t % 8) & 1 == 1).collect()
+}
+
 #[test]
 fn a_frame_of_one_has_the_crc_x() {
-    let (mut indices, mut stream) = ([0; 168], [0xEE; 138]);
-    indices[0] = 1;
-    assert!(pack(&indices, &mut stream));
-    let ones: Vec<usize> = (0..1104).filter(|t| stream[t / 8] >> (t % 8) & 1 == 1).collect();
-    assert_eq!(ones, [0, 90]);
+    assert_eq!(ones_of(1), [0, 90]);
+}
+
+/// The example above holds for 1 + X^3 + X^4 too, as X^91 is X for both; X^87 tells them apart.
+#[test]
+fn the_generator_is_not_turned_round() {
+    assert_eq!(ones_of(16), [4, 88, 89, 90, 91]);
 }
 
 #[test]
