@@ -50,6 +50,7 @@ test:
 
 # Each part's rows are one run. All rows are printed before a target that was missed fails the whole.
 bench: $(foreach p,$(PARTS),$(BUILD)/$(LIB)/bench-$(p))
+	@[ -n "$(PARTS)" ] || echo 'no part of the library has landed yet: see PARTS in the Makefile'
 	@missed=0; for p in $(PARTS); do $(RUN) $(BUILD)/$(LIB)/bench-$$p $(JUDGED) || missed=1; done; exit $$missed
 
 lib: $(ARCHIVE)
