@@ -160,3 +160,20 @@ common-masked m h =
     let l : m % 8 < 2 ^ 7 = omega arith in
     rw (and-mask m 3, s, or-shifted-r (m / 128) 7 (m % 8) l)
     (low-three m h ∙ sym (plain (rateOf m) (typeOf m) 0 (expOf m) (rate-lt m) (type-lt m) (lit< tt) (exp-lt m)))
+
+-- ---- the messages of 01's examples, as numbers
+pub message-counts : (message 0 0 1 0 ≡ 8) × (message 0 0 2 0 ≡ 16) × (message 0 0 3 0 ≡ 24)
+unfolding message
+message-counts = (refl, refl, refl)
+
+pub message-nothing : message 0 0 0 0 ≡ 0
+unfolding message
+message-nothing = refl
+
+pub message-rate-1 : message 1 0 0 0 ≡ 1
+unfolding message
+message-rate-1 = refl
+
+pub message-exp-9 : message 0 0 0 256 ≡ 32768
+unfolding message
+message-exp-9 = refl
