@@ -5,7 +5,7 @@ use mathlib.Core.Path.{_≡_}
 use Prim.Native.Nat.{ℕ, zero, suc, _^_, _≤_, _<_}
 use lib.Dec.{leb}
 use Rattle.lists.specs.Tests.{when}
-use Rattle.header.specs.Code.{flipsTo}
+use Rattle.header_code.specs.Code.{flipsTo}
 use Rattle.header.specs.declared.Header.{Header}
 use Rattle.header.specs.declared.Header.the-variants.{Codeword, Lost}
 pub mod Laws

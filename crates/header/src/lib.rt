@@ -3,7 +3,7 @@
 ghost use mathlib.Core.Path.{_≡_};
 ghost use Prim.Native.Nat.{ℕ, _<_, _^_};
 ghost use lib.ListN.{getD};
-ghost use Rattle.header.specs.Code.{parity, codeword, syndrome};
+ghost use Rattle.header_code.specs.Code.{parity, codeword, syndrome};
 ghost use Rattle.header.specs.Message.{message, rateOf, typeOf, countOf, expOf, commonBits};
 ghost use Rattle.header.specs.Reading.{reading};
 

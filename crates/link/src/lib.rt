@@ -1,7 +1,7 @@
 // The entries for C and Rust: numbers and slices only, nothing asked of the caller.
 use header::Header;
 ghost use mathlib.Core.Path.{_≡_};
-ghost use Rattle.header.specs.Code.{codeword};
+ghost use Rattle.header_code.specs.Code.{codeword};
 ghost use Rattle.header.specs.Reading.{reading};
 ghost use Rattle.link.specs.Link.{headerRead};
 

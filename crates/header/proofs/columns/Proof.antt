@@ -5,8 +5,8 @@ use lib.Bits.{bitOr}
 use lib.ListN.{length, length-set}
 use native.Mathlib.Omega.{arith}
 use borrow.Author.Needs.{needs}
-use Rattle.header.specs.Code.Syndrome.{Filled, filled-more, filled-all, column-low, column-high}
-use Rattle.header.specs.Code.Parity.{words}
+use Rattle.header_code.specs.Code.Syndrome.{Filled, filled-more, filled-all, column-low, column-high}
+use Rattle.header_code.specs.Code.Parity.{words}
 use Rattle.header.proofs.columns.Statement.{statement}
 use Rattle.header.proofs.columns.Tie as tie
 

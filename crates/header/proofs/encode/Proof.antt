@@ -1,6 +1,6 @@
 -- The codeword is put together from the message, its parity and the count of ones. Assumes nothing.
 use borrow.Author.Needs.{needs}
-use Rattle.header.specs.Code.Parity.{codeword-packed}
+use Rattle.header_code.specs.Code.Parity.{codeword-packed}
 use Rattle.header.proofs.encode.Statement.{statement}
 use Rattle.header.proofs.encode.Tie as tie
 

@@ -5,8 +5,8 @@ use native.Mathlib.Nat.{mod-one, mod-eq-of-lt}
 use native.Mathlib.Omega.{arith}
 use lib.Bits.{bitXor, and-mask}
 use borrow.Author.Needs.{needs}
-use Rattle.header.specs.Code.{parity}
-use Rattle.header.specs.Code.Parity.{parity-zero, parity-next, words, words-right, word-times-bit}
+use Rattle.header_code.specs.Code.{parity}
+use Rattle.header_code.specs.Code.Parity.{parity-zero, parity-next, words, words-right, word-times-bit}
 use Rattle.header.proofs.parity_of.Statement.{statement}
 use Rattle.header.proofs.parity_of.Tie as tie
 

@@ -1,6 +1,6 @@
 -- The syndrome is put together from the parity against the received one and the count of ones. Assumes nothing.
 use lib.Bits.{mask-lt}
-use Rattle.header.specs.Code.Syndrome.{syndrome-packed}
+use Rattle.header_code.specs.Code.Syndrome.{syndrome-packed}
 use Rattle.header.proofs.syndrome_of.Statement.{statement}
 use Rattle.header.proofs.syndrome_of.Tie as tie
 

@@ -11,8 +11,8 @@ use lib.Dec.{leb}
 use borrow.Author.Tests.{leb-true, leb-false}
 use Rattle.lists.specs.Tests.{when, by-test}
 use Rattle.gf2.specs.Xor.{xor-twice}
-use Rattle.header.specs.Code.{codeword, flipsTo}
-use Rattle.header.specs.Code.Distance.{far-from-one, nearest}
+use Rattle.header_code.specs.Code.{codeword, flipsTo}
+use Rattle.header_code.specs.Code.Distance.{far-from-one, nearest}
 use Rattle.header.specs.Reading.{mendable, ReadAs, within, reading}
 use Rattle.header.specs.declared.Header.{Header}
 use Rattle.header.specs.declared.Header.the-variants.{Codeword, Lost}

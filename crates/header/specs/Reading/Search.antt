@@ -11,9 +11,9 @@ use lib.Count.{ones, onesIn, ones-step, ones-cat, ones-le}
 use lib.Dec.{lit<}
 use lib.Pow.{pow-pos, pow-lt}
 use Rattle.gf2.specs.Xor.{digit, low, xor-shl, xor-assoc, xor-twice, ones-xor-le}
-use Rattle.header.specs.Code.{codeword, flipsTo, syndrome}
-use Rattle.header.specs.Code.Distance.{codeword-lt}
-use Rattle.header.specs.Code.Syndrome.{syndrome-xor, syndrome-zero, syndrome-codeword, codeword-of}
+use Rattle.header_code.specs.Code.{codeword, flipsTo, syndrome}
+use Rattle.header_code.specs.Code.Distance.{codeword-lt}
+use Rattle.header_code.specs.Code.Syndrome.{syndrome-xor, syndrome-zero, syndrome-codeword, codeword-of}
 use Rattle.header.specs.Reading.{ReadAs, reading}
 use Rattle.header.specs.Reading.Laws.{reading-only}
 use Rattle.header.specs.declared.Header.the-variants.{Codeword, Lost}

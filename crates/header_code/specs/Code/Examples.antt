@@ -7,8 +7,8 @@ use lib.Count.{ones, onesIn}
 use lib.Dec.{lit<}
 use Rattle.gf2.specs.Gf2.{remainder}
 use Rattle.gf2.specs.Light.{ones-in}
-use Rattle.header.specs.Code.{parity, front, codeword, flipsTo}
-use Rattle.header.specs.Code.Distance.{front-lt}
+use Rattle.header_code.specs.Code.{parity, front, codeword, flipsTo}
+use Rattle.header_code.specs.Code.Distance.{front-lt}
 
 -- the four octets of a word, in sending order
 abbrev pub octets : ℕ → List ℕ

@@ -12,8 +12,8 @@ use lib.Dec.{T, lit<, leb, leb→le}
 use Rattle.gf2.specs.Gf2.{remainder}
 use Rattle.gf2.specs.Xor.{digit, low, xor-twice, between, ones-xor, ones-xor-le}
 use Rattle.gf2.specs.Light.{light, light-holds, ones-in}
-use Rattle.header.specs.Code.{parity, front, codeword, flipsTo}
-use Rattle.header.specs.Code.Parity.{parity-lt, parity-xor}
+use Rattle.header_code.specs.Code.{parity, front, codeword, flipsTo}
+use Rattle.header_code.specs.Code.Parity.{parity-lt, parity-xor}
 
 -- the test: a message with something in it has five ones among its 31 bits
 far : ℕ → Bool

@@ -18,9 +18,9 @@ use Rattle.lists.specs.Tests.{both, both-left, both-right, all-holds}
 use Rattle.gf2.specs.Gf2.{remainder}
 use Rattle.gf2.specs.Xor.{digit, low, xor-swap, xor-twice, ones-xor}
 use Rattle.gf2.specs.Light.{ones-in}
-use Rattle.header.specs.Code.{parity, front, codeword, syndrome}
-use Rattle.header.specs.Code.Parity.{parity-lt, parity-xor, words}
-use Rattle.header.specs.Code.Distance.{codeword-even, codeword-low, codeword-lt, front-lt}
+use Rattle.header_code.specs.Code.{parity, front, codeword, syndrome}
+use Rattle.header_code.specs.Code.Parity.{parity-lt, parity-xor, words}
+use Rattle.header_code.specs.Code.Distance.{codeword-even, codeword-low, codeword-lt, front-lt}
 
 -- the evenness of a sum
 odd-digits : (x y z : ℕ) → x < 2 → y < 2 → (z % 2 ≡ (x + y) % 2) → z % 2 ≡ bitXor x y

@@ -15,7 +15,7 @@ use Rattle.lists.specs.Tests.{all, all-holds}
 use Rattle.gf2.specs.Gf2.{remainder}
 use Rattle.gf2.specs.Xor.{digit, low, xor-shl}
 use Rattle.gf2.specs.Division.{remainder-lt, remainder-xor}
-use Rattle.header.specs.Code.{generator, parity, front, codeword}
+use Rattle.header_code.specs.Code.{generator, parity, front, codeword}
 
 pub parity-lt : (m : ℕ) → parity m < 2 ^ 15
 unfolding parity
