@@ -125,11 +125,13 @@ pub get-in-one : (s : List ℕ) (at w : ℕ) → at / 8 < length s → at % 8 + 
 get-in-one s at w hi hk =
     sym (ap value (rw (div-add-mod' at 8) at (get-one s (at / 8) (at % 8) w hi hk)) ∙ value-field w (getD s (at / 8) 0 / 2 ^ (at % 8)))
 
-pub get-in-two : (s : List ℕ) (at w : ℕ) → suc (at / 8) < length s → getD s (at / 8) 0 < 256 → at % 8 + w ≤ 16
-    → (getD s (suc (at / 8)) 0 * 256 + getD s (at / 8) 0) / 2 ^ (at % 8) % 2 ^ w ≡ value (part at w (bits s))
+pub get-in-two : (s : List ℕ) (at w : ℕ) → at / 8 + 1 < length s → getD s (at / 8) 0 < 256 → at % 8 + w ≤ 16
+    → (getD s (at / 8 + 1) 0 * 256 + getD s (at / 8) 0) / 2 ^ (at % 8) % 2 ^ w ≡ value (part at w (bits s))
 get-in-two s at w hi hx hk =
-    sym (ap value (rw (div-add-mod' at 8) at (get-two s (at / 8) (at % 8) w hi hx hk))
-    ∙ value-field w ((getD s (suc (at / 8)) 0 * 256 + getD s (at / 8) 0) / 2 ^ (at % 8)))
+    let h : suc (at / 8) < length s = omega arith in
+    rw add-one
+    (sym (ap value (rw (div-add-mod' at 8) at (get-two s (at / 8) (at % 8) w h hx hk))
+    ∙ value-field w ((getD s (suc (at / 8)) 0 * 256 + getD s (at / 8) 0) / 2 ^ (at % 8))))
 
 pub put-in-one : (s : List ℕ) (at w v n : ℕ) → at / 8 < length s → at % 8 + w ≤ 8 → v < 2 ^ w → n ≡ spliced (getD s (at / 8) 0) (at % 8) w v
     → bits (set s (at / 8) n) ≡ over (bits s) at w (field w v)

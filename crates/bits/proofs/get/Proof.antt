@@ -2,9 +2,8 @@
 -- Assumes nothing.
 use borrow.Author.Needs.{needs}
 use native.Mathlib.Omega.{arith}
-use native.Mathlib.Numerals.{add-one}
-use mathlib.Core.Path.{_∙_}
-use Prim.Native.Nat.{suc, _+_, _/_, _^_, _<_}
+use mathlib.Core.Path.{ap, _∙_}
+use Prim.Native.Nat.{ℕ, _+_, _/_, _%_, _^_, _<_}
 use denote.Ref.{now}
 use lib.ListN.{getD}
 use Rattle.bits.proofs.Places.{get-in-one, get-in-two}
@@ -51,9 +50,9 @@ returns-2 c =
     let i = a .at / 8 in
     let known = c .before .shared-slice-known3 .given in
     let hx : getD s i 0 < 2 ^ 8 = known i .fits in
-    let hy : getD s (suc i) 0 < 2 ^ 8 = known (suc i) .fits in
-    rw (c .cut2 .ensures, add-one, word (getD s i 0) (getD s (suc i) 0) hx hy)
-    (get-in-two s (a .at) (a .w) (omega arith) hx (omega arith))
+    let hy : getD s (i + 1) 0 < 2 ^ 8 = known (i + 1) .fits in
+    c .cut2 .ensures ∙ ap (λ (n : ℕ). n / 2 ^ (a .at % 8) % 2 ^ a .w) (word (getD s i 0) (getD s (i + 1) 0) hx hy)
+    ∙ get-in-two s (a .at) (a .w) (omega arith) hx (omega arith)
 
 pub get-spec : {M : Type 1} → statement M
 get-spec =
