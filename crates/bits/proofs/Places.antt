@@ -14,7 +14,7 @@ use lib.ListN.{length, length-drop, length-set, take, drop, getD, set, take-appe
 use lib.Seq.{take-append-add, drop-append-add, take-append-le, drop-append-le, length-take-le, set-split, split-at, drop-drop, drop-cons, take-suc-set, drop-set-lt, getD-drop, getD-take, take-add, take-at}
 use Rattle.lists.specs.Parts.{part, over, over-over, length-over, set-over}
 use Rattle.bits.specs.Bits.{odd, field, value, fields, bits, octets, numbers, spliced}
-use Rattle.bits.specs.Laws.{length-field, field-add, field-mod, field-low, take-field, drop-field, field-spliced, value-field, value-lt, value-append, length-bits, bits-append, bits-cons, length-octets, octets-append}
+use Rattle.bits.specs.Laws.{length-field, field-add, field-mod, field-low, take-field, drop-field, field-part, field-spliced, value-field, value-lt, value-append, length-bits, bits-append, bits-cons, length-octets, octets-append}
 
 -- what lies inside q
 over-inside : (p q r f : List Bool) (k w : ℕ) → k + w ≤ length q → over (p ++ (q ++ r)) (length p + k) w f ≡ p ++ (over q k w f ++ r)
@@ -91,11 +91,6 @@ part-inside p q r k w h =
     let hk : k ≤ length q = omega arith in
     let hw : w ≤ length (drop k q) = rw length-drop (omega arith) in
     rw (drop-append-add, drop-append-le k q r hk, take-append-le w (drop k q) r hw)
-
-field-part : (j n k w : ℕ) → k + w ≤ j → part k w (field j n) ≡ field w (n / 2 ^ k)
-field-part j n k w h =
-    let e : k + (w + (j - (k + w))) ≡ j = omega arith in
-    rw (← e, drop-field k (w + (j - (k + w))) n, take-field)
 
 pub get-one : (s : List ℕ) (i k w : ℕ) → i < length s → k + w ≤ 8 → part (i * 8 + k) w (bits s) ≡ field w (getD s i 0 / 2 ^ k)
 get-one s i k w hi hk =

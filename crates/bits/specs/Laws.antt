@@ -5,7 +5,7 @@ use mathlib.Core.Path.{_≡_, refl, sym, ap, ap₂, _∙_, subst}
 use mathlib.Core.Bool.{Bool, true, false}
 use mathlib.Core.List.{List, [], _∷_, _++_, append-assoc, append-nil}
 use Prim.Native.Nat.{ℕ, zero, suc, _+_, _-_, _*_, _/_, _%_, _^_, _≤_, _<_}
-use native.Mathlib.Nat.{zero-add, suc-add, add-zero, div-one, div-div-eq-div-mul, pow-suc, pow-succ', zero-mul, suc-mul, mod-lt, mod-one, zero-lt-suc, add-assoc, mod-eq-of-lt, mul-assoc, mul-mod-left, lt-of-lt-of-le}
+use native.Mathlib.Nat.{zero-add, suc-add, add-zero, div-one, div-div-eq-div-mul, pow-suc, pow-succ', zero-mul, suc-mul, mod-lt, mod-one, zero-lt-suc, add-assoc, mod-eq-of-lt, mul-assoc, mul-mod-left, mul-zero, mul-suc, add-comm, lt-of-lt-of-le}
 use native.Mathlib.Omega.{arith}
 use native.Mathlib.Numerals.{add-one}
 use lib.Arith.{mod-mul, digits-div, digits-mod, digits-lt}
@@ -55,6 +55,12 @@ take-field j k n = rw field-add (take-at (field j n) (field k (n / 2 ^ j)) j (le
 
 pub drop-field : (j k n : ℕ) → drop j (field (j + k) n) ≡ field k (n / 2 ^ j)
 drop-field j k n = rw field-add (drop-at (field j n) (field k (n / 2 ^ j)) j (length-field j n))
+
+-- w bits from bit k on of a field
+pub field-part : (j n k w : ℕ) → k + w ≤ j → part k w (field j n) ≡ field w (n / 2 ^ k)
+field-part j n k w h =
+    let e : k + (w + (j - (k + w))) ≡ j = omega arith in
+    rw (← e, drop-field k (w + (j - (k + w))) n, take-field)
 
 pub field-spliced : (k w m n v : ℕ) → v < 2 ^ w → field (k + (w + m)) (spliced n k w v) ≡ over (field (k + (w + m)) n) k w (field w v)
 field-spliced k w m n v h =
@@ -306,3 +312,43 @@ joined-lt j k a b h ha hb =
     let c : k + j ≡ j + k = omega arith in
     let e : bitOr a (b * 2 ^ j % 2 ^ 64) ≡ b * 2 ^ j + a = ap (bitOr a) (shl-exact k j 64 hb g) ∙ or-shifted-r b j a ha in
     subst (λ (n : ℕ). n < 2 ^ (j + k)) (sym e) (subst (λ (n : ℕ). b * 2 ^ j + a < n) (sym (pow-add 2 k j) ∙ ap (λ (n : ℕ). 2 ^ n) c) (digits-lt hb ha))
+
+-- one number more in a word that holds the bits l
+pub word-add : (l : List Bool) (j w x b : ℕ) → length l ≡ j → w + j ≤ 64 → x ≡ value l → b < 2 ^ w → bitOr x (b * 2 ^ j % 2 ^ 64) ≡ value (l ++ field w b)
+word-add l j w x b h room e hb =
+    let hx : x < 2 ^ j = subst (λ (n : ℕ). n < 2 ^ j) (sym e) (subst (λ (n : ℕ). value l < 2 ^ n) h (value-lt l)) in
+    ap (bitOr x) (shl-exact w j 64 hb room) ∙ or-shifted-r b j x hx
+    ∙ ap₂ (λ (m n : ℕ). m * 2 ^ j + n) (sym (value-field w b ∙ mod-eq-of-lt hb)) e ∙ sym (value-append l (field w b) j h)
+
+-- numbers laid behind numbers, and read behind numbers
+pub laid-append : (ws vs f g : List ℕ) → length f ≡ length ws → laid (ws ++ vs) (f ++ g) ≡ laid ws f ++ laid vs g
+unfolding laid
+laid-append [] vs [] g h = refl
+laid-append [] vs (x ∷ f) g h = absurd (omega arith)
+laid-append (w ∷ ws) vs [] g h = absurd (omega arith)
+laid-append (w ∷ ws) vs (x ∷ f) g h =
+    ap (λ (l : List Bool). field w x ++ l) (laid-append ws vs f g (omega arith)) ∙ sym (append-assoc (field w x) (laid ws f) (laid vs g))
+
+pub laid-one : (w x : ℕ) → laid (w ∷ []) (x ∷ []) ≡ field w x
+unfolding laid
+laid-one w x = append-nil (field w x)
+
+pub numbers-more : (ws : List ℕ) (v : ℕ) (l : List Bool) → numbers (ws ++ (v ∷ [])) l ≡ numbers ws l ++ (value (part (total ws) v l) ∷ [])
+unfolding numbers total
+numbers-more [] v l = refl
+numbers-more (w ∷ ws) v l =
+    ap (_∷_ (value (take w l)))
+    (numbers-more ws v (drop w l) ∙ ap (λ (m : List Bool). numbers ws (drop w l) ++ (value (take v m) ∷ [])) (drop-drop (total ws) w l))
+
+pub total-same : (n w : ℕ) → total (replicate n w) ≡ w * n
+unfolding total
+total-same zero w = sym (mul-zero w)
+total-same (suc n) w = ap (_+_ w) (total-same n w) ∙ add-comm w (w * n) ∙ sym (mul-suc w n)
+
+-- numbers fit if each does
+pub fits-each : (ws f : List ℕ) → length f ≡ length ws → ((k : ℕ) → k < length ws → getD f k 0 < 2 ^ getD ws k 0) → Fits ws f
+unfolding Fits
+fits-each [] [] h g = tt
+fits-each [] (x ∷ f) h g = absurd (omega arith)
+fits-each (w ∷ ws) [] h g = absurd (omega arith)
+fits-each (w ∷ ws) (x ∷ f) h g = (g 0 (omega arith), fits-each ws f (omega arith) (λ k l. g (suc k) (omega arith)))

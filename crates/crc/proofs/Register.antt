@@ -9,11 +9,13 @@ use native.Mathlib.Omega.{arith}
 use lib.Bits.{bitAnd, bitXor, and-mask}
 use lib.Dec.{eqb, T, eqb→eq}
 use lib.Pow.{shr-shr}
-use Rattle.lists.specs.Tests.{all, all-holds, both}
+use borrow.Author.Tests.{eq-eqb}
+use lib.ListN.{length}
+use Rattle.lists.specs.Tests.{all, all-holds, both, not-same, true-false}
 use Rattle.bits.specs.Bits.{value, field, odd}
 use Rattle.bits.specs.Laws.{value-lt, value-field, field-value, field-add, field-low}
-use Rattle.crc.specs.Crc.{Rem, rem, none, sent, fed, fedAll, code, coded}
-use Rattle.crc.specs.Laws.{fed-append}
+use Rattle.crc.specs.Crc.{Rem, rem, none, sent, fed, fedAll, code, coded, right}
+use Rattle.crc.specs.Laws.{fed-append, right-fed, right-true}
 
 stepped : Bool → ℕ → Bool
 stepped b n = eqb (cond (xor (eqb (n % 2) 1) b) (bitXor (n / 2) 12) (n / 2)) (code (fed (coded n) b))
@@ -100,3 +102,15 @@ fed-octet c w k r x e f =
 
 pub shifted : (x k y j : ℕ) → y ≡ x / 2 ^ k → y / 2 ^ j ≡ x / 2 ^ (k + j)
 shifted x k y j e = ap (λ (n : ℕ). n / 2 ^ j) e ∙ shr-shr x k j
+
+-- the test of a whole packet: it is right exactly if the register is 0 after all its bits, CRC included
+pub right-test : (n : ℕ) (p : List Bool) → length p ≡ n + 4 → eqb (code (fedAll none p)) 0 ≡ right n p
+right-test n p h = go (right n p) refl
+  where
+    go : (b : Bool) → right n p ≡ b → eqb (code (fedAll none p)) 0 ≡ right n p
+    go true e = eq-eqb (code (fedAll none p)) 0 (ap code (right-fed n p h .0 (right-true n p .0 e)) ∙ sym code-none) ∙ sym e
+    go false e =
+        not-same (code (fedAll none p)) 0
+        (λ z. let o : fedAll none p ≡ none = sym (coded-code (fedAll none p)) ∙ ap coded (z ∙ code-none) ∙ coded-code none in
+        true-false (sym (right-true n p .1 (right-fed n p h .1 o)) ∙ e))
+        ∙ sym e

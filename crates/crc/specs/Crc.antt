@@ -1,7 +1,7 @@
 -- The CRC of a pair packet (01, "CRC"; bit order and start value are house): bits are a polynomial, the first sent its highest power; the
 -- CRC is that polynomial times X^4, modulo 1 + X + X^4, start zero, no inversion; it is sent highest power first.
 -- Assumes nothing.
-use mathlib.Core.Path.{_≡_}
+use mathlib.Core.Path.{_≡_, refl}
 use mathlib.Core.Bool.{Bool, true, false, xor, not}
 use mathlib.Core.List.{List, [], _∷_, _++_}
 use mathlib.Core.Logic.{_⊎_}
@@ -21,6 +21,10 @@ none = rem false false false false
 abbrev pub next : Rem → Bool → Rem
 next (rem a b c d) e = rem b c (xor d a) (xor e a)
 
+pub fourth-power : next (rem true false false false) false ≡ rem false false true true
+unfolding xor
+fourth-power = refl
+
 -- the remainder of r times X^(length l) plus the polynomial l, whose first bit is its highest power
 unfoldable pub after : Rem → List Bool → Rem
 after r [] = r
@@ -29,6 +33,9 @@ after r (b ∷ l) = after (next r b) l
 -- the four bits, highest power first
 abbrev pub sent : Rem → List Bool
 sent (rem a b c d) = a ∷ b ∷ c ∷ d ∷ []
+
+pub highest-first : sent (rem true false false false) ≡ true ∷ false ∷ false ∷ false ∷ []
+highest-first = refl
 
 -- the bits times X^4, modulo 1 + X + X^4, start zero
 unfoldable pub crc : List Bool → Rem
