@@ -1,0 +1,1 @@
+// Frames and pair packets by the word.
