@@ -4,7 +4,7 @@ use mathlib.Core.Path.{_≡_, refl, sym, ap, ap₂, _∙_, subst}
 use mathlib.Core.Bool.{Bool, true, false, xor}
 use mathlib.Core.List.{List, [], _∷_, _++_, append-assoc}
 use Prim.Native.Nat.{ℕ, zero, suc, _+_, _-_, _*_, _/_, _%_, _^_, _≤_, _<_}
-use native.Mathlib.Nat.{add-zero, div-add-mod', mod-lt, mod-eq-of-lt}
+use native.Mathlib.Nat.{add-zero, mod-lt, lt-of-lt-of-le}
 use native.Mathlib.Numerals.{add-one}
 use native.Mathlib.Omega.{arith}
 use lib.Bits.{bitAnd, bitOr, and-mask, or-zero-l, or-lt, mask-lt}
@@ -275,3 +275,6 @@ apart-law l at a b s to {m} {n} room fit ea eb em en =
     front-word y b eb hy ∙ ap (indices widths) (sym (ap₂ drop total-widths ep ∙ drop-at x y 44 lx)) in
     let h7 : to + 7 ≤ length s = omega arith in
     behind s to 7 7 f g h7 (length-numbers widths (field 44 a)) em en ∙ ap₂ (λ (u v : List ℕ). over s to 14 (u ++ v)) ef eg
+
+pub low-small : (a b : ℕ) → a < 2 ^ 44 → bitOr a (b * 2 ^ 44 % 2 ^ 64) < 2 ^ 64
+low-small a b h = or-lt 64 a (b * 2 ^ 44 % 2 ^ 64) (lt-of-lt-of-le h (lit≤ tt)) (mod-lt (b * 2 ^ 44) (pow-pos 64))

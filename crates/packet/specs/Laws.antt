@@ -99,7 +99,7 @@ module _ (ws : List ℕ) where
       let n = total ws in
       let front : (l : List Bool) → n ≤ length l → frame ws (indices ws l) ≡ take n l =
       λ l k. let t : length (take n l) ≡ n = length-take-le n l k in
-          ap (frame ws) (ap (indices ws) (sym (take-append-drop n l)) ∙ numbers-front ws (take n l) (drop n l) t) ∙ laid-numbers ws (take n l) t in
+      ap (frame ws) (ap (indices ws) (sym (take-append-drop n l)) ∙ numbers-front ws (take n l) (drop n l) t) ∙ laid-numbers ws (take n l) t in
       let hd : n ≤ length (drop n p) = rw length-drop (omega arith) in
       ap₂ (λ (x y : List Bool). x ++ y) (front p (omega arith)) (front (drop n p) hd) ∙ sym (take-add n n p)
 

@@ -100,7 +100,12 @@ fn put_two(idx: &[u8], q: Pair, out: &mut [u8], at: usize)
     let b = pack(idx, Pair(q.0 + 1));
     bits::store(out, at, a.low, FULL);
     bits::store(out, at + FULL, a.high | (b.low << REST), FULL);
-    bits::store(out, at + 2 * FULL, (b.low >> (WORD - REST)) | (b.high << REST), TWO - 2 * FULL);
+    bits::store(
+        out,
+        at + 2 * FULL,
+        (b.low >> (WORD - REST)) | (b.high << REST),
+        TWO - 2 * FULL,
+    );
 }
 
 // put_stream stores a multiframe's stream, the packets of twelve pairs from pair q on, from octet at on; every other octet stays.

@@ -19,7 +19,7 @@ wide-requires : tie.Need-wide-requires
 wide-requires c κs = search needs
 
 returns : tie.Need-returns
-returns c = 
+returns c =
     let o = c .before in
     let p = o .before in
     let n = p .before in

@@ -20,7 +20,7 @@ shr-result : tie.Need-shr-result
 shr-result c = search needs
 
 returns : tie.Need-returns
-returns c = 
+returns c =
     let a = c .before .before .before .args in
     let at = c .before .start .result in
     let e : 8 * (at / 8) + at % 8 ≡ packetStart (a .p .0) = omega (arith, c .before .start .ensures) in

@@ -24,12 +24,12 @@ mul-from : tie.Need-mul-from Inv-loop μ-loop
 mul-from c = search needs
 
 returns : tie.Need-returns Inv-loop μ-loop
-returns c = 
+returns c =
     let a = c .before .before .before .args in
     frame-past (now (a .idx)) (frameIndices * a .k .0) (c .if1 .taken)
 
 loop-holds : tie.Need-loop-holds Inv-loop μ-loop
-loop-holds c = 
+loop-holds c =
     let a = c .before .before .before .args in
     (search needs, frame-none (now (a .idx)) (frameIndices * a .k .0))
 
@@ -55,7 +55,7 @@ loop-less : tie.Need-loop-less Inv-loop μ-loop
 loop-less c = search needs
 
 loop-again : tie.Need-loop-again Inv-loop μ-loop
-loop-again c = 
+loop-again c =
     let l = c .before .before .before .loop in
     let a = c .before .before .before .before .before .before .before .args in
     (search needs, frame-more (now (a .idx)) (frameIndices * a .k .0) (l .i) (l .x) (c .wide .result) (omega arith) (c .wide .ensures) (l .inv .1))
@@ -73,7 +73,7 @@ shl-result : tie.Need-shl-result Inv-loop μ-loop
 shl-result c = search needs
 
 returns-2 : tie.Need-returns-2 Inv-loop μ-loop
-returns-2 c = 
+returns-2 c =
     let l = c .before .before .before .loop in
     let a = c .before .before .before .before .before .before .before .args in
     let from = frameIndices * a .k .0 in

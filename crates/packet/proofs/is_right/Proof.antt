@@ -29,7 +29,7 @@ octets-requires-2 : tie.Need-octets-requires-2
 octets-requires-2 c κs = search needs
 
 returns : tie.Need-returns
-returns c = 
+returns c =
     let z = c .before in
     let y = z .before in
     let n = y .before in

@@ -1,56 +1,69 @@
+-- `packet::pack` meets its contract: the first word is one frame and the front of the other, the second number what is left and the CRC.
+-- Assumes nothing.
+use mathlib.Core.Path.{_≡_, ap, _∙_}
+use mathlib.Core.List.{_++_}
+use Prim.Native.Nat.{ℕ}
+use native.Mathlib.Omega.{arith}
+use denote.Ref.{now}
+use Rattle.layout.specs.Layout.{widths, frameBits, firstFrame, secondFrame}
+use Rattle.bits.specs.Bits.{value, field}
+use Rattle.crc.specs.Crc.{crc}
+use Rattle.packet.specs.Packet.{frame, frameAt}
+use Rattle.packet.proofs.Steps.{word-small, pack-law, low-small, high-small}
 use borrow.Author.Needs.{needs}
 use Rattle.packet.proofs.pack.Statement.{statement}
 use Rattle.packet.proofs.pack.Tie as tie
-use Rattle.packet.proofs.pack.Reads as reads
-use Rattle.packet.proofs.pack.Lts as lts
-use Rattle.layout.proofs.Pair.first.Reads as first-reads
-use Rattle.layout.proofs.Pair.second.Reads as second-reads
-use Rattle.packet.proofs.crc_of.Reads as crc-of-reads
-use Rattle.packet.proofs.frame_word.Reads as frame-word-reads
 
--- src/lib.rt:84:29
 first-requires : tie.Need-first-requires
 first-requires c κs = search needs
 
--- src/lib.rt:84:9
 frame-word-requires : tie.Need-frame-word-requires
 frame-word-requires c κs = search needs
 
--- src/lib.rt:85:29
 second-requires : tie.Need-second-requires
 second-requires c κs = search needs
 
--- src/lib.rt:85:9
 frame-word-requires-2 : tie.Need-frame-word-requires-2
 frame-word-requires-2 c κs = search needs
 
--- src/lib.rt:86:9
 crc-of-requires : tie.Need-crc-of-requires
-crc-of-requires c κs = ?
+crc-of-requires c κs =
+    let f = c .before .before in
+    let a = f .before .before .before .args in
+    word-small (frameAt (now (a .idx)) (f .before .first .result .0)) (f .frame-word .result) (f .frame-word .ensures)
 
--- src/lib.rt:88:19
 shl-t8 : tie.Need-shl-t8
 shl-t8 c = search needs
 
--- src/lib.rt:89:22
 sub-t10 : tie.Need-sub-t10
 sub-t10 c = search needs
 
--- src/lib.rt:89:16
 shr-t12 : tie.Need-shr-t12
 shr-t12 c = search needs
 
--- src/lib.rt:89:58
 sub-t13 : tie.Need-sub-t13
 sub-t13 c = search needs
 
--- src/lib.rt:89:52
 shl-t15 : tie.Need-shl-t15
 shl-t15 c = search needs
 
--- src/lib.rt:79:1
 returns : tie.Need-returns
-returns c = ?
+returns c =
+    let g = c .before in
+    let f = g .before .before in
+    let a = f .before .before .before .args in
+    let idx = now (a .idx) in
+    let q = a .q .0 in
+    let ea : f .frame-word .result ≡ value (frame widths (frameAt idx (firstFrame q))) =
+    f .frame-word .ensures ∙ ap (λ (k : ℕ). value (frame widths (frameAt idx k))) (f .before .first .ensures) in
+    let eb : g .frame-word2 .result ≡ value (frame widths (frameAt idx (secondFrame q))) =
+    g .frame-word2 .ensures ∙ ap (λ (k : ℕ). value (frame widths (frameAt idx k))) (g .before .second .ensures) in (
+      pack-law idx q (f .frame-word .result) (g .frame-word2 .result) (c .crc-of .result) ea eb (c .crc-of .ensures),
+      (
+        low-small (f .frame-word .result) (g .frame-word2 .result) (word-small (frameAt idx (firstFrame q)) (f .frame-word .result) ea),
+        high-small idx q (g .frame-word2 .result) (c .crc-of .result) (crc (field frameBits (f .frame-word .result) ++ field frameBits (g .frame-word2 .result))) eb (c .crc-of .ensures),
+      ),
+    )
 
 pub pack-spec : {M : Type 1} → statement M
 pack-spec =

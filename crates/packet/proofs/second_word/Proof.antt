@@ -26,7 +26,7 @@ shr-result : tie.Need-shr-result
 shr-result c = search needs
 
 returns : tie.Need-returns
-returns c = 
+returns c =
     let a = c .before .before .before .args in
     let at = c .before .start .result in
     let e : 8 * (at / 8 + 4) + (12 + at % 8) ≡ packetStart (a .p .0) + 44 = omega (arith, c .before .start .ensures) in
