@@ -39,13 +39,13 @@ total-widths = refl
 
 -- ---- bits and their CRC
 module _ (d : List Bool) (n : ℕ) (size : length d ≡ n) where
-  pub length-guarded : length (guarded d) ≡ n + crcBits
-  unfolding guarded
-  length-guarded = rw (length-append, length-sent, size)
-
   pub guarded-data : take n (guarded d) ≡ d
   unfolding guarded
   guarded-data = take-at d (sent (crc d)) n size
+
+  pub length-guarded : length (guarded d) ≡ n + crcBits
+  unfolding guarded
+  length-guarded = rw (length-append, length-sent, size)
 
   -- what is written is right
   pub guarded-right : Right n (guarded d)
