@@ -21,10 +21,27 @@ const WORD: usize = 64;
 
 const REST: usize = PacketLayout::BITS - WORD;
 
-// Octets of two packets: two words, and the rests.
+// Octets of two packets, and of a word.
 const TWO: usize = 2 * PacketLayout::BITS / 8;
 
 const FULL: usize = WORD / 8;
+
+// A frame's whole octets, their bits, and the bits behind them; with four bits more a frame is whole octets.
+const WHOLE: u32 = (FrameLayout::BITS / 8) as u32;
+
+const WHOLE_BITS: usize = FrameLayout::BITS / 8 * 8;
+
+const LEFT_BITS: usize = FrameLayout::BITS - WHOLE_BITS;
+
+const WITH_CRC: u32 = ((FrameLayout::BITS + PacketLayout::CRC_BITS) / 8) as u32;
+
+// From a packet's first octet to the word of its second frame, and from that word's start to the frame.
+const AHEAD: usize = 4;
+
+const INTO: usize = FrameLayout::BITS - 8 * AHEAD;
+
+// The bit of a frame at which its last index stands.
+const LAST: usize = FrameLayout::NARROW * FrameLayout::NARROW_BITS;
 
 // Masks of an index of six bits, of one of eight, of a frame, and of a frame with the CRC behind it.
 const NARROW_MASK: u64 = (1 << FrameLayout::NARROW_BITS) - 1;
@@ -34,9 +51,6 @@ const LAST_MASK: u64 = (1 << FrameLayout::LAST_BITS) - 1;
 const FRAME_MASK: u64 = (1 << FrameLayout::BITS) - 1;
 
 const SECOND_MASK: u64 = (1 << (FrameLayout::BITS + PacketLayout::CRC_BITS)) - 1;
-
-// The bit of a frame at which its last index stands.
-const LAST: usize = FrameLayout::NARROW * FrameLayout::NARROW_BITS;
 
 fn wide(x: u8) -> u64
     ensures { λ r. ⌜ r ≡ x ⌝ }
@@ -66,7 +80,12 @@ fn crc_of(a: u64, b: u64) -> u64
     requires { ⌜ a < 2 ^ frameBits ⌝ }
     ensures { λ r. ⌜ r ≡ code (crc (field frameBits a ++ field frameBits b)) ⌝ }
 {
-    wide(Crc::new().octets(a, 5).octets((a >> 40) | (b << 4), 6).0)
+    let first = Crc::new().octets(a, WHOLE);
+    wide(
+        first
+            .octets((a >> WHOLE_BITS) | (b << LEFT_BITS), WITH_CRC)
+            .0,
+    )
 }
 
 // A packet as two numbers: its first 64 bits, and its last 28.
@@ -120,7 +139,8 @@ pub fn put_stream(idx: &[u8], q: Pair, out: &mut [u8], at: usize)
     }
 }
 
-// first_word gives the bits of the first frame of pair p's packet in a stream.
+// first_word gives the bits of the first frame of pair p's packet in a stream. It asks, as those below, for a whole stream, which the
+// reader has cut.
 fn first_word(s: &[u8], p: Pair) -> u64
     requires { ⌜ streamOctets ≤ length (now s) ⌝ }
     ensures { λ r. ⌜ r ≡ value (part (packetStart (p .0)) frameBits (bits (now (s .entry)))) ⌝ }
@@ -135,7 +155,7 @@ fn second_word(s: &[u8], p: Pair) -> u64
     ensures { λ r. ⌜ r ≡ value (part (packetStart (p .0) + frameBits) 48 (bits (now (s .entry)))) ⌝ }
 {
     let at = p.start();
-    (bits::word(s, at / 8 + 4) >> (12 + at % 8)) & SECOND_MASK
+    (bits::word(s, at / 8 + AHEAD) >> (INTO + at % 8)) & SECOND_MASK
 }
 
 // is_right tells whether the CRC of pair p's packet in a stream is right: the register is 0 after all 92 bits. Four zero bits ahead of
@@ -146,7 +166,8 @@ pub fn is_right(s: &[u8], p: Pair) -> bool
 {
     let a = first_word(s, p);
     let b = second_word(s, p);
-    Crc::new().octets(a << 4, 6).octets(b, 6).0 == 0
+    let first = Crc::new().octets(a << PacketLayout::CRC_BITS, WITH_CRC);
+    first.octets(b, WITH_CRC).0 == 0
 }
 
 // take_frame stores the seven indices of the frame in the low bits of w from octet to on.

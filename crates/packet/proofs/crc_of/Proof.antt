@@ -12,6 +12,12 @@ new-requires c κs = search needs
 octets-requires : tie.Need-octets-requires
 octets-requires c κs = search needs
 
+shr-octets : tie.Need-shr-octets
+shr-octets c = search needs
+
+shl-octets : tie.Need-shl-octets
+shl-octets c = search needs
+
 octets-requires-2 : tie.Need-octets-requires-2
 octets-requires-2 c κs = search needs
 
@@ -29,4 +35,4 @@ returns c =
 
 pub crc-of-spec : {M : Type 1} → statement M
 crc-of-spec =
-    tie.close (tie.spec new-requires octets-requires octets-requires-2 wide-requires returns)
+    tie.close (tie.spec new-requires octets-requires shr-octets shl-octets octets-requires-2 wide-requires returns)

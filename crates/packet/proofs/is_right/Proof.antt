@@ -22,6 +22,9 @@ second-word-requires c κs = search needs
 new-requires : tie.Need-new-requires
 new-requires c κs = search needs
 
+shl-octets : tie.Need-shl-octets
+shl-octets c = search needs
+
 octets-requires : tie.Need-octets-requires
 octets-requires c κs = search needs
 
@@ -48,6 +51,7 @@ is-right-spec =
     first-word-requires
     second-word-requires
     new-requires
+    shl-octets
     octets-requires
     octets-requires-2
     returns)
