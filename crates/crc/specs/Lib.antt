@@ -1,0 +1,4 @@
+pub mod Crc
+pub mod Laws
+pub mod Remainder
+pub mod Damage

@@ -1,0 +1,191 @@
+// Frames and pair packets of a feature stream, written and read by words: a frame is 44 bits of a word, a packet a word of 64 bits and 28
+// more, two packets 23 whole octets.
+use crc::Crc;
+use layout::Frame;
+use layout::FrameLayout;
+use layout::MultiframeLayout;
+use layout::PacketLayout;
+use layout::Pair;
+ghost use mathlib.Core.Path.{_≡_};
+ghost use mathlib.Core.List.{_++_};
+ghost use Prim.Native.Nat.{_+_, _*_, _%_, _^_, _≤_, _<_};
+ghost use lib.ListN.{length};
+ghost use Rattle.lists.specs.Parts.{part, over};
+ghost use Rattle.layout.specs.Layout.{widths, frameIndices, frameBits, pairFrames, dataBits, packetBits, packetStart, multiframePairs, streamOctets};
+ghost use Rattle.bits.specs.Bits.{bits, field, value, octets};
+ghost use Rattle.crc.specs.Crc.{crc, code, right};
+ghost use Rattle.packet.specs.Packet.{frame, indices, apart, frameAt, packetOf, stream};
+
+// Bits of a word, and the packet's bits that are left when one is full.
+const WORD: usize = 64;
+
+const REST: usize = PacketLayout::BITS - WORD;
+
+// Octets of two packets, and of a word.
+const TWO: usize = 2 * PacketLayout::BITS / 8;
+
+const FULL: usize = WORD / 8;
+
+// A frame's whole octets, their bits, and the bits behind them; with four bits more a frame is whole octets.
+const WHOLE: u32 = (FrameLayout::BITS / 8) as u32;
+
+const WHOLE_BITS: usize = FrameLayout::BITS / 8 * 8;
+
+const LEFT_BITS: usize = FrameLayout::BITS - WHOLE_BITS;
+
+const WITH_CRC: u32 = ((FrameLayout::BITS + PacketLayout::CRC_BITS) / 8) as u32;
+
+// From a packet's first octet to the word of its second frame, and from that word's start to the frame.
+const AHEAD: usize = 4;
+
+const INTO: usize = FrameLayout::BITS - 8 * AHEAD;
+
+// The bit of a frame at which its last index stands.
+const LAST: usize = FrameLayout::NARROW * FrameLayout::NARROW_BITS;
+
+// Masks of an index of six bits, of one of eight, of a frame, and of a frame with the CRC behind it.
+const NARROW_MASK: u64 = (1 << FrameLayout::NARROW_BITS) - 1;
+
+const LAST_MASK: u64 = (1 << FrameLayout::LAST_BITS) - 1;
+
+const FRAME_MASK: u64 = (1 << FrameLayout::BITS) - 1;
+
+const SECOND_MASK: u64 = (1 << (FrameLayout::BITS + PacketLayout::CRC_BITS)) - 1;
+
+fn wide(x: u8) -> u64
+    ensures { λ r. ⌜ r ≡ x ⌝ }
+{
+    x as u64
+}
+
+// frame_word gives the bits of frame k as a word; past the end of idx a frame is zeros.
+// It asks for whole frames (refusal 2 of the writer) and a frame number whose octets can be counted.
+pub fn frame_word(idx: &[u8], k: Frame) -> u64
+    requires { ⌜ (length (now idx) % frameIndices ≡ 0) × (k .0 < 2 ^ 21) ⌝ }
+    ensures { λ r. ⌜ r ≡ value (frame widths (frameAt (now (idx .entry)) (k .0))) ⌝ }
+{
+    let from = FrameLayout::INDICES * k.0;
+    if idx.len() <= from {
+        return 0;
+    }
+    let mut x: u64 = 0;
+    for i in 0..FrameLayout::NARROW {
+        x = x | ((wide(idx[from + i]) & NARROW_MASK) << (FrameLayout::NARROW_BITS * i));
+    }
+    x | (wide(idx[from + FrameLayout::NARROW]) << LAST)
+}
+
+// crc_of gives the CRC, as the field that is sent, of two frames.
+fn crc_of(a: u64, b: u64) -> u64
+    requires { ⌜ a < 2 ^ frameBits ⌝ }
+    ensures { λ r. ⌜ r ≡ code (crc (field frameBits a ++ field frameBits b)) ⌝ }
+{
+    let first = Crc::new().octets(a, WHOLE);
+    wide(
+        first
+            .octets((a >> WHOLE_BITS) | (b << LEFT_BITS), WITH_CRC)
+            .0,
+    )
+}
+
+// A packet as two numbers: its first 64 bits, and its last 28.
+pub struct Packed {
+    pub low: u64,
+    pub high: u64,
+}
+
+// pack gives the packet of pair q.
+pub fn pack(idx: &[u8], q: Pair) -> Packed
+    requires { ⌜ (length (now idx) % frameIndices ≡ 0) × (q .0 < 2 ^ 20) ⌝ }
+    ensures bits { λ r. ⌜ field 64 (r .low) ++ field 28 (r .high) ≡ packetOf (now (idx .entry)) (q .0) ⌝ }
+    ensures fits { λ r. ⌜ (r .low < 2 ^ 64) × (r .high < 2 ^ 28) ⌝ }
+{
+    let a = frame_word(idx, q.first());
+    let b = frame_word(idx, q.second());
+    let c = crc_of(a, b);
+    Packed {
+        low: a | (b << FrameLayout::BITS),
+        high: (b >> (WORD - FrameLayout::BITS)) | (c << (PacketLayout::DATA_BITS - WORD)),
+    }
+}
+
+// put_two stores the packets of pairs q and q + 1 from octet at on, by three words; nothing is read back.
+fn put_two(idx: &[u8], q: Pair, out: &mut [u8], at: usize)
+    requires { ⌜ (length (now idx) % frameIndices ≡ 0) × (q .0 + 1 < 2 ^ 20) ⌝ }
+    requires { ⌜ at + 23 ≤ length (now out) ⌝ }
+    ensures { λ _. ⌜ now (out .exit) ≡ over (now (out .entry)) at 23 (octets 23 (stream (now (idx .entry)) (q .0) 2)) ⌝ }
+{
+    let a = pack(idx, q);
+    let b = pack(idx, Pair(q.0 + 1));
+    bits::store(out, at, a.low, FULL);
+    bits::store(out, at + FULL, a.high | (b.low << REST), FULL);
+    bits::store(
+        out,
+        at + 2 * FULL,
+        (b.low >> (WORD - REST)) | (b.high << REST),
+        TWO - 2 * FULL,
+    );
+}
+
+// put_stream stores a multiframe's stream, the packets of twelve pairs from pair q on, from octet at on; every other octet stays.
+// It asks for whole frames and for room.
+pub fn put_stream(idx: &[u8], q: Pair, out: &mut [u8], at: usize)
+    requires { ⌜ (length (now idx) % frameIndices ≡ 0) × (q .0 + multiframePairs < 2 ^ 20) ⌝ }
+    requires { ⌜ at + streamOctets ≤ length (now out) ⌝ }
+    ensures { λ _. ⌜ now (out .exit) ≡ over (now (out .entry)) at streamOctets (octets streamOctets (stream (now (idx .entry)) (q .0) multiframePairs)) ⌝ }
+{
+    for g in 0..MultiframeLayout::PAIRS / 2 {
+        put_two(idx, Pair(q.0 + 2 * g), out, at + TWO * g);
+    }
+}
+
+// first_word gives the bits of the first frame of pair p's packet in a stream. It asks, as those below, for a whole stream, which the
+// reader has cut.
+fn first_word(s: &[u8], p: Pair) -> u64
+    requires { ⌜ streamOctets ≤ length (now s) ⌝ }
+    ensures { λ r. ⌜ r ≡ value (part (packetStart (p .0)) frameBits (bits (now (s .entry)))) ⌝ }
+{
+    let at = p.start();
+    (bits::word(s, at / 8) >> (at % 8)) & FRAME_MASK
+}
+
+// second_word gives the bits of the second frame and the CRC. Its word starts four octets on and never passes the stream's end.
+fn second_word(s: &[u8], p: Pair) -> u64
+    requires { ⌜ streamOctets ≤ length (now s) ⌝ }
+    ensures { λ r. ⌜ r ≡ value (part (packetStart (p .0) + frameBits) 48 (bits (now (s .entry)))) ⌝ }
+{
+    let at = p.start();
+    (bits::word(s, at / 8 + AHEAD) >> (INTO + at % 8)) & SECOND_MASK
+}
+
+// is_right tells whether the CRC of pair p's packet in a stream is right: the register is 0 after all 92 bits. Four zero bits ahead of
+// them leave a zero register alone and make whole octets.
+pub fn is_right(s: &[u8], p: Pair) -> bool
+    requires { ⌜ streamOctets ≤ length (now s) ⌝ }
+    ensures { λ r. ⌜ r ≡ right dataBits (part (packetStart (p .0)) packetBits (bits (now (s .entry)))) ⌝ }
+{
+    let a = first_word(s, p);
+    let b = second_word(s, p);
+    let first = Crc::new().octets(a << PacketLayout::CRC_BITS, WITH_CRC);
+    first.octets(b, WITH_CRC).0 == 0
+}
+
+// take_frame stores the seven indices of the frame in the low bits of w from octet to on.
+fn take_frame(w: u64, idx: &mut [u8], to: usize)
+    requires { ⌜ to + frameIndices ≤ length (now idx) ⌝ }
+    ensures { λ _. ⌜ now (idx .exit) ≡ over (now (idx .entry)) to frameIndices (indices widths (field frameBits w)) ⌝ }
+{
+    for i in 0..FrameLayout::NARROW {
+        idx[to + i] = ((w >> (FrameLayout::NARROW_BITS * i)) & NARROW_MASK) as u8;
+    }
+    idx[to + FrameLayout::NARROW] = ((w >> LAST) & LAST_MASK) as u8;
+}
+
+// take_apart stores the two frames of pair p's packet in a stream as fourteen octets from octet to on; every other octet stays.
+pub fn take_apart(s: &[u8], p: Pair, idx: &mut [u8], to: usize)
+    requires { ⌜ (streamOctets ≤ length (now s)) × (to + pairFrames * frameIndices ≤ length (now idx)) ⌝ }
+    ensures { λ _. ⌜ now (idx .exit) ≡ over (now (idx .entry)) to (pairFrames * frameIndices) (apart widths (part (packetStart (p .0)) packetBits (bits (now (s .entry))))) ⌝ }
+{
+    take_frame(first_word(s, p), idx, to);
+    take_frame(second_word(s, p), idx, to + FrameLayout::INDICES);
+}
