@@ -105,3 +105,10 @@ pub place-stop : (index : List ℕ) (i n : ℕ) → 0 < n → zeroFrame index (i
 unfolding lastNonzero
 place-stop index i zero h z = absurd (omega arith)
 place-stop index i (suc n) h z = let e : suc n - 1 ≡ n = omega arith in rw (rw e at z)
+
+pub place-none : (index : List ℕ) (i : ℕ) → lastNonzero index i 0 ≡ 0
+unfolding lastNonzero
+place-none index i = refl
+
+pub speech-is : (index : List ℕ) (m i n : ℕ) → i ≡ multiframeFrames * (m - 1) → n ≡ lastNonzero index i multiframeFrames → i + n ≡ speechOf m index
+speech-is index m i n e f = ap (λ (k : ℕ). i + k) f ∙ ap (λ (k : ℕ). k + lastNonzero index k multiframeFrames) e

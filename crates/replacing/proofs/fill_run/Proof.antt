@@ -5,10 +5,6 @@ use Rattle.replacing.proofs.Turns.{fill-start, fill-end, fill-between}
 use borrow.Author.Needs.{needs}
 use Rattle.replacing.proofs.fill_run.Statement.{statement}
 use Rattle.replacing.proofs.fill_run.Tie as tie
-use Rattle.replacing.proofs.fill_run.Reads as reads
-use Rattle.replacing.proofs.fill_run.Lts as lts
-use Rattle.replacing.proofs.spread_back.Reads as spread-back-reads
-use Rattle.replacing.proofs.spread_on.Reads as spread-on-reads
 
 mul-spread-back : tie.Need-mul-spread-back
 mul-spread-back c = search needs
@@ -47,7 +43,7 @@ same-length : tie.Need-same-length
 same-length c = search needs
 
 returns : tie.Need-returns
-returns c = 
+returns c =
     let a = c .before .before .before .before .before .before .args in
     fill-start _ _ (a .a) (a .b) (a .pairs) (c .before .before .before .before .if1 .taken) (c .before .before .spread-back .ensures)
 
@@ -55,7 +51,7 @@ same-length-2 : tie.Need-same-length-2
 same-length-2 c = search needs
 
 returns-2 : tie.Need-returns-2
-returns-2 c = 
+returns-2 c =
     let a = c .before .before .before .before .before .before .before .args in
     fill-end _ _ (a .a) (a .b) (a .pairs) (c .before .before .before .before .before .if1 .left) (c .before .before .before .before .if2 .taken) (c .before .before .spread-on .ensures)
 
@@ -63,7 +59,7 @@ same-length-3 : tie.Need-same-length-3
 same-length-3 c = search needs
 
 returns-3 : tie.Need-returns-3
-returns-3 c = 
+returns-3 c =
     let start = c .before .before .before .before .before .before .before .before .before .before .before in
     let a = start .args in
     fill-between _ _ (a .a) (a .b) (a .pairs) _ (start .pre .0) (c .before .before .before .before .before .before .before .before .before .if1 .left) (c .before .before .before .before .before .before .before .before .if2 .left) (c .before .before .before .before .before .before .spread-on2 .ensures) (c .before .before .spread-back2 .ensures)

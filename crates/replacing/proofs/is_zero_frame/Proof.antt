@@ -10,8 +10,6 @@ use Rattle.replacing.specs.Speech.{allZero, zeroFrame, zero-on, zero-sto
 use borrow.Author.Needs.{needs}
 use Rattle.replacing.proofs.is_zero_frame.Statement.{statement}
 use Rattle.replacing.proofs.is_zero_frame.Tie as tie
-use Rattle.replacing.proofs.is_zero_frame.Reads as reads
-use Rattle.replacing.proofs.is_zero_frame.Lts as lts
 
 abbrev Inv-loop : tie.InvT-loop
 Inv-loop index start j₀ j =

@@ -9,10 +9,6 @@ use Rattle.replacing.proofs.Turns.{Going, begun, good-turn, the-run, ru
 use borrow.Author.Needs.{needs}
 use Rattle.replacing.proofs.replace.Statement.{statement}
 use Rattle.replacing.proofs.replace.Tie as tie
-use Rattle.replacing.proofs.replace.Reads as reads
-use Rattle.replacing.proofs.replace.Lts as lts
-use Rattle.replacing.proofs.fill_run.Reads as fill-run-reads
-use Rattle.replacing.proofs.run_end.Reads as run-end-reads
 
 abbrev Inv-loop : tie.InvT-loop
 Inv-loop notes index₀ k₀ index k = Going notes index₀ index k

@@ -9,8 +9,6 @@ use Rattle.replacing.specs.Laws.{end-on, end-stop, end-last}
 use borrow.Author.Needs.{needs}
 use Rattle.replacing.proofs.run_end.Statement.{statement}
 use Rattle.replacing.proofs.run_end.Tie as tie
-use Rattle.replacing.proofs.run_end.Reads as reads
-use Rattle.replacing.proofs.run_end.Lts as lts
 
 abbrev Inv-loop : tie.InvT-loop
 Inv-loop notes q b₀ b = (b ≤ length notes) × (runEnd notes b ≡ runEnd notes q)
@@ -37,7 +35,7 @@ loop-again : tie.Need-loop-again Inv-loop μ-loop
 loop-again c = (search needs, sym (end-on (c .before .before .before .before .args .notes .now) (c .before .before .before .loop .b) (omega arith) (c .if1 .left)) ∙ c .before .before .before .loop .inv .1)
 
 returns-2 : tie.Need-returns-2 Inv-loop μ-loop
-returns-2 c = 
+returns-2 c =
     let ns = c .before .before .args .notes .now in
     let e : c .before .loop .b ≡ length ns = omega arith in
     e ∙ sym (end-last ns) ∙ ap (runEnd ns) (sym e) ∙ c .before .loop .inv .1

@@ -10,8 +10,6 @@ use Rattle.replacing.proofs.Turns.{unchanged, one-on, one-back, read-on
 use borrow.Author.Needs.{needs}
 use Rattle.replacing.proofs.spread_back.Statement.{statement}
 use Rattle.replacing.proofs.spread_back.Tie as tie
-use Rattle.replacing.proofs.spread_back.Reads as reads
-use Rattle.replacing.proofs.spread_back.Lts as lts
 
 abbrev Inv-loop : tie.InvT-loop
 Inv-loop index₀ first past start t₀ index t =
@@ -45,7 +43,7 @@ loop-less : tie.Need-loop-less Inv-loop μ-loop
 loop-less c = search needs
 
 loop-again : tie.Need-loop-again Inv-loop μ-loop
-loop-again c = 
+loop-again c =
     let d = c .before .before in
     let a = d .before .args in
     let l = a .index .now in
@@ -64,7 +62,7 @@ same-length : tie.Need-same-length Inv-loop μ-loop
 same-length c = search needs
 
 returns : tie.Need-returns Inv-loop μ-loop
-returns c = 
+returns c =
     let a = c .before .before .args in
     let e : c .before .loop .t ≡ frameIndices * a .first = omega arith in
     subst (λ (x : ℕ). Changed (a .index .now) (c .before .loop .index) x (frameIndices * a .past) (λ u. frameIndices * a .past + u % frameIndices)) e (c .before .loop .inv .2)

@@ -10,8 +10,6 @@ use Rattle.replacing.proofs.Turns.{unchanged, one-on, one-back, read-on
 use borrow.Author.Needs.{needs}
 use Rattle.replacing.proofs.spread_on.Statement.{statement}
 use Rattle.replacing.proofs.spread_on.Tie as tie
-use Rattle.replacing.proofs.spread_on.Reads as reads
-use Rattle.replacing.proofs.spread_on.Lts as lts
 
 abbrev Inv-loop : tie.InvT-loop
 Inv-loop index₀ first past end t₀ index t =
@@ -45,7 +43,7 @@ loop-less : tie.Need-loop-less Inv-loop μ-loop
 loop-less c = search needs
 
 loop-again : tie.Need-loop-again Inv-loop μ-loop
-loop-again c = 
+loop-again c =
     let d = c .before .before in
     let a = d .before .args in
     let l = a .index .now in
@@ -62,7 +60,7 @@ same-length : tie.Need-same-length Inv-loop μ-loop
 same-length c = search needs
 
 returns : tie.Need-returns Inv-loop μ-loop
-returns c = 
+returns c =
     let a = c .before .before .args in
     let e : c .before .loop .t ≡ frameIndices * a .past = omega arith in
     subst (λ (y : ℕ). Changed (a .index .now) (c .before .loop .index) (frameIndices * a .first) y (λ u. frameIndices * (a .first - 1) + u % frameIndices)) e (c .before .loop .inv .2)
