@@ -1,0 +1,128 @@
+-- What an accepted input has, and that nothing else is accepted: the refusals read backwards.
+-- Assumes nothing.
+use Prim.Native.Nat.{ℕ, _+_, _*_, _≤_, _<_}
+use mathlib.Core.Path.{_≡_, refl, ap, sym, _∙_, subst}
+use mathlib.Core.List.{List}
+use mathlib.Core.Bool.{Bool, true, false}
+use lib.ListN.{length}
+use lib.IntN.{ℤ}
+use lib.Dec.{ltb, eqb}
+use native.Mathlib.Omega.{arith}
+use borrow.Author.Tests.{eq-eqb, ne-eqb, le-ltb, ltb-false, eqb-true, eqb-false}
+use Rattle.lists.specs.Tests.{when, by-test}
+use Rattle.layout.specs.Layout.{indexOctets, reportOctets, codebookNumbers, thresholdNumbers}
+use Rattle.cutting.specs.Cutting.{Ending, whole, refused, Cutting, cutting}
+use Rattle.judging.specs.Judging.{badPairs}
+use Rattle.reader.specs.Settling.{Settled, settled, unsettled, settling, rateOf, expOf}
+use Rattle.reader.specs.Reading.{Link, readings, pairCount, pairNotes, Verdict, refuse, accept, roomVerdict, settledVerdict, wholeVerdict, endVerdict, verdict}
+
+-- the room for both parts, and a pair that is not bad
+pub record Roomy (m bad pairs index report : ℕ) : Type 0 where
+  pub index-room : indexOctets * m ≤ index
+  pub report-room : reportOctets * m ≤ report
+  pub not-all : bad ≡ pairs → ⊥
+
+abbrev RoomSays : (m bad pairs index report c : ℕ) → Verdict → Type 0
+RoomSays m bad pairs index report c (refuse r) = Unit
+RoomSays m bad pairs index report c (accept d) = (d ≡ c) × Roomy m bad pairs index report
+
+room-says : (m bad pairs index report c : ℕ) → RoomSays m bad pairs index report c (roomVerdict m bad pairs index report c)
+unfolding roomVerdict
+room-says m bad pairs index report c =
+    let P = RoomSays m bad pairs index report c in
+    by-test P (ltb index (indexOctets * m)) (λ h. tt) (λ hi.
+    by-test P (ltb report (reportOctets * m)) (λ h. tt) (λ hr.
+    by-test P (eqb bad pairs) (λ h. tt) (λ hb. (
+      refl,
+      record {
+        index-room = ltb-false index (indexOctets * m) hi;
+        report-room = ltb-false report (reportOctets * m) hr;
+        not-all = eqb-false bad pairs hb;
+      },
+    ))))
+
+-- settled bits that can be used
+pub record Usable (c : ℕ) : Type 0 where
+  pub rate : rateOf c ≡ 2 → ⊥
+  pub exp : expOf c ≡ 0
+
+pub record Fitting (m bad pairs index report : ℕ) (s : Settled) (c : ℕ) : Type 0 where
+  pub settles : s ≡ settled c
+  pub usable : Usable c
+  pub roomy : Roomy m bad pairs index report
+
+abbrev SettledSays : (m bad pairs index report : ℕ) → Settled → Verdict → Type 0
+SettledSays m bad pairs index report s (refuse r) = Unit
+SettledSays m bad pairs index report s (accept c) = Fitting m bad pairs index report s c
+
+settled-says : (m bad pairs index report : ℕ) (s : Settled) → SettledSays m bad pairs index report s (settledVerdict m bad pairs index report s)
+unfolding settledVerdict
+settled-says m bad pairs index report unsettled = tt
+settled-says m bad pairs index report (settled c) =
+    let P = SettledSays m bad pairs index report (settled c) in
+    by-test P (eqb (rateOf c) 2) (λ h. tt) (λ hr.
+    by-test P (eqb (expOf c) 0) (λ he.
+    lift (roomVerdict m bad pairs index report c) (record { rate = eqb-false (rateOf c) 2 hr; exp = eqb-true (expOf c) 0 he }) (room-says m bad pairs index report c)) (λ h. tt))
+  where
+    lift : (v : Verdict) → Usable c → RoomSays m bad pairs index report c v → SettledSays m bad pairs index report (settled c) v
+    lift (refuse r) u h = tt
+    lift (accept d) u h = record { settles = ap settled (sym (h .0)); usable = subst Usable (sym (h .0)) u; roomy = h .1 }
+
+module _ (link : Link) (octets : List ℕ) (codebook thresholds : List ℤ) (index report : ℕ) where
+  abbrev places : List ℕ
+  places = cutting octets .places
+
+  -- an accepted input, with the settled common bits
+  pub record Accepted (c : ℕ) : Type 0 where
+    pub codebook-size : length codebook ≡ codebookNumbers
+    pub thresholds-size : length thresholds ≡ thresholdNumbers
+    pub uncut : cutting octets .ending ≡ whole
+    pub some : length places ≡ 0 → ⊥
+    pub fitting : Fitting (length places) (badPairs (pairNotes link octets places codebook thresholds)) (pairCount link octets places) index report (settling (readings link octets places)) c
+
+  abbrev AcceptedBy : Verdict → Type 0
+  AcceptedBy (refuse r) = Unit
+  AcceptedBy (accept c) = Accepted c
+
+  accepted-by : AcceptedBy (verdict link octets codebook thresholds index report)
+  unfolding verdict wholeVerdict
+  accepted-by =
+      by-test AcceptedBy (eqb (length codebook) codebookNumbers) (λ hc.
+      by-test AcceptedBy (eqb (length thresholds) thresholdNumbers) (λ ht.
+      ended (cutting octets .ending) refl (eqb-true (length codebook) codebookNumbers hc) (eqb-true (length thresholds) thresholdNumbers ht)) (λ h. tt)) (λ h. tt)
+    where
+      fit : (v : Verdict) → length codebook ≡ codebookNumbers → length thresholds ≡ thresholdNumbers → cutting octets .ending ≡ whole → (length places ≡ 0 → ⊥)
+          → SettledSays (length places) (badPairs (pairNotes link octets places codebook thresholds)) (pairCount link octets places) index report (settling (readings link octets places)) v → AcceptedBy v
+      fit (refuse r) a b e n h = tt
+      fit (accept c) a b e n h = record { codebook-size = a; thresholds-size = b; uncut = e; some = n; fitting = h }
+
+      ended : (e : Ending) → cutting octets .ending ≡ e → length codebook ≡ codebookNumbers → length thresholds ≡ thresholdNumbers
+          → AcceptedBy (endVerdict link octets codebook thresholds index report places e)
+      ended (refused n p) e a b = tt
+      ended whole e a b =
+          by-test AcceptedBy (eqb (length places) 0) (λ h. tt) (λ hm.
+          fit (settledVerdict (length places) (badPairs (pairNotes link octets places codebook thresholds)) (pairCount link octets places) index report (settling (readings link octets places)))
+          a b e (eqb-false (length places) 0 hm)
+          (settled-says (length places) (badPairs (pairNotes link octets places codebook thresholds)) (pairCount link octets places) index report (settling (readings link octets places))))
+
+  -- what acceptance says
+  pub accepted : (c : ℕ) → verdict link octets codebook thresholds index report ≡ accept c → Accepted c
+  accepted c e = rw e at accepted-by
+
+  -- and what it takes
+  pub accepting : (c : ℕ) → Accepted c → verdict link octets codebook thresholds index report ≡ accept c
+  unfolding verdict wholeVerdict settledVerdict roomVerdict
+  accepting c a =
+      let f = a .fitting in
+      rw (
+        eq-eqb (length codebook) codebookNumbers (a .codebook-size),
+        eq-eqb (length thresholds) thresholdNumbers (a .thresholds-size),
+        a .uncut,
+        ne-eqb (length places) 0 (a .some),
+        f .settles,
+        ne-eqb (rateOf c) 2 (f .usable .rate),
+        eq-eqb (expOf c) 0 (f .usable .exp),
+        le-ltb index (indexOctets * length places) (f .roomy .index-room),
+        le-ltb report (reportOctets * length places) (f .roomy .report-room),
+        ne-eqb (badPairs (pairNotes link octets places codebook thresholds)) (pairCount link octets places) (f .roomy .not-all),
+      )
