@@ -1,15 +1,14 @@
 -- What a reader of 01 would ask of `inconsistent`.
 -- Assumes nothing.
-use Prim.Native.Nat.{ℕ, zero, suc, _+_, _-_, _*_, _^_, _≤_, _<_}
-use mathlib.Core.Path.{_≡_, refl, ap, sym, _∙_}
-use mathlib.Core.List.{List, [], _∷_}
+use Prim.Native.Nat.{ℕ, zero, suc, _+_, _*_, _≤_}
+use mathlib.Core.Path.{_≡_, refl}
+use mathlib.Core.List.{List, []}
 use mathlib.Core.Bool.{Bool, true, false}
-use lib.IntN.{ℤ, pos, negsuc, _-ℤ_}
+use lib.IntN.{ℤ, pos, negsuc}
 use lib.ListN.{getD}
-use lib.Dec.{leb}
 use native.Mathlib.Omega.{arith}
 use Rattle.lists.specs.Tests.{when}
-use Rattle.consistency.specs.Consistency.{at, exceeding, entryPlace, risen, flagged, flags, inconsistent}
+use Rattle.consistency.specs.Consistency.{exceeding, entryPlace, flagged, flags}
 
 -- the seventh codebook begins at 768
 pub seventh : (j e : ℕ) → entryPlace 6 j e ≡ 768 + 2 * j + e

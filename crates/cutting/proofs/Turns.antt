@@ -1,19 +1,19 @@
 -- The turns of `cut_into`: what is still to be cut, laid behind the places already stored, makes the whole answer and the whole buffer.
 -- Assumes nothing.
-use Prim.Native.Nat.{ℕ, zero, suc, _+_, _-_, _≤_, _<_}
+use Prim.Native.Nat.{ℕ, suc, _+_, _-_, _≤_, _<_}
 use mathlib.Core.Path.{_≡_, refl, ap, sym, _∙_, subst}
 use mathlib.Core.List.{List, [], _∷_, append-assoc}
 use lib.ListN.{length, getD, drop, take, set, length-drop, length-set}
 use lib.Seq.{take-all, take-suc-set, drop-set-lt}
 use native.Mathlib.Numerals.{add-one}
 use native.Mathlib.Omega.{arith}
-use Rattle.lists.specs.Parts.{over, over-none}
+use Rattle.lists.specs.Parts.{over-none}
 use Rattle.layout.specs.Layout.{multiframeOctets, syncOctets, mostMultiframes}
 use Rattle.cutting.specs.declared.Piece.{Piece}
 use Rattle.cutting.specs.declared.Piece.the-variants.{End, Multiframe, Inverse, Bad}
 use Rattle.cutting.specs.declared.Cut.{Cut}
 use Rattle.cutting.specs.declared.Cut.the-variants as C
-use Rattle.cutting.specs.Cutting.{pieceOf, Ending, whole, refused, Cutting, prepend, step, walk, cutting, answeredBy, answered, laid}
+use Rattle.cutting.specs.Cutting.{pieceOf, Ending, whole, refused, Cutting, step, walk, cutting, answeredBy, answered, laid}
 use Rattle.cutting.specs.Laws.{Says, says, at-place}
 
 -- all that is left, as the program's `&s[p..]` has it

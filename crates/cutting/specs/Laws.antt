@@ -5,18 +5,17 @@ use Prim.Native.Nat.{ℕ, zero, suc, _+_, _-_, _*_, _≤_, _<_}
 use mathlib.Core.Path.{_≡_, refl, ap, ap₂, sym, _∙_, subst}
 use mathlib.Core.Logic.{_⊎_, inl, inr}
 use mathlib.Core.List.{List, [], _∷_, _++_}
-use mathlib.Core.Bool.{Bool, true, false}
 use lib.ListN.{length, getD, drop, length-drop, length-append, List·getD-append}
 use lib.Seq.{drop-drop, drop-at, drop-length, getD-drop}
 use native.Mathlib.Numerals.{add-one}
 use lib.Dec.{ltb, eqb}
 use native.Mathlib.Omega.{arith}
-use borrow.Author.Tests.{le-ltb, lt-ltb, eq-eqb, ne-eqb, ltb-false, eqb-true, eqb-false}
-use Rattle.lists.specs.Tests.{when, by-test}
+use borrow.Author.Tests.{le-ltb, ne-eqb, ltb-false, eqb-true, eqb-false}
+use Rattle.lists.specs.Tests.{by-test}
 use Rattle.layout.specs.Layout.{multiframeOctets, syncOctets, mostMultiframes}
 use Rattle.cutting.specs.declared.Piece.{Piece}
 use Rattle.cutting.specs.declared.Piece.the-variants.{End, Multiframe, Inverse, Bad}
-use Rattle.cutting.specs.Cutting.{syncFirst, syncSecond, inverseFirst, inverseSecond, syncMet, lastMet, pieceBy, pieceOf, Ending, whole, refused, Cutting, ended, prepend, step, walk, cutting}
+use Rattle.cutting.specs.Cutting.{syncFirst, syncSecond, inverseFirst, inverseSecond, syncMet, lastMet, pieceBy, pieceOf, Ending, whole, refused, Cutting, prepend, step, walk, cutting}
 
 -- ---- the pieces
 

@@ -1,15 +1,15 @@
 -- One definition of what a reading answers and leaves in both buffers, for every input (01, "Reading"). Frames, pairs and multiframes
 -- count from 0.
 -- Assumes nothing.
-use Prim.Native.Nat.{ℕ, zero, suc, _+_, _-_, _*_, _/_, _%_}
+use Prim.Native.Nat.{ℕ, zero, suc, _+_, _*_, _%_}
 use mathlib.Core.List.{List, [], _∷_, _++_}
-use mathlib.Core.Bool.{Bool, true, false}
+use mathlib.Core.Bool.{Bool}
 use lib.ListN.{length, getD, take, drop}
 use lib.IntN.{ℤ}
 use lib.Dec.{ltb, eqb}
 use Rattle.lists.specs.Tests.{when}
 use Rattle.lists.specs.Parts.{part, over}
-use Rattle.layout.specs.Layout.{frameIndices, pairFrames, multiframePairs, syncOctets, headerOctets, streamOctets, indexOctets, reportOctets, codebookNumbers, thresholdNumbers, multiframeOf, firstPair}
+use Rattle.layout.specs.Layout.{frameIndices, multiframePairs, syncOctets, headerOctets, streamOctets, indexOctets, reportOctets, codebookNumbers, thresholdNumbers, multiframeOf, firstPair}
 use Rattle.cutting.specs.Cutting.{Ending, whole, refused, cutting}
 use Rattle.consistency.specs.Consistency.{inconsistent}
 use Rattle.judging.specs.Judging.{notes, badPairs}

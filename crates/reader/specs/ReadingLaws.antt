@@ -1,17 +1,15 @@
 -- What an accepted input has, and that nothing else is accepted: the refusals read backwards.
 -- Assumes nothing.
-use Prim.Native.Nat.{ℕ, _+_, _*_, _≤_, _<_}
-use mathlib.Core.Path.{_≡_, refl, ap, sym, _∙_, subst}
+use Prim.Native.Nat.{ℕ, _*_, _≤_}
+use mathlib.Core.Path.{_≡_, refl, ap, sym, subst}
 use mathlib.Core.List.{List}
-use mathlib.Core.Bool.{Bool, true, false}
 use lib.ListN.{length}
 use lib.IntN.{ℤ}
 use lib.Dec.{ltb, eqb}
-use native.Mathlib.Omega.{arith}
 use borrow.Author.Tests.{eq-eqb, ne-eqb, le-ltb, ltb-false, eqb-true, eqb-false}
-use Rattle.lists.specs.Tests.{when, by-test}
+use Rattle.lists.specs.Tests.{by-test}
 use Rattle.layout.specs.Layout.{indexOctets, reportOctets, codebookNumbers, thresholdNumbers}
-use Rattle.cutting.specs.Cutting.{Ending, whole, refused, Cutting, cutting}
+use Rattle.cutting.specs.Cutting.{Ending, whole, refused, cutting}
 use Rattle.judging.specs.Judging.{badPairs}
 use Rattle.reader.specs.Settling.{Settled, settled, unsettled, settling, rateOf, expOf}
 use Rattle.reader.specs.Reading.{Link, readings, pairCount, pairNotes, Verdict, refuse, accept, roomVerdict, settledVerdict, wholeVerdict, endVerdict, verdict}

@@ -1,8 +1,8 @@
 -- The turns of the loops that replace: how a list that was changed from place x to place y is changed further.
 -- Assumes nothing.
-use Prim.Native.Nat.{ℕ, zero, suc, _+_, _-_, _*_, _/_, _%_, _≤_, _<_}
+use Prim.Native.Nat.{ℕ, _+_, _-_, _*_, _/_, _%_, _≤_, _<_}
 use mathlib.Core.Path.{_≡_, refl, ap, sym, _∙_}
-use mathlib.Core.Logic.{_⊎_, ⊎-elim}
+use mathlib.Core.Logic.{⊎-elim}
 use mathlib.Core.List.{List}
 use lib.ListN.{length, getD, set, length-set}
 use lib.Seq.{getD-set-same, getD-set-other, ext-getD}
@@ -15,7 +15,7 @@ use borrow.Author.Tests.{eq-eqb, ne-eqb, lt-ltb, le-ltb}
 use Rattle.lists.specs.Parts.{over, length-over, over-in, over-behind}
 use Rattle.layout.specs.Layout.{frameIndices, pairOf, firstFrame}
 use Rattle.judging.specs.Laws.{Good}
-use Rattle.replacing.specs.Replacing.{runStart, runEnd, sourceBy, source, taken, table, pairsOctets, replaced}
+use Rattle.replacing.specs.Replacing.{runStart, runEnd, sourceBy, source, taken, pairsOctets, replaced}
 use Rattle.replacing.specs.Laws.{Run, run-of, in-run, good-stays, good-source, run-stop, replaced-at, replaced-length}
 use Rattle.replacing.specs.Steps.{Changed, Spread, Filled}
 

@@ -1,7 +1,7 @@
 -- What a reader of 01 would ask of `source` and `replaced`.
 -- Assumes nothing.
 use Prim.Native.Nat.{ℕ, zero, suc, _+_, _-_, _*_, _/_, _%_, _≤_, _<_}
-use mathlib.Core.Path.{_≡_, refl, ap, sym, _∙_, subst}
+use mathlib.Core.Path.{_≡_, refl, ap, sym, _∙_}
 use mathlib.Core.Logic.{_⊎_, inl, inr, ⊎-elim}
 use mathlib.Core.List.{List, [], _∷_, _++_}
 use mathlib.Core.Bool.{Bool, true, false}
@@ -14,7 +14,7 @@ use native.Mathlib.Omega.{arith}
 use borrow.Author.Tests.{eq-eqb, ne-eqb, lt-ltb, le-ltb, eqb-true, eqb-false}
 use Rattle.lists.specs.Tests.{when, by-test}
 use Rattle.lists.specs.Parts.{part, length-part}
-use Rattle.layout.specs.Layout.{frameIndices, pairFrames, pairOf, firstFrame}
+use Rattle.layout.specs.Layout.{frameIndices, pairOf, firstFrame}
 use Rattle.judging.specs.Laws.{Good}
 use Rattle.replacing.specs.Replacing.{runStart, leading, runEnd, frameBefore, frameAfter, sourceBy, source, taken, table, pairsOctets, replaced}
 

@@ -1,4 +1,5 @@
 // Replacing the frames of bad pairs by the good frames around them, and what the frames then say of the end of speech.
+use judging::GOOD;
 use layout::Frame;
 use layout::FrameLayout;
 use layout::Multiframe;
@@ -13,8 +14,6 @@ ghost use Rattle.replacing.specs.Replacing.{runEnd, pairsOctets, replace
 ghost use Rattle.judging.specs.Laws.{Good};
 ghost use Rattle.replacing.specs.Steps.{Spread, Filled};
 ghost use Rattle.replacing.specs.Speech.{zeroFrame, speechOf, endOf};
-
-const GOOD: u8 = 0;
 
 // The first good pair from q on, or the number of pairs.
 fn run_end(notes: &[u8], q: usize) -> usize

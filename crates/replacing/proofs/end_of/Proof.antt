@@ -1,7 +1,7 @@
 -- `end_of` meets its contract: the last frame is zero or not.
 -- Assumes nothing.
 use Prim.Native.Nat.{ℕ}
-use mathlib.Core.Path.{_≡_, ap, sym, _∙_}
+use mathlib.Core.Path.{ap, sym, _∙_}
 use mathlib.Core.Bool.{Bool}
 use Rattle.lists.specs.Tests.{when}
 use borrow.Author.Needs.{needs}

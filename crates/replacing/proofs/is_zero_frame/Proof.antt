@@ -1,9 +1,9 @@
 -- `is_zero_frame` meets its contract: the octets passed are zero, so what is left says what the frame is.
 -- Assumes nothing.
 use native.Mathlib.Omega.{arith}
-use Prim.Native.Nat.{ℕ, _+_, _-_, _*_, _≤_, _<_}
-use mathlib.Core.Path.{_≡_, refl, ap, sym, _∙_}
-use lib.ListN.{length, getD, drop}
+use Prim.Native.Nat.{_+_, _-_, _≤_}
+use mathlib.Core.Path.{_≡_, refl, sym, _∙_}
+use lib.ListN.{length, drop}
 use Rattle.lists.specs.Parts.{part}
 use Rattle.layout.specs.Layout.{frameIndices}
 use Rattle.replacing.specs.Speech.{allZero, zeroFrame, zero-on, zero-stop, zero-end}

@@ -1,8 +1,8 @@
 -- `replace` meets its contract: a good pair is passed, and a run of bad pairs is filled at once (`Turns`).
 -- Assumes nothing.
 use native.Mathlib.Omega.{arith}
-use Prim.Native.Nat.{ℕ, _+_, _-_, _≤_, _<_}
-use mathlib.Core.Path.{_≡_, ap, sym, subst, _∙_}
+use Prim.Native.Nat.{_-_}
+use mathlib.Core.Path.{_≡_, subst}
 use lib.ListN.{length}
 use Rattle.replacing.specs.Laws.{Run, not-all-bad}
 use Rattle.replacing.proofs.Turns.{Going, begun, good-turn, the-run, run-turn, done}

@@ -1,7 +1,7 @@
 -- `run_end` meets its contract: every pair passed is bad, so the run ends where it ended.
 -- Assumes nothing.
 use native.Mathlib.Omega.{arith}
-use Prim.Native.Nat.{ℕ, _-_, _≤_}
+use Prim.Native.Nat.{_-_, _≤_}
 use mathlib.Core.Path.{_≡_, ap, sym, _∙_}
 use lib.ListN.{length}
 use Rattle.replacing.specs.Replacing.{runEnd}

@@ -1,7 +1,7 @@
 -- `speech_of` meets its contract: the frames passed from behind are zero, so what is left has the last nonzero one.
 -- Assumes nothing.
 use native.Mathlib.Omega.{arith}
-use Prim.Native.Nat.{ℕ, _+_, _-_, _*_, _≤_}
+use Prim.Native.Nat.{_-_, _*_, _≤_}
 use mathlib.Core.Path.{_≡_, refl, ap, sym, _∙_}
 use Rattle.layout.specs.Layout.{multiframeFrames}
 use Rattle.replacing.specs.Speech.{lastNonzero, place-on, place-stop, place-none, speech-is}

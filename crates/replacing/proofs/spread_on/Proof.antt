@@ -2,11 +2,10 @@
 -- Assumes nothing.
 use native.Mathlib.Omega.{arith}
 use Prim.Native.Nat.{ℕ, _+_, _-_, _*_, _%_, _≤_}
-use mathlib.Core.Path.{_≡_, refl, ap, sym, subst, _∙_}
-use lib.ListN.{length}
+use mathlib.Core.Path.{_≡_, subst}
 use Rattle.layout.specs.Layout.{frameIndices}
 use Rattle.replacing.specs.Steps.{Changed}
-use Rattle.replacing.proofs.Turns.{unchanged, one-on, one-back, read-on, read-back}
+use Rattle.replacing.proofs.Turns.{unchanged, one-on, read-on}
 use borrow.Author.Needs.{needs}
 use Rattle.replacing.proofs.spread_on.Statement.{statement}
 use Rattle.replacing.proofs.spread_on.Tie as tie
