@@ -9,6 +9,7 @@ use lib.IntN.{ℤ}
 use lib.Dec.{ltb, eqb}
 use Rattle.lists.specs.Tests.{when}
 use Rattle.lists.specs.Parts.{part, over}
+use Rattle.lists.specs.Rows.{each, joined}
 use Rattle.layout.specs.Layout.{frameIndices, multiframePairs, syncOctets, headerOctets, streamOctets, indexOctets, reportOctets, codebookNumbers, thresholdNumbers, multiframeOf, firstPair}
 use Rattle.cutting.specs.Cutting.{Ending, whole, refused, cutting}
 use Rattle.consistency.specs.Consistency.{inconsistent}
@@ -52,16 +53,6 @@ pub record Link : Type 0 where
   pub received : List ℕ → Received
   pub fails : List ℕ → ℕ → Bool
   pub frames : List ℕ → ℕ → List ℕ
-
--- f at 0, 1, .., n of them
-abbrev pub each : {A : Type 0} → (ℕ → A) → ℕ → List A
-each f zero = []
-each f (suc n) = each f n ++ (f n ∷ [])
-
--- and lists put one behind the other
-abbrev pub joined : (ℕ → List ℕ) → ℕ → List ℕ
-joined f zero = []
-joined f (suc n) = joined f n ++ f n
 
 -- ---- the multiframes at places of the octets
 module _ (link : Link) (octets places : List ℕ) where

@@ -14,28 +14,10 @@ use native.Mathlib.Omega.{arith}
 use borrow.Author.Tests.{eq-eqb, ne-eqb, lt-ltb, le-ltb, eqb-true, eqb-false}
 use Rattle.lists.specs.Tests.{when, by-test}
 use Rattle.lists.specs.Parts.{part, length-part}
+use Rattle.lists.specs.Rows.{each, length-each, each-at, same-each}
 use Rattle.layout.specs.Layout.{frameIndices, pairOf, firstFrame}
 use Rattle.judging.specs.Laws.{Good}
-use Rattle.replacing.specs.Replacing.{runStart, leading, runEnd, frameBefore, frameAfter, sourceBy, source, taken, table, pairsOctets, replaced}
-
--- ---- tables
-pub length-table : (f : ℕ → ℕ) (n : ℕ) → length (table f n) ≡ n
-length-table f zero = refl
-length-table f (suc n) = length-append (table f n) (f n ∷ []) ∙ ap (λ (k : ℕ). k + 1) (length-table f n) ∙ omega arith
-
-pub table-at : (f : ℕ → ℕ) (n t : ℕ) → t < n → getD (table f n) t 0 ≡ f t
-table-at f zero t h = absurd (omega arith)
-table-at f (suc n) t h =
-    elim (decLt t n) [
-      | yes k ↦ List·getD-append (table f n) (f n ∷ []) 0 t (omega (arith, length-table f n)) ∙ table-at f n t k
-      | no k ↦
-          let e : t ≡ length (table f n) + 0 = omega (arith, length-table f n) in
-          ap (λ (i : ℕ). getD (table f n ++ (f n ∷ [])) i 0) e ∙ getD-append-add (table f n) (f n ∷ []) 0 0 ∙ ap f (omega (arith, length-table f n))
-    ]
-
-pub same-table : (f g : ℕ → ℕ) (n : ℕ) → ((t : ℕ) → t < n → f t ≡ g t) → table f n ≡ table g n
-same-table f g zero h = refl
-same-table f g (suc n) h = ap (λ (l : List ℕ). l ++ (f n ∷ [])) (same-table f g n (λ t k. h t (omega arith))) ∙ ap (λ (x : ℕ). table g n ++ (x ∷ [])) (h n (omega arith))
+use Rattle.replacing.specs.Replacing.{runStart, leading, runEnd, frameBefore, frameAfter, sourceBy, source, taken, pairsOctets, replaced}
 
 -- ---- where a run begins and ends
 pub run-back : (l : List ℕ) (a : ℕ) → (getD l a 0 ≡ 0 → ⊥) → runStart l (suc a) ≡ runStart l a
@@ -269,7 +251,7 @@ module _ (notes : List ℕ) (g : Good notes) where
       → replaced notes l ≡ replaced notes m
   unfolding replaced
   same-replaced l m agree =
-      same-table (λ t. getD l (taken notes t) 0) (λ t. getD m (taken notes t) 0) (pairsOctets (length notes)) (λ t h.
+      same-each (λ t. getD l (taken notes t) 0) (λ t. getD m (taken notes t) 0) (pairsOctets (length notes)) (λ t h.
       let s = good-source (t / 7) (omega arith) in
       let e : taken notes t / 7 ≡ source notes (t / 7) = omega arith in
       agree (taken notes t) (omega arith) (ap (λ (k : ℕ). getD notes (pairOf k) 0) e ∙ s .1))
@@ -282,12 +264,12 @@ module _ (notes : List ℕ) (g : Good notes) where
       let f : ℕ → ℕ = λ t. getD l (taken notes t) 0 in
       let n = pairsOctets (length notes) in
       let s = good-source i h in
-      let la : length (part (7 * i) 7 (table f n)) ≡ 7 = length-part (table f n) (7 * i) 7 (omega (arith, length-table f n)) in
+      let la : length (part (7 * i) 7 (each f n)) ≡ 7 = length-part (each f n) (7 * i) 7 (omega (arith, length-each f n)) in
       let lb : length (part (7 * source notes i) 7 l) ≡ 7 = length-part l (7 * source notes i) 7 (omega (arith, s .0)) in
-      ext-getD 0 (part (7 * i) 7 (table f n)) (part (7 * source notes i) 7 l) (la ∙ sym lb) (λ k z.
+      ext-getD 0 (part (7 * i) 7 (each f n)) (part (7 * source notes i) 7 l) (la ∙ sym lb) (λ k z.
       let d : (7 * i + k) / 7 ≡ i = omega (arith, la) in
       let r : (7 * i + k) % 7 ≡ k = omega (arith, la) in
-      getD-take 7 (drop (7 * i) (table f n)) k 0 (omega (arith, la)) ∙ getD-drop (7 * i) (table f n) k 0 ∙ table-at f n (7 * i + k) (omega (arith, la))
+      getD-take 7 (drop (7 * i) (each f n)) k 0 (omega (arith, la)) ∙ getD-drop (7 * i) (each f n) k 0 ∙ each-at f n (7 * i + k) 0 (omega (arith, la))
       ∙ ap (λ (j : ℕ). getD l (7 * source notes j + (7 * i + k) % 7) 0) d ∙ ap (λ (j : ℕ). getD l (7 * source notes i + j) 0) r
       ∙ sym (getD-drop (7 * source notes i) l k 0) ∙ sym (getD-take 7 (drop (7 * source notes i) l) k 0 (omega (arith, la))))
 
@@ -298,8 +280,8 @@ module _ (notes : List ℕ) (g : Good notes) where
 
 pub replaced-length : (notes l : List ℕ) → length (replaced notes l) ≡ pairsOctets (length notes)
 unfolding replaced
-replaced-length notes l = length-table (λ t. getD l (taken notes t) 0) (pairsOctets (length notes))
+replaced-length notes l = length-each (λ t. getD l (taken notes t) 0) (pairsOctets (length notes))
 
 pub replaced-at : (notes l : List ℕ) (t : ℕ) → t < pairsOctets (length notes) → getD (replaced notes l) t 0 ≡ getD l (taken notes t) 0
 unfolding replaced
-replaced-at notes l t h = table-at (λ t. getD l (taken notes t) 0) (pairsOctets (length notes)) t h
+replaced-at notes l t h = each-at (λ t. getD l (taken notes t) 0) (pairsOctets (length notes)) t 0 h

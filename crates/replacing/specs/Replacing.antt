@@ -2,10 +2,11 @@
 -- Notes are those of all pairs, 0 for a good one. Frames and pairs count from 0.
 -- Assumes nothing.
 use Prim.Native.Nat.{ℕ, zero, suc, _+_, _-_, _*_, _/_, _%_}
-use mathlib.Core.List.{List, [], _∷_, _++_}
+use mathlib.Core.List.{List, [], _∷_}
 use lib.ListN.{length, getD, drop}
 use lib.Dec.{ltb, eqb}
 use Rattle.lists.specs.Tests.{when}
+use Rattle.lists.specs.Rows.{each}
 use Rattle.layout.specs.Layout.{frameIndices, pairFrames, pairOf, firstFrame}
 
 -- the first pair of the run of bad pairs that reaches up to pair q
@@ -45,15 +46,10 @@ source notes i = when (eqb (getD notes (pairOf i) 0) 0) i (sourceBy (runStart no
 abbrev pub taken : List ℕ → ℕ → ℕ
 taken notes t = frameIndices * source notes (t / frameIndices) + t % frameIndices
 
--- f at 0, 1, .., n of them
-abbrev pub table : (ℕ → ℕ) → ℕ → List ℕ
-table f zero = []
-table f (suc n) = table f n ++ (f n ∷ [])
-
 -- how many index octets so many pairs have
 abbrev pub pairsOctets : ℕ → ℕ
 pairsOctets pairs = frameIndices * (pairFrames * pairs)
 
 -- the index octets of all frames in order, after replacing
 unfoldable pub replaced : List ℕ → List ℕ → List ℕ
-replaced notes index = table (λ t. getD index (taken notes t) 0) (pairsOctets (length notes))
+replaced notes index = each (λ t. getD index (taken notes t) 0) (pairsOctets (length notes))
