@@ -1,18 +1,24 @@
 -- What an accepted input has, and that nothing else is accepted: the refusals read backwards.
 -- Assumes nothing.
-use Prim.Native.Nat.{ℕ, _*_, _≤_}
-use mathlib.Core.Path.{_≡_, refl, ap, sym, subst}
-use mathlib.Core.List.{List}
-use lib.ListN.{length}
+use Prim.Native.Nat.{ℕ, suc, _*_, _≤_, _<_}
+use native.Mathlib.Decide.{decLt}
+use native.Mathlib.Omega.{arith}
+use mathlib.Core.Bool.{false}
+use mathlib.Core.Path.{_≡_, refl, ap, sym, subst, _∙_}
+use mathlib.Core.List.{List, _∷_}
+use lib.ListN.{length, getD, List·getD-eq-default}
 use lib.IntN.{ℤ}
 use lib.Dec.{ltb, eqb}
 use borrow.Author.Tests.{eq-eqb, ne-eqb, le-ltb, ltb-false, eqb-true, eqb-false}
 use Rattle.lists.specs.Tests.{by-test}
-use Rattle.layout.specs.Layout.{indexOctets, reportOctets, codebookNumbers, thresholdNumbers}
+use Rattle.lists.specs.Parts.{part, length-part}
+use Rattle.lists.specs.Rows.{each, length-each, each-at, length-joined}
+use Rattle.layout.specs.Layout.{multiframePairs, firstPair, indexOctets, reportOctets, codebookNumbers, thresholdNumbers}
 use Rattle.cutting.specs.Cutting.{Ending, whole, refused, cutting}
 use Rattle.judging.specs.Judging.{badPairs}
-use Rattle.reader.specs.Settling.{Settled, settled, unsettled, settling, rateOf, expOf}
-use Rattle.reader.specs.Reading.{Link, readings, pairCount, pairNotes, Verdict, refuse, accept, roomVerdict, settledVerdict, wholeVerdict, endVerdict, verdict}
+use Rattle.judging.specs.Laws.{notes-length, no-failed-no-bad}
+use Rattle.reader.specs.Settling.{lost, headerNote, Settled, settled, unsettled, settling, rateOf, expOf}
+use Rattle.reader.specs.Reading.{Link, headerAt, readings, pairFails, pairOdd, reportPart, pairCount, pairNotes, Verdict, refuse, accept, roomVerdict, settledVerdict, wholeVerdict, endVerdict, verdict}
 
 -- the room for both parts, and a pair that is not bad
 pub record Roomy (m bad pairs index report : ℕ) : Type 0 where
@@ -124,3 +130,38 @@ module _ (link : Link) (octets : List ℕ) (codebook thresholds : List ℤ) (ind
         le-ltb report (reportOctets * length places) (f .roomy .report-room),
         ne-eqb (badPairs (pairNotes link octets places codebook thresholds)) (pairCount link octets places) (f .roomy .not-all),
       )
+
+-- ---- the sizes of what a reading holds
+module _ (link : Link) (octets places : List ℕ) where
+  pub length-readings : length (readings link octets places) ≡ length places
+  unfolding readings
+  length-readings = length-each (λ k. link .received (headerAt link octets places k)) (length places)
+
+  module _ (codebook thresholds : List ℤ) where
+    -- a note for each pair
+    pub length-notes : length (pairNotes link octets places codebook thresholds) ≡ pairCount link octets places
+    unfolding pairNotes
+    length-notes =
+        let n = pairCount link octets places in
+        let fs = each (pairFails link octets places) n in
+        notes-length false fs (each (pairOdd link octets places codebook thresholds) n) ∙ length-each (pairFails link octets places) n
+
+    -- 13 octets for each multiframe
+    pub length-report : (c : ℕ) → length (reportPart link octets places codebook thresholds c) ≡ reportOctets * length places
+    unfolding reportPart
+    length-report c =
+        length-joined (λ k. headerNote c k (getD (readings link octets places) k lost) ∷ part (firstPair k) multiframePairs (pairNotes link octets places codebook thresholds))
+        reportOctets (length places) (λ k h. ap suc (length-part (pairNotes link octets places codebook thresholds) (firstPair k) multiframePairs (omega (arith, length-notes))))
+
+    -- an image with no failed CRC has no bad pair
+    pub no-failed-crc : ((q : ℕ) → q < pairCount link octets places → pairFails link octets places q ≡ false)
+        → (q : ℕ) → q < pairCount link octets places → getD (pairNotes link octets places codebook thresholds) q 0 ≡ 0
+    unfolding pairNotes
+    no-failed-crc ok q h =
+        let n = pairCount link octets places in
+        let fs = each (pairFails link octets places) n in
+        let size = length-each (pairFails link octets places) n in
+        no-failed-no-bad fs (each (pairOdd link octets places codebook thresholds) n) (λ k. elim (decLt k n) [
+          | yes y ↦ each-at (pairFails link octets places) n k false y ∙ ok k y
+          | no y ↦ List·getD-eq-default fs false (omega (arith, size))
+        ]) q (omega (arith, size))
