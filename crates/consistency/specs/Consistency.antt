@@ -1,0 +1,51 @@
+-- Inconsistent pairs (01, "Reading" and "Bad pairs"; 001, 7.2 and 7.3).
+-- Codebook and thresholds are lists of signed numbers, a frame a list of seven indices.
+-- Assumes nothing.
+use Prim.Native.Nat.{ℕ, zero, suc, _+_, _*_, _<_}
+use mathlib.Core.List.{List}
+use mathlib.Core.Bool.{Bool, true}
+use lib.IntN.{ℤ, pos, _-ℤ_}
+use lib.Signed.{ltZ}
+use lib.ListN.{getD}
+use lib.Dec.{leb}
+use Rattle.lists.specs.Tests.{when}
+use Rattle.layout.specs.Layout.{frameIndices}
+
+abbrev pub at : List ℤ → ℕ → ℤ
+at l i = getD l i (pos 0)
+
+-- second frame's value minus first frame's exceeds the threshold. Of integers, so the exact difference.
+-- The one place that says how two values are compared
+abbrev pub exceeding : ℤ → ℤ → ℤ → Bool
+exceeding threshold first second = ltZ threshold (second -ℤ first)
+
+-- codebook c begins at 128c (the seventh, c = 6, at 768); entry j is two numbers, its elements 0 and 1
+abbrev pub entryPlace : ℕ → ℕ → ℕ → ℕ
+entryPlace c j element = 128 * c + 2 * j + element
+
+-- thresholds 2c and 2c + 1 are for the two elements of codebook c
+abbrev pub thresholdPlace : ℕ → ℕ → ℕ
+thresholdPlace c element = 2 * c + element
+
+-- one element of index pair c, entry i in the first frame and j in the second
+abbrev pub risen : List ℤ → List ℤ → ℕ → ℕ → ℕ → ℕ → Bool
+risen codebook thresholds c i j element =
+    exceeding (at thresholds (thresholdPlace c element)) (at codebook (entryPlace c i element)) (at codebook (entryPlace c j element))
+
+-- an index pair is flagged if either of its two elements exceeds, and counts once if both do
+unfoldable pub flagged : List ℤ → List ℤ → ℕ → ℕ → ℕ → Bool
+flagged codebook thresholds c i j = when (risen codebook thresholds c i j 0) true (risen codebook thresholds c i j 1)
+
+-- how many of the first n index pairs of frames f and g are flagged
+unfoldable pub flags : List ℤ → List ℤ → List ℕ → List ℕ → ℕ → ℕ
+flags codebook thresholds f g zero = 0
+flags codebook thresholds f g (suc c) =
+    when (flagged codebook thresholds c (getD f c 0) (getD g c 0)) (suc (flags codebook thresholds f g c)) (flags codebook thresholds f g c)
+
+-- a pair is inconsistent if at least two of its seven index pairs are flagged
+unfoldable pub inconsistent : List ℤ → List ℤ → List ℕ → List ℕ → Bool
+inconsistent codebook thresholds f g = leb 2 (flags codebook thresholds f g frameIndices)
+
+-- the first six indices of a frame are below 64
+abbrev pub InRange : List ℕ → Type 0
+InRange f = (k : ℕ) → k < 6 → getD f k 0 < 64

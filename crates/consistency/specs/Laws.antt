@@ -1,0 +1,41 @@
+-- What a reader of 01 would ask of `inconsistent`.
+-- Assumes nothing.
+use Prim.Native.Nat.{ℕ, zero, suc, _+_, _*_, _≤_}
+use mathlib.Core.Path.{_≡_, refl}
+use mathlib.Core.List.{List, []}
+use mathlib.Core.Bool.{Bool, true, false}
+use lib.IntN.{ℤ, pos, negsuc}
+use lib.ListN.{getD}
+use native.Mathlib.Omega.{arith}
+use Rattle.lists.specs.Tests.{when}
+use Rattle.consistency.specs.Consistency.{exceeding, entryPlace, flagged, flags}
+
+-- the seventh codebook begins at 768
+pub seventh : (j e : ℕ) → entryPlace 6 j e ≡ 768 + 2 * j + e
+seventh j e = refl
+
+-- the exact difference: from the least number of 32 bits to the greatest is a rise of 2^32 - 1, which no threshold of 32 bits hides
+pub exact : exceeding (pos 2147483647) (negsuc 2147483647) (pos 2147483647) ≡ true
+exact = refl
+
+-- a rise that equals the threshold does not exceed it, and a fall never exceeds a threshold of 0
+pub equal-passes : exceeding (pos 5) (pos 1) (pos 6) ≡ false
+equal-passes = refl
+
+pub fall-passes : exceeding (pos 0) (pos 6) (pos 1) ≡ false
+fall-passes = refl
+
+-- an index pair adds one or nothing, whichever elements exceed
+pub counts-once : (b t : List ℤ) (f g : List ℕ) (c : ℕ)
+    → flags b t f g (suc c) ≡ when (flagged b t c (getD f c 0) (getD g c 0)) (suc (flags b t f g c)) (flags b t f g c)
+unfolding flags
+counts-once b t f g c = refl
+
+pub at-most-each : (b t : List ℤ) (f g : List ℕ) (n : ℕ) → flags b t f g n ≤ n
+unfolding flags
+at-most-each b t f g zero = omega arith
+at-most-each b t f g (suc c) = one (flagged b t c (getD f c 0) (getD g c 0)) (at-most-each b t f g c)
+  where
+    one : (q : Bool) → flags b t f g c ≤ c → when q (suc (flags b t f g c)) (flags b t f g c) ≤ suc c
+    one true h = omega arith
+    one false h = omega arith

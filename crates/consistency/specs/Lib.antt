@@ -1,0 +1,2 @@
+pub mod Consistency
+pub mod Laws

@@ -1,0 +1,107 @@
+// Cutting received octets up into multiframes: where each begins, or the refusal 12, 13 or 15 that cutting meets.
+use layout::MultiframeLayout;
+use layout::UtteranceLayout;
+ghost use mathlib.Core.Path.{_≡_};
+ghost use lib.ListN.{length};
+ghost use Rattle.layout.specs.Layout.{mostMultiframes};
+ghost use Rattle.cutting.specs.Cutting.{pieceOf, syncMet, cutting, answered, laid};
+
+// The sync in sending order, and its inverse.
+const SYNC_FIRST: u8 = 0x87;
+
+const SYNC_SECOND: u8 = 0xB2;
+
+const INVERSE_FIRST: u8 = 0x78;
+
+const INVERSE_SECOND: u8 = 0x4D;
+
+// 01's numbers for what cutting meets.
+const UNKNOWN: u8 = 12;
+
+const CUT_SHORT: u8 = 13;
+
+const TOO_MANY: u8 = 15;
+
+// What stands at the front of the octets that are left.
+pub enum Piece {
+    End,
+    Multiframe,
+    Inverse,
+    Bad { number: u8 },
+}
+
+// How cutting ended: with so many multiframes, or refused.
+pub enum Cut {
+    Whole { count: usize },
+    Refused { number: u8, place: usize },
+}
+
+// piece_of names what the octets begin, after so many multiframes.
+pub fn piece_of(rest: &[u8], count: usize) -> Piece
+    ensures { λ r. ⌜ r ≡ pieceOf (now (rest .entry)) count ⌝ }
+{
+    if rest.len() == 0 {
+        return Piece::End;
+    }
+    let a = rest[0];
+    if rest.len() == 1 {
+        if a == SYNC_FIRST {
+            return Piece::Bad { number: CUT_SHORT };
+        }
+        if a == INVERSE_FIRST {
+            return Piece::Bad { number: CUT_SHORT };
+        }
+        return Piece::Bad { number: UNKNOWN };
+    }
+    let b = rest[1];
+    if a == SYNC_FIRST {
+        if b == SYNC_SECOND {
+            return sync_met(rest.len(), count);
+        }
+        return Piece::Bad { number: UNKNOWN };
+    }
+    if a == INVERSE_FIRST {
+        if b == INVERSE_SECOND {
+            return Piece::Inverse;
+        }
+    }
+    Piece::Bad { number: UNKNOWN }
+}
+
+// A sync with so many octets from it on: one too many even if it is cut.
+fn sync_met(octets: usize, count: usize) -> Piece
+    ensures { λ r. ⌜ r ≡ syncMet octets count ⌝ }
+{
+    if count == UtteranceLayout::MULTIFRAMES {
+        return Piece::Bad { number: TOO_MANY };
+    }
+    if octets < MultiframeLayout::OCTETS {
+        return Piece::Bad { number: CUT_SHORT };
+    }
+    Piece::Multiframe
+}
+
+// cut_into puts the places of the multiframes met to the front of places; the rest of places stays.
+// It asks for room for as many as an utterance may have: its caller lends an array of its own.
+pub fn cut_into(s: &[u8], places: &mut [usize]) -> Cut
+    requires { ⌜ length (now places) ≡ mostMultiframes ⌝ }
+    ensures answer { λ r. ⌜ r ≡ answered (cutting (now (s .entry))) ⌝ }
+    ensures places { λ _. ⌜ now (places .exit) ≡ laid 0 (cutting (now (s .entry)) .places) (now (places .entry)) ⌝ }
+{
+    let mut p = 0;
+    let mut m = 0;
+    loop {
+        match piece_of(&s[p..], m) {
+            Piece::Multiframe => {
+                places[m] = p;
+                p += MultiframeLayout::OCTETS;
+                m += 1;
+            }
+            Piece::Inverse => {
+                p += MultiframeLayout::SYNC;
+            }
+            Piece::End => return Cut::Whole { count: m },
+            Piece::Bad { number } => return Cut::Refused { number, place: p },
+        }
+    }
+}

@@ -1,0 +1,67 @@
+-- Lists made element by element and part by part: what stands at each place of them.
+-- Assumes nothing.
+use mathlib.Core.Path.{_≡_, refl, sym, ap, ap₂, _∙_}
+use mathlib.Core.List.{List, [], _∷_, _++_}
+use Prim.Native.Nat.{ℕ, zero, suc, _+_, _*_, _≤_, _<_}
+use native.Mathlib.Nat.{mul-zero, mul-suc, mul-le-mul-left, le-of-eq}
+use native.Mathlib.Decide.{decLt}
+use native.Mathlib.Omega.{arith}
+use lib.ListN.{length, getD, take, drop, length-append, List·getD-append}
+use lib.Seq.{getD-append-add, take-all}
+use Rattle.lists.specs.Parts.{part, part-left, part-right}
+
+-- f at 0, 1, .., n of them
+abbrev pub each : {A : Type 0} → (ℕ → A) → ℕ → List A
+each f zero = []
+each f (suc n) = each f n ++ (f n ∷ [])
+
+-- and lists, one behind the other
+abbrev pub joined : {A : Type 0} → (ℕ → List A) → ℕ → List A
+joined f zero = []
+joined f (suc n) = joined f n ++ f n
+
+module _ {A : Type 0} (f : ℕ → A) where
+  pub length-each : (n : ℕ) → length (each f n) ≡ n
+  length-each zero = refl
+  length-each (suc n) = length-append (each f n) (f n ∷ []) ∙ ap (λ (k : ℕ). k + 1) (length-each n) ∙ omega arith
+
+  pub each-at : (n k : ℕ) (d : A) → k < n → getD (each f n) k d ≡ f k
+  each-at zero k d h = absurd (omega arith)
+  each-at (suc n) k d h =
+      elim (decLt k n) [
+        | yes y ↦ List·getD-append (each f n) (f n ∷ []) d k (omega (arith, length-each n)) ∙ each-at n k d y
+        | no y ↦
+            let e : k ≡ length (each f n) + 0 = omega (arith, length-each n) in
+            ap (λ (i : ℕ). getD (each f n ++ (f n ∷ [])) i d) e ∙ getD-append-add (each f n) (f n ∷ []) 0 d ∙ ap f (omega (arith, length-each n))
+      ]
+
+pub same-each : {A : Type 0} (f g : ℕ → A) (n : ℕ) → ((k : ℕ) → k < n → f k ≡ g k) → each f n ≡ each g n
+same-each f g zero h = refl
+same-each {A} f g (suc n) h = ap₂ (λ (l : List A) (x : A). l ++ (x ∷ [])) (same-each f g n (λ k i. h k (omega arith))) (h n (omega arith))
+
+pub same-joined : {A : Type 0} (f g : ℕ → List A) (n : ℕ) → ((k : ℕ) → k < n → f k ≡ g k) → joined f n ≡ joined g n
+same-joined f g zero h = refl
+same-joined {A} f g (suc n) h = ap₂ (λ (l m : List A). l ++ m) (same-joined f g n (λ k i. h k (omega arith))) (h n (omega arith))
+
+-- lists of one length w
+module _ {A : Type 0} (f : ℕ → List A) (w : ℕ) where
+  pub length-joined : (n : ℕ) → ((k : ℕ) → k < n → length (f k) ≡ w) → length (joined f n) ≡ w * n
+  length-joined zero h = sym (mul-zero w)
+  length-joined (suc n) h =
+      length-append (joined f n) (f n) ∙ ap₂ (λ (a b : ℕ). a + b) (length-joined n (λ k i. h k (omega arith))) (h n (omega arith)) ∙ sym (mul-suc w n)
+
+  -- part k of them is list k
+  pub joined-part : (n k : ℕ) → ((i : ℕ) → i < n → length (f i) ≡ w) → k < n → part (w * k) w (joined f n) ≡ f k
+  joined-part zero k h i = absurd (omega arith)
+  joined-part (suc n) k h i =
+      let size = length-joined n (λ j y. h j (omega arith)) in
+      elim (decLt k n) [
+        | yes y ↦
+            let m : w * suc k ≤ w * n = mul-le-mul-left w (omega arith) in
+            let r : w * k + w ≤ length (joined f n) = omega (arith, size, mul-suc w k) in
+            part-left (joined f n) (f n) (w * k) w r ∙ joined-part n k (λ j z. h j (omega arith)) y
+        | no y ↦
+            let e : k ≡ n = omega arith in
+            ap (λ (j : ℕ). part (w * j) w (joined f n ++ f n)) e ∙ part-right (joined f n) (f n) (w * n) w size
+            ∙ take-all w (f n) (le-of-eq (h n (omega arith))) ∙ ap f (sym e)
+      ]

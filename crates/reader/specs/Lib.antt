@@ -1,0 +1,4 @@
+pub mod Settling
+pub mod SettlingLaws
+pub mod Reading
+pub mod ReadingLaws

@@ -1,0 +1,5 @@
+pub mod Replacing
+pub mod Laws
+pub mod Steps
+pub mod Examples
+pub mod Speech
