@@ -2,18 +2,16 @@
 -- Assumes nothing.
 use mathlib.Core.Path.{_≡_, refl, sym, ap, ap₂, _∙_, subst}
 use mathlib.Core.Bool.{Bool, true, false, xor, not}
-use mathlib.Core.List.{List, [], _∷_, _++_, append-assoc}
-use mathlib.Core.Logic.{_↔_, _⊎_, inl, inr}
-use Prim.Native.Nat.{ℕ, zero, suc, _+_, _-_, _*_, _%_, _≤_, _<_}
-use native.Mathlib.Nat.{add-zero, add-suc, suc-add}
+use mathlib.Core.List.{List, [], _∷_, _++_}
+use mathlib.Core.Logic.{inl, inr}
+use Prim.Native.Nat.{ℕ, zero, suc, _+_, _-_, _≤_, _<_}
 use native.Mathlib.Decide.{ℕ-discrete, decLt, decLe}
 use native.Mathlib.Omega.{arith}
-use lib.ListN.{length, length-drop, length-take, take, drop, getD, set, length-set, length-append, take-append-drop, replicate, length-replicate, getD-replicate, replicate-append-replicate, List·getD-eq-default}
+use lib.ListN.{length, length-drop, take, drop, getD, length-set, take-append-drop, replicate, length-replicate, getD-replicate, replicate-append-replicate, List·getD-eq-default}
 use lib.Seq.{ext-getD, getD-set-same, getD-set-other, getD-drop, getD-take, length-take-le, drop-drop}
-use Rattle.lists.specs.Tests.{true-false}
 use Rattle.lists.specs.Parts.{part, length-part}
-use Rattle.crc.specs.Crc.{Rem, rem, none, next, after, sent, crc, Right, right, flip, mixed, times, Burst, Double, Damaged}
-use Rattle.crc.specs.Laws.{_⊕_, after-add, after-append, after-none, after-sent, add-none, none-add, add-self, length-mixed, length-sent, four, burst, two-flips, xor-self, xor-false, false-xor, xor-assoc, right-true, right-false, mixed-none}
+use Rattle.crc.specs.Crc.{Rem, none, sent, Right, right, flip, mixed, Burst, Double, Damaged}
+use Rattle.crc.specs.Laws.{length-mixed, four, burst, two-flips, xor-self, false-xor, xor-assoc, right-false}
 
 -- ---- adding bit by bit
 getD-mixed : (l m : List Bool) (i : ℕ) → length l ≡ length m → getD (mixed l m) i false ≡ xor (getD l i false) (getD m i false)

@@ -2,21 +2,21 @@
 -- widths.
 -- Assumes nothing.
 use mathlib.Core.Path.{_≡_, refl, sym, ap, ap₂, _∙_, subst}
-use mathlib.Core.Bool.{Bool, true, false}
+use mathlib.Core.Bool.{Bool, true}
 use mathlib.Core.List.{List, [], _∷_, _++_, append-assoc, append-nil}
 use mathlib.Core.Logic.{_↔_}
-use Prim.Native.Nat.{ℕ, zero, suc, _+_, _-_, _*_, _^_, _≤_, _<_}
+use Prim.Native.Nat.{ℕ, zero, suc, _+_, _*_, _^_, _≤_, _<_}
 use native.Mathlib.Nat.{add-zero, add-suc, le-of-eq}
 use native.Mathlib.Numerals.{add-one}
 use native.Mathlib.Decide.{decLt}
 use native.Mathlib.Omega.{arith}
 use lib.ListN.{length, take, drop, getD, length-drop, length-append, take-append-drop, replicate, List·getD-append, List·getD-eq-default, replicate-append-replicate}
 use lib.Seq.{take-suc, take-all, take-at, drop-at, length-take-le, getD-drop, getD-at, take-add}
-use Rattle.lists.specs.Parts.{part, part-left, part-right, length-part}
+use Rattle.lists.specs.Parts.{part, part-left, part-right}
 use Rattle.layout.specs.Layout.{widths, frameIndices, frameBits, dataBits, packetBits, crcBits, streamOctets, multiframePairs, firstFrame, secondFrame}
-use Rattle.bits.specs.Bits.{bits, field, laid, numbers, octets, total, Fits}
-use Rattle.bits.specs.Laws.{length-laid, length-numbers, numbers-laid, laid-numbers, numbers-front, fits-numbers, fits-each, bits-octets, length-octets}
-use Rattle.crc.specs.Crc.{Rem, crc, sent, Right, right}
+use Rattle.bits.specs.Bits.{bits, octets, total, Fits}
+use Rattle.bits.specs.Laws.{length-laid, numbers-laid, laid-numbers, numbers-front, fits-each, bits-octets}
+use Rattle.crc.specs.Crc.{crc, sent, Right, right}
 use Rattle.crc.specs.Laws.{length-sent, right-true}
 use Rattle.packet.specs.Packet.{frame, indices, guarded, packet, apart, row, frameAt, packetOf, stream}
 
