@@ -176,7 +176,7 @@ four (a ∷ b ∷ c ∷ d ∷ e ∷ l) h = absurd (omega arith)
 
 pub after-sent : (r : Rem) → after none (sent r) ≡ r
 unfolding after
-after-sent (rem a b c d) = simp (xor-false, false-xor)
+after-sent (rem a b c d) = simp xor-false
 
 pub mixed-none : (l : List Bool) → mixed (replicate (length l) false) l ≡ l
 unfolding mixed
@@ -263,7 +263,7 @@ burst n a c p b h l nz ok g =
 fed-add : (r : Rem) (b : Bool) → fed r b ≡ next r false ⊕ after none (b ∷ replicate 4 false)
 unfolding after xor
 fed-add (rem a b c d) true = simp (xor-false, false-xor, xor-assoc)
-fed-add (rem a b c d) false = simp (xor-false, false-xor, xor-assoc)
+fed-add (rem a b c d) false = simp (xor-false, false-xor)
 
 pub crc-snoc : (l : List Bool) (b : Bool) → crc (l ++ (b ∷ [])) ≡ fed (crc l) b
 unfolding crc
