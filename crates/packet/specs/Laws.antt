@@ -117,6 +117,11 @@ module _ (ws : List ℕ) where
   pub packet-same : (f g f′ g′ : List ℕ) → Fits ws f → Fits ws g → Fits ws f′ → Fits ws g′ → packet ws f g ≡ packet ws f′ g′ → f ++ g ≡ f′ ++ g′
   packet-same f g f′ g′ hf hg hf′ hg′ e = sym (packet-back f g hf hg) ∙ ap (apart ws) e ∙ packet-back f′ g′ hf′ hg′
 
+-- the same of the layout's 92 bits
+pub packet-92 : (p : List Bool) → length p ≡ packetBits → (packet widths (indices widths p) (indices widths (drop frameBits p)) ≡ p) ↔ Right dataBits p
+unfolding total
+packet-92 p h = packet-again widths p h
+
 -- ---- frames of index octets
 pub length-row : (idx : List ℕ) (at n : ℕ) → length (row idx at n) ≡ n
 unfolding row
