@@ -1,9 +1,9 @@
 -- What stands at a place: the arithmetic of `get`, `put`, `bit`, `word` and `store` on octets, as parts of the bits and as bits laid over.
 -- Assumes nothing.
 use mathlib.Core.Path.{_≡_, refl, sym, ap, ap₂, _∙_, subst}
-use mathlib.Core.Bool.{Bool, true, false}
+use mathlib.Core.Bool.{Bool, false}
 use mathlib.Core.List.{List, [], _∷_, _++_, append-assoc, append-nil}
-use Prim.Native.Nat.{ℕ, zero, suc, _+_, _-_, _*_, _/_, _%_, _^_, _≤_, _<_}
+use Prim.Native.Nat.{ℕ, suc, _+_, _-_, _*_, _/_, _%_, _^_, _≤_, _<_}
 use native.Mathlib.Nat.{add-zero, div-one, mod-lt, le-of-lt, add-assoc, div-add-mod', mod-eq-of-lt}
 use native.Mathlib.Omega.{arith}
 use native.Mathlib.Numerals.{add-one}
@@ -11,10 +11,10 @@ use lib.Bits.{bitAnd, bitOr, or-shifted, and-mask}
 use lib.Dec.{lit<, lit≤}
 use lib.Pow.{pow-pos, split, high, shl-exact}
 use lib.ListN.{length, length-drop, length-set, take, drop, getD, set, take-append-drop}
-use lib.Seq.{take-append-add, drop-append-add, take-append-le, drop-append-le, length-take-le, set-split, split-at, drop-drop, drop-cons, take-suc-set, drop-set-lt, getD-drop, getD-take, take-add, take-at}
+use lib.Seq.{take-append-add, drop-append-add, take-append-le, drop-append-le, length-take-le, set-split, split-at, drop-drop, drop-cons, take-suc-set, drop-set-lt, getD-drop, getD-take, take-add}
 use Rattle.lists.specs.Parts.{part, over, over-over, length-over, set-over}
 use Rattle.bits.specs.Bits.{odd, field, value, fields, bits, octets, numbers, spliced}
-use Rattle.bits.specs.Laws.{length-field, field-add, field-mod, field-low, take-field, drop-field, field-part, field-spliced, value-field, value-lt, value-append, length-bits, bits-append, bits-cons, length-octets, octets-append}
+use Rattle.bits.specs.Laws.{length-field, field-add, field-mod, take-field, field-part, field-spliced, value-field, value-lt, value-append, length-bits, bits-append, bits-cons, length-octets, octets-append}
 
 -- what lies inside q
 over-inside : (p q r f : List Bool) (k w : ℕ) → k + w ≤ length q → over (p ++ (q ++ r)) (length p + k) w f ≡ p ++ (over q k w f ++ r)

@@ -7,9 +7,8 @@ use mathlib.Core.List.{List, [], _∷_, _++_, append-assoc, append-nil}
 use Prim.Native.Nat.{ℕ, zero, suc, _+_, _-_, _*_, _/_, _%_, _^_, _≤_, _<_}
 use native.Mathlib.Nat.{zero-add, suc-add, add-zero, div-one, div-div-eq-div-mul, pow-suc, pow-succ', zero-mul, suc-mul, mod-lt, mod-one, zero-lt-suc, add-assoc, mod-eq-of-lt, mul-assoc, mul-mod-left, mul-zero, mul-suc, add-comm, lt-of-lt-of-le}
 use native.Mathlib.Omega.{arith}
-use native.Mathlib.Numerals.{add-one}
 use lib.Arith.{mod-mul, digits-div, digits-mod, digits-lt}
-use lib.Dec.{eqb, lit<, lit≤}
+use lib.Dec.{eqb, lit<}
 use lib.Bits.{bitOr, block-half, block-odd, or-shifted-r}
 use lib.Pow.{pow-pos, pow-mono, pow-add, split, high, mod-pow-add, shl-shr, shl-exact}
 use lib.ListN.{length, length-drop, take, drop, getD, length-append, length-take, take-append-drop, replicate, replicate-append-replicate, length-replicate}
@@ -188,10 +187,10 @@ numbers-front ws l m h =
     ap (λ (vs : List ℕ). numbers vs (l ++ m)) (sym (append-nil ws)) ∙ numbers-append ws [] l m h ∙ append-nil (numbers ws l)
 
 -- ---- octets
-total-octets : (n : ℕ) → total (replicate n 8) ≡ 8 * n
+pub total-same : (n w : ℕ) → total (replicate n w) ≡ w * n
 unfolding total
-total-octets zero = refl
-total-octets (suc n) = rw (total-octets n) (omega arith)
+total-same zero w = sym (mul-zero w)
+total-same (suc n) w = ap (_+_ w) (total-same n w) ∙ add-comm w (w * n) ∙ sym (mul-suc w n)
 
 pub length-octets : (n : ℕ) (l : List Bool) → length (octets n l) ≡ n
 length-octets n l = length-numbers (replicate n 8) l ∙ length-replicate n 8
@@ -200,7 +199,7 @@ length-octets n l = length-numbers (replicate n 8) l ∙ length-replicate n 8
 pub octets-append : (a b : ℕ) (l m : List Bool) → length l ≡ 8 * a → octets (a + b) (l ++ m) ≡ octets a l ++ octets b m
 octets-append a b l m h =
     ap (λ (ws : List ℕ). numbers ws (l ++ m)) (sym (replicate-append-replicate a b 8))
-    ∙ numbers-append (replicate a 8) (replicate b 8) l m (h ∙ sym (total-octets a))
+    ∙ numbers-append (replicate a 8) (replicate b 8) l m (h ∙ sym (total-same a 8))
 
 fields-laid : (s : List ℕ) → bits s ≡ laid (replicate (length s) 8) s
 unfolding fields laid
@@ -211,7 +210,7 @@ fields-laid (x ∷ s) = ap (λ (l : List Bool). field 8 x ++ l) (fields-laid s)
 pub bits-octets : (n : ℕ) (l : List Bool) → length l ≡ 8 * n → bits (octets n l) ≡ l
 bits-octets n l h =
     fields-laid (octets n l) ∙ ap (λ (k : ℕ). laid (replicate k 8) (octets n l)) (length-octets n l)
-    ∙ laid-numbers (replicate n 8) l (h ∙ sym (total-octets n))
+    ∙ laid-numbers (replicate n 8) l (h ∙ sym (total-same n 8))
 
 fits-octets : (s : List ℕ) → ((i : ℕ) → getD s i 0 < 2 ^ 8) → Fits (replicate (length s) 8) s
 unfolding Fits
@@ -339,11 +338,6 @@ numbers-more [] v l = refl
 numbers-more (w ∷ ws) v l =
     ap (_∷_ (value (take w l)))
     (numbers-more ws v (drop w l) ∙ ap (λ (m : List Bool). numbers ws (drop w l) ++ (value (take v m) ∷ [])) (drop-drop (total ws) w l))
-
-pub total-same : (n w : ℕ) → total (replicate n w) ≡ w * n
-unfolding total
-total-same zero w = sym (mul-zero w)
-total-same (suc n) w = ap (_+_ w) (total-same n w) ∙ add-comm w (w * n) ∙ sym (mul-suc w n)
 
 -- numbers fit if each does
 pub fits-each : (ws f : List ℕ) → length f ≡ length ws → ((k : ℕ) → k < length ws → getD f k 0 < 2 ^ getD ws k 0) → Fits ws f

@@ -2,8 +2,8 @@
 -- Assumes nothing.
 use mathlib.Core.Path.{_≡_, refl, sym, ap, ap₂, _∙_}
 use mathlib.Core.Bool.{Bool, true, false, xor, cond}
-use mathlib.Core.List.{List, [], _∷_, _++_}
-use Prim.Native.Nat.{ℕ, zero, suc, _+_, _*_, _/_, _%_, _^_, _≤_, _<_}
+use mathlib.Core.List.{List, [], _∷_}
+use Prim.Native.Nat.{ℕ, _+_, _*_, _/_, _%_, _^_, _<_}
 use native.Mathlib.Nat.{div-div-eq-div-mul, mod-eq-of-lt}
 use native.Mathlib.Omega.{arith}
 use lib.Bits.{bitAnd, bitXor, and-mask}
@@ -11,7 +11,7 @@ use lib.Dec.{eqb, T, eqb→eq}
 use lib.Pow.{shr-shr}
 use borrow.Author.Tests.{eq-eqb}
 use lib.ListN.{length}
-use Rattle.lists.specs.Tests.{all, all-holds, both, not-same, true-false}
+use Rattle.lists.specs.Tests.{all, all-holds, not-same, true-false}
 use Rattle.bits.specs.Bits.{value, field, odd}
 use Rattle.bits.specs.Laws.{value-lt, value-field, field-value, field-add, field-low}
 use Rattle.crc.specs.Crc.{Rem, rem, none, sent, fed, fedAll, code, coded, right}

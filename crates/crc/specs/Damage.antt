@@ -2,18 +2,17 @@
 -- Assumes nothing.
 use mathlib.Core.Path.{_≡_, refl, sym, ap, ap₂, _∙_, subst}
 use mathlib.Core.Bool.{Bool, true, false, xor, not}
-use mathlib.Core.List.{List, [], _∷_, _++_, append-assoc}
-use mathlib.Core.Logic.{_↔_, _⊎_, inl, inr}
-use Prim.Native.Nat.{ℕ, zero, suc, _+_, _-_, _*_, _%_, _≤_, _<_}
-use native.Mathlib.Nat.{add-zero, add-suc, suc-add}
+use mathlib.Core.List.{List, [], _∷_, _++_}
+use mathlib.Core.Logic.{inl, inr}
+use Prim.Native.Nat.{ℕ, zero, suc, _+_, _-_, _%_, _≤_, _<_}
 use native.Mathlib.Decide.{ℕ-discrete, decLt, decLe}
 use native.Mathlib.Omega.{arith}
-use lib.ListN.{length, length-drop, length-take, take, drop, getD, set, length-set, length-append, take-append-drop, replicate, length-replicate, getD-replicate, replicate-append-replicate, List·getD-eq-default}
+use lib.ListN.{length, length-drop, take, drop, getD, length-set, take-append-drop, replicate, length-replicate, getD-replicate, replicate-append-replicate, List·getD-eq-default}
 use lib.Seq.{ext-getD, getD-set-same, getD-set-other, getD-drop, getD-take, length-take-le, drop-drop}
 use Rattle.lists.specs.Tests.{true-false}
 use Rattle.lists.specs.Parts.{part, length-part}
-use Rattle.crc.specs.Crc.{Rem, rem, none, next, after, sent, crc, Right, right, flip, mixed, times, Burst, Double, Damaged}
-use Rattle.crc.specs.Laws.{_⊕_, after-add, after-append, after-none, after-sent, add-none, none-add, add-self, length-mixed, length-sent, four, burst, two-flips, xor-self, xor-false, false-xor, xor-assoc, right-true, right-false, mixed-none}
+use Rattle.crc.specs.Crc.{Rem, none, sent, Right, right, flip, mixed, Burst, Double, Damaged}
+use Rattle.crc.specs.Laws.{length-mixed, four, burst, two-flips, xor-self, false-xor, xor-assoc, right-false}
 
 -- ---- adding bit by bit
 getD-mixed : (l m : List Bool) (i : ℕ) → length l ≡ length m → getD (mixed l m) i false ≡ xor (getD l i false) (getD m i false)
@@ -171,3 +170,54 @@ damage-named n p q h ok d = right-false n q (damage-seen n p q h ok d)
 -- and an undamaged packet is never taken for a damaged one
 pub damage-apart : (n : ℕ) (o p q : List Bool) → length p ≡ n + 4 → Right n o → Right n p → Damaged p q → o ≡ q → ⊥
 damage-apart n o p q h oo op d e = damage-seen n p q h op d (subst (Right n) e oo)
+
+-- ---- what `Burst` and `Double` cover: one flip, and two
+no-fix : (b : Bool) → b ≡ not b → ⊥
+no-fix true e = true-false e
+no-fix false e = true-false (sym e)
+
+flipped : (l : List Bool) (i : ℕ) → i < length l → getD (flip l i) i false ≡ not (getD l i false)
+flipped l i h = getD-set-same l i (not (getD l i false)) false h
+
+elsewhere : (l : List Bool) (i t : ℕ) → (t ≡ i → ⊥) → getD (flip l i) t false ≡ getD l t false
+elsewhere l i t d = getD-set-other l i t (not (getD l i false)) false d
+
+pub length-flip : (l : List Bool) (i : ℕ) → length (flip l i) ≡ length l
+length-flip l i = length-set l i (not (getD l i false))
+
+-- one flip is a burst
+pub flip-burst : (p : List Bool) (i : ℕ) → i < length p → Burst p (flip p i)
+flip-burst p i h = record {
+  size = length-flip p i;
+  start = i;
+  place = i;
+  differs = λ e. no-fix (getD p i false) (e ∙ flipped p i h);
+  before = λ t k. sym (elsewhere p i t (λ e. omega arith));
+  behind = λ t k. sym (elsewhere p i t (λ e. omega arith));
+}
+
+-- and so are two, no more than three places apart
+pub flips-burst : (p : List Bool) (i j : ℕ) → i < j → j < i + 4 → j < length p → Burst p (flip (flip p i) j)
+flips-burst p i j o k h = record {
+  size = length-flip (flip p i) j ∙ length-flip p i;
+  start = i;
+  place = i;
+  differs = λ e. no-fix (getD p i false) (e ∙ elsewhere (flip p i) j i (λ z. omega arith) ∙ flipped p i (omega arith));
+  before = λ t l. sym (elsewhere (flip p i) j t (λ z. omega arith) ∙ elsewhere p i t (λ z. omega arith));
+  behind = λ t l. sym (elsewhere (flip p i) j t (λ z. omega arith) ∙ elsewhere p i t (λ z. omega arith));
+}
+
+-- two flips anywhere, at a distance that is no multiple of 15
+pub flips-double : (p : List Bool) (i j : ℕ) → i < j → j < length p → ((j - i) % 15 ≡ 0 → ⊥) → Double p (flip (flip p i) j)
+flips-double p i j o h d = record {
+  size = length-flip (flip p i) j ∙ length-flip p i;
+  one = i;
+  two = j;
+  order = o;
+  distance = d;
+  at-one = λ e. no-fix (getD p i false) (e ∙ elsewhere (flip p i) j i (λ z. omega arith) ∙ flipped p i (omega arith));
+  at-two = λ e.
+      let l : j < length (flip p i) = rw length-flip h in
+      no-fix (getD p j false) (e ∙ flipped (flip p i) j l ∙ ap not (elsewhere p i j (λ z. omega arith)));
+  else = λ t a b. sym (elsewhere (flip p i) j t b ∙ elsewhere p i t a);
+}

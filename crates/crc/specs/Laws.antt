@@ -4,14 +4,14 @@ use mathlib.Core.Path.{_≡_, refl, sym, ap, ap₂, _∙_, subst}
 use mathlib.Core.Bool.{Bool, true, false, xor, not, _||_}
 use mathlib.Core.List.{List, [], _∷_, _++_, append-assoc, append-nil}
 use mathlib.Core.Logic.{_↔_}
-use Prim.Native.Nat.{ℕ, zero, suc, _+_, _-_, _*_, _/_, _%_, _^_, _≤_, _<_}
+use Prim.Native.Nat.{ℕ, zero, suc, _+_, _-_, _*_, _/_, _%_, _<_}
 use native.Mathlib.Nat.{zero-add, suc-add, add-suc, div-add-mod', mod-lt}
 use native.Mathlib.Omega.{arith}
 use lib.Dec.{eqb, T, lit<, eqb→eq, eqb-refl}
 use lib.ListN.{length, length-drop, take-append-drop, take, drop, getD, length-set, length-append, replicate, length-replicate}
-use Rattle.lists.specs.Tests.{all, all-holds, true-false, both}
+use Rattle.lists.specs.Tests.{all, all-holds, true-false}
 use Rattle.bits.specs.Bits.{value}
-use Rattle.crc.specs.Crc.{Rem, rem, none, next, after, sent, crc, code, fed, fedAll, Right, right, alike, flip, mixed, times}
+use Rattle.crc.specs.Crc.{Rem, rem, none, next, after, sent, crc, code, fed, fedAll, Right, right, alike, flip, mixed}
 
 pub xor-false : (a : Bool) → xor a false ≡ a
 unfolding xor
@@ -176,7 +176,7 @@ four (a ∷ b ∷ c ∷ d ∷ e ∷ l) h = absurd (omega arith)
 
 pub after-sent : (r : Rem) → after none (sent r) ≡ r
 unfolding after
-after-sent (rem a b c d) = simp (xor-false, false-xor)
+after-sent (rem a b c d) = simp xor-false
 
 pub mixed-none : (l : List Bool) → mixed (replicate (length l) false) l ≡ l
 unfolding mixed
@@ -263,7 +263,7 @@ burst n a c p b h l nz ok g =
 fed-add : (r : Rem) (b : Bool) → fed r b ≡ next r false ⊕ after none (b ∷ replicate 4 false)
 unfolding after xor
 fed-add (rem a b c d) true = simp (xor-false, false-xor, xor-assoc)
-fed-add (rem a b c d) false = simp (xor-false, false-xor, xor-assoc)
+fed-add (rem a b c d) false = simp (xor-false, false-xor)
 
 pub crc-snoc : (l : List Bool) (b : Bool) → crc (l ++ (b ∷ [])) ≡ fed (crc l) b
 unfolding crc
@@ -334,3 +334,19 @@ right-false n p f = go (right n p) refl
     go : (b : Bool) → right n p ≡ b → right n p ≡ false
     go true e = absurd (f (right-true n p .0 e))
     go false e = e
+
+-- ---- LINEAR: the CRC of two strings of bits of one length, added, is their CRCs, added
+mixed-append : (l m y z : List Bool) → length l ≡ length m → mixed (l ++ y) (m ++ z) ≡ mixed l m ++ mixed y z
+unfolding mixed
+mixed-append [] [] y z h = refl
+mixed-append [] (b ∷ m) y z h = absurd (omega arith)
+mixed-append (a ∷ l) [] y z h = absurd (omega arith)
+mixed-append (a ∷ l) (b ∷ m) y z h = ap (_∷_ (xor a b)) (mixed-append l m y z (omega arith))
+
+pub crc-add : (l m : List Bool) → length l ≡ length m → crc (mixed l m) ≡ crc l ⊕ crc m
+unfolding crc
+crc-add l m h =
+    let z = replicate 4 false in
+    let n : length (l ++ z) ≡ length (m ++ z) = rw (length-append, length-append) (omega arith) in
+    let e : mixed (l ++ z) (m ++ z) ≡ mixed l m ++ z = mixed-append l m z z h ∙ ap (_++_ (mixed l m)) (mixed-none z) in
+    ap (after none) (sym e) ∙ ap (λ (r : Rem). after r (mixed (l ++ z) (m ++ z))) (sym (add-none none)) ∙ after-add none none (l ++ z) (m ++ z) n

@@ -1,26 +1,26 @@
 -- The last step of each function, as a law over lists and numbers: words joined from frames and CRC, stored as octets, and taken apart.
 -- Assumes nothing.
 use mathlib.Core.Path.{_≡_, refl, sym, ap, ap₂, _∙_, subst}
-use mathlib.Core.Bool.{Bool, true, false, xor}
+use mathlib.Core.Bool.{Bool, xor}
 use mathlib.Core.List.{List, [], _∷_, _++_, append-assoc}
-use Prim.Native.Nat.{ℕ, zero, suc, _+_, _-_, _*_, _/_, _%_, _^_, _≤_, _<_}
+use Prim.Native.Nat.{ℕ, _+_, _-_, _*_, _/_, _%_, _^_, _≤_, _<_}
 use native.Mathlib.Nat.{add-zero, mod-lt, lt-of-lt-of-le}
 use native.Mathlib.Numerals.{add-one}
 use native.Mathlib.Omega.{arith}
 use lib.Bits.{bitAnd, bitOr, and-mask, or-zero-l, or-lt, mask-lt}
 use lib.Dec.{eqb, lit<, lit≤}
 use lib.Pow.{pow-pos, shr-lt}
-use lib.ListN.{length, take, drop, getD, set, length-drop, length-append, take-append-drop, replicate, length-replicate, replicate-append-replicate}
-use lib.Seq.{take-add, drop-drop, length-take-le, drop-at, take-at, take-take}
+use lib.ListN.{length, take, drop, getD, set, length-append, take-append-drop, replicate, length-replicate, replicate-append-replicate}
+use lib.Seq.{take-add, drop-drop, length-take-le, drop-at}
 use Rattle.lists.specs.Parts.{part, over, over-none, over-over, length-over, set-over, behind, length-part}
-use Rattle.layout.specs.Layout.{widths, frameIndices, frameBits, dataBits, packetBits, crcBits, firstFrame, secondFrame}
+use Rattle.layout.specs.Layout.{widths, frameIndices, frameBits, firstFrame, secondFrame}
 use Rattle.bits.specs.Bits.{bits, field, value, laid, numbers, octets, total}
-use Rattle.bits.specs.Laws.{length-field, field-value, field-add, field-low, take-field, field-part, value-field, value-lt, length-laid, length-numbers, laid-append, laid-one, numbers-more, numbers-front, total-same, octets-append, length-octets, joined, joined-lt, word-add, in-word, length-bits}
+use Rattle.bits.specs.Laws.{length-field, field-value, field-add, field-low, take-field, field-part, value-field, value-lt, length-laid, length-numbers, laid-append, laid-one, numbers-more, numbers-front, total-same, octets-append, length-octets, joined, joined-lt, word-add, in-word}
 use Rattle.crc.specs.Crc.{Rem, crc, code, coded, none, sent, fedAll, right}
 use Rattle.crc.specs.Laws.{crc-fed, fed-append, length-sent}
-use Rattle.crc.proofs.Register.{coded-code, code-none, right-test, code-lt}
+use Rattle.crc.proofs.Register.{coded-code, right-test, code-lt}
 use Rattle.packet.specs.Packet.{frame, indices, guarded, packet, apart, row, frameAt, packetOf, stream}
-use Rattle.packet.specs.Laws.{length-frame, total-widths, length-row, row-past, length-packetOf, length-stream, stream-add}
+use Rattle.packet.specs.Laws.{length-frame, total-widths, length-row, row-past, length-stream, stream-add}
 
 -- ---- a frame as a word
 pub frame-none : (idx : List ℕ) (at : ℕ) → 0 ≡ value (laid (replicate 0 6) (row idx at 0))

@@ -3,13 +3,13 @@
 use mathlib.Core.Path.{_≡_, refl}
 use mathlib.Core.Bool.{Bool, true, false, xor}
 use mathlib.Core.List.{List, [], _∷_, _++_}
-use Prim.Native.Nat.{ℕ, zero, suc, _+_}
+use Prim.Native.Nat.{ℕ}
 use native.Mathlib.Omega.{arith}
 use lib.Dec.{lit<}
-use lib.ListN.{length, getD, replicate}
+use lib.ListN.{length, replicate}
 use Rattle.layout.specs.Layout.{widths, dataBits, packetBits}
 use Rattle.bits.specs.Bits.{field, laid}
-use Rattle.crc.specs.Crc.{rem, crc, sent, after, Right, flip}
+use Rattle.crc.specs.Crc.{rem, crc, after, Right, flip}
 use Rattle.crc.specs.Laws.{two-flips}
 use Rattle.packet.specs.Packet.{frame, guarded, packet}
 

@@ -5,19 +5,20 @@ use mathlib.Core.Path.{_≡_, refl, sym, ap, ap₂, _∙_, subst}
 use mathlib.Core.Bool.{Bool, true, false}
 use mathlib.Core.List.{List, [], _∷_, _++_, append-assoc, append-nil}
 use mathlib.Core.Logic.{_↔_}
-use Prim.Native.Nat.{ℕ, zero, suc, _+_, _-_, _*_, _^_, _≤_, _<_}
+use Prim.Native.Nat.{ℕ, zero, suc, _+_, _*_, _^_, _≤_, _<_}
 use native.Mathlib.Nat.{add-zero, add-suc, le-of-eq}
 use native.Mathlib.Numerals.{add-one}
 use native.Mathlib.Decide.{decLt}
 use native.Mathlib.Omega.{arith}
 use lib.ListN.{length, take, drop, getD, length-drop, length-append, take-append-drop, replicate, List·getD-append, List·getD-eq-default, replicate-append-replicate}
 use lib.Seq.{take-suc, take-all, take-at, drop-at, length-take-le, getD-drop, getD-at, take-add}
-use Rattle.lists.specs.Parts.{part, part-left, part-right, length-part}
+use Rattle.lists.specs.Parts.{part, part-left, part-right}
 use Rattle.layout.specs.Layout.{widths, frameIndices, frameBits, dataBits, packetBits, crcBits, streamOctets, multiframePairs, firstFrame, secondFrame}
-use Rattle.bits.specs.Bits.{bits, field, laid, numbers, octets, total, Fits}
-use Rattle.bits.specs.Laws.{length-laid, length-numbers, numbers-laid, laid-numbers, numbers-front, fits-numbers, fits-each, bits-octets, length-octets}
-use Rattle.crc.specs.Crc.{Rem, crc, sent, Right, right}
+use Rattle.bits.specs.Bits.{bits, octets, total, Fits}
+use Rattle.bits.specs.Laws.{length-laid, numbers-laid, laid-numbers, numbers-front, fits-each, bits-octets}
+use Rattle.crc.specs.Crc.{crc, sent, Right, right, Damaged}
 use Rattle.crc.specs.Laws.{length-sent, right-true}
+use Rattle.crc.specs.Damage.{damage-named, damage-apart}
 use Rattle.packet.specs.Packet.{frame, indices, guarded, packet, apart, row, frameAt, packetOf, stream}
 
 -- ---- frames
@@ -116,6 +117,11 @@ module _ (ws : List ℕ) where
   pub packet-same : (f g f′ g′ : List ℕ) → Fits ws f → Fits ws g → Fits ws f′ → Fits ws g′ → packet ws f g ≡ packet ws f′ g′ → f ++ g ≡ f′ ++ g′
   packet-same f g f′ g′ hf hg hf′ hg′ e = sym (packet-back f g hf hg) ∙ ap (apart ws) e ∙ packet-back f′ g′ hf′ hg′
 
+-- the same of the layout's 92 bits
+pub packet-92 : (p : List Bool) → length p ≡ packetBits → (packet widths (indices widths p) (indices widths (drop frameBits p)) ≡ p) ↔ Right dataBits p
+unfolding total
+packet-92 p h = packet-again widths p h
+
 -- ---- frames of index octets
 pub length-row : (idx : List ℕ) (at n : ℕ) → length (row idx at n) ≡ n
 unfolding row
@@ -181,6 +187,31 @@ pub packetOf-back : (idx : List ℕ) (q : ℕ) → Fits widths (frameAt idx (fir
     → apart widths (packetOf idx q) ≡ frameAt idx (firstFrame q) ++ frameAt idx (secondFrame q)
 unfolding packetOf
 packetOf-back idx q = packet-back widths (frameAt idx (firstFrame q)) (frameAt idx (secondFrame q))
+
+-- packets that are the same hold the same frames
+pub packetOf-same : (idx other : List ℕ) (q r : ℕ) → Fits widths (frameAt idx (firstFrame q)) → Fits widths (frameAt idx (secondFrame q))
+    → Fits widths (frameAt other (firstFrame r)) → Fits widths (frameAt other (secondFrame r)) → packetOf idx q ≡ packetOf other r
+    → (frameAt idx (firstFrame q) ≡ frameAt other (firstFrame r)) × (frameAt idx (secondFrame q) ≡ frameAt other (secondFrame r))
+packetOf-same idx other q r hf hg hf′ hg′ e =
+    let f = frameAt idx (firstFrame q) in
+    let g = frameAt idx (secondFrame q) in
+    let f′ = frameAt other (firstFrame r) in
+    let g′ = frameAt other (secondFrame r) in
+    let s : f ++ g ≡ f′ ++ g′ = sym (packetOf-back idx q hf hg) ∙ ap (apart widths) e ∙ packetOf-back other r hf′ hg′ in
+    let lf : length f ≡ frameIndices = length-row idx (frameIndices * firstFrame q) frameIndices in
+    let lf′ : length f′ ≡ frameIndices = length-row other (frameIndices * firstFrame r) frameIndices in (
+      sym (take-at f g frameIndices lf) ∙ ap (take frameIndices) s ∙ take-at f′ g′ frameIndices lf′,
+      sym (drop-at f g frameIndices lf) ∙ ap (drop frameIndices) s ∙ drop-at f′ g′ frameIndices lf′,
+    )
+
+-- DAMAGE TO IT IS NAMED by the reader's test
+pub packetOf-damaged : (idx : List ℕ) (q : ℕ) (p : List Bool) → Damaged (packetOf idx q) p → right dataBits p ≡ false
+packetOf-damaged idx q p d = damage-named dataBits (packetOf idx q) p (length-packetOf idx q) (packetOf-right idx q) d
+
+-- AND NO DAMAGED PACKET IS ANOTHER, undamaged one
+pub packetOf-apart : (idx other : List ℕ) (q r : ℕ) (p : List Bool) → Damaged (packetOf other r) p → packetOf idx q ≡ p → ⊥
+packetOf-apart idx other q r p d e =
+    damage-apart dataBits (packetOf idx q) (packetOf other r) p (length-packetOf other r) (packetOf-right idx q) (packetOf-right other r) d e
 
 pub length-stream : (idx : List ℕ) (q n : ℕ) → length (stream idx q n) ≡ packetBits * n
 unfolding stream

@@ -26,14 +26,14 @@ const TWO: usize = 2 * PacketLayout::BITS / 8;
 
 const FULL: usize = WORD / 8;
 
-// A frame's whole octets, their bits, and the bits behind them; with four bits more a frame is whole octets.
+// A frame's whole octets, their bits, and the bits behind them; with the CRC's four bits more a frame is one octet more.
 const WHOLE: u32 = (FrameLayout::BITS / 8) as u32;
 
 const WHOLE_BITS: usize = FrameLayout::BITS / 8 * 8;
 
 const LEFT_BITS: usize = FrameLayout::BITS - WHOLE_BITS;
 
-const WITH_CRC: u32 = ((FrameLayout::BITS + PacketLayout::CRC_BITS) / 8) as u32;
+const WITH_CRC: u32 = WHOLE + 1;
 
 // From a packet's first octet to the word of its second frame, and from that word's start to the frame.
 const AHEAD: usize = 4;

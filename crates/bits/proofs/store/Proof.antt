@@ -1,7 +1,7 @@
 -- `bits::store` meets its contract: after k turns the low k octets of the word lie over the slice from octet i on.
 -- Assumes nothing.
 use mathlib.Core.Path.{_≡_, refl, ap, _∙_}
-use Prim.Native.Nat.{ℕ, _+_, _-_, _*_, _/_, _^_, _≤_}
+use Prim.Native.Nat.{ℕ, _-_, _*_, _/_, _^_, _≤_}
 use native.Mathlib.Omega.{arith}
 use lib.Bits.{mask-lt}
 use lib.ListN.{length, length-set}

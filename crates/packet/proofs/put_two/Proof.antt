@@ -1,6 +1,5 @@
 -- `packet::put_two` meets its contract: three stores behind each other hold the 184 bits of two packets.
 -- Assumes nothing.
-use native.Mathlib.Omega.{arith}
 use denote.Ref.{now}
 use Rattle.packet.proofs.Steps.{put-two-law}
 use borrow.Author.Needs.{needs}

@@ -1,7 +1,6 @@
 -- `crc::Crc::new` meets its contract: nothing fed is the number 0.
 -- Assumes nothing.
 use Rattle.crc.proofs.Register.{code-none}
-use borrow.Author.Needs.{needs}
 use Rattle.crc.proofs.Crc.new.Statement.{statement}
 use Rattle.crc.proofs.Crc.new.Tie as tie
 

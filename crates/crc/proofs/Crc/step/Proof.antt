@@ -1,11 +1,10 @@
 -- `crc::Crc::step` meets its contract: a test over the sixteen registers, for each bit.
 -- Assumes nothing.
-use mathlib.Core.Path.{_≡_, sym, ap, _∙_}
+use mathlib.Core.Path.{sym, ap, _∙_}
 use mathlib.Core.Bool.{Bool, cond, xor}
-use Prim.Native.Nat.{ℕ, _/_, _%_}
+use Prim.Native.Nat.{_/_}
 use lib.Bits.{bitXor}
 use Rattle.crc.proofs.Register.{step-law}
-use borrow.Author.Needs.{needs}
 use Rattle.crc.proofs.Crc.step.Statement.{statement}
 use Rattle.crc.proofs.Crc.step.Tie as tie
 
