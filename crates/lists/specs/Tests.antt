@@ -1,7 +1,7 @@
 -- Trees of tests, and tests that are computed at every number below a bound.
 -- Assumes nothing.
 use mathlib.Core.Path.{_≡_, refl, sym, subst}
-use mathlib.Core.Bool.{Bool, true, false}
+use mathlib.Core.Bool.{Bool, true, false, not}
 use Prim.Native.Nat.{ℕ, zero, suc, _<_}
 use native.Mathlib.Decide.{ℕ-discrete}
 use native.Mathlib.Omega.{arith}
@@ -21,6 +21,16 @@ by-test P false f g = g refl
 -- true is not false
 pub true-false : true ≡ false → ⊥
 true-false e = let z : _≡_ {A = ℕ} 0 1 = cc in omega arith
+
+-- a test whose negation fails holds
+pub not-false : (b : Bool) → not b ≡ false → b ≡ true
+not-false true e = refl
+not-false false e = absurd (true-false e)
+
+-- and one whose negation holds fails
+pub not-true : (b : Bool) → not b ≡ true → b ≡ false
+not-true true e = absurd (true-false (sym e))
+not-true false e = refl
 
 -- two numbers that differ fail the test
 pub not-same : (a b : ℕ) → (a ≡ b → ⊥) → eqb a b ≡ false

@@ -2,7 +2,7 @@
 -- Assumes nothing.
 use mathlib.Core.Path.{_≡_, refl, sym, ap, ap₂, _∙_}
 use Prim.Native.Nat.{ℕ, _+_, _*_, _/_, _%_, _^_, _<_}
-use native.Mathlib.Nat.{mod-lt, mod-eq-of-lt}
+use native.Mathlib.Nat.{mod-lt, mod-eq-of-lt, mod-mod}
 use native.Mathlib.Omega.{arith}
 use lib.Bits.{bitAnd, bitOr, and-mask, or-shifted-r}
 use lib.Dec.{lit<}
@@ -160,6 +160,11 @@ common-masked m h =
     let l : m % 8 < 2 ^ 7 = omega arith in
     rw (and-mask m 3, s, or-shifted-r (m / 128) 7 (m % 8) l)
     (low-three m h ∙ sym (plain (rateOf m) (typeOf m) 0 (expOf m) (rate-lt m) (type-lt m) (lit< tt) (exp-lt m)))
+
+-- the counter counts modulo 16
+pub count-mod : (r t c e : ℕ) → message r t (c % 16) e ≡ message r t c e
+unfolding message
+count-mod r t c e = rw (mod-mod c 16)
 
 -- ---- the messages of 01's examples, as numbers
 pub message-counts : (message 0 0 1 0 ≡ 8) × (message 0 0 2 0 ≡ 16) × (message 0 0 3 0 ≡ 24)

@@ -1,0 +1,248 @@
+-- Laws of the writer's definitions: searches, lengths, and what an accepted utterance has.
+-- Assumes nothing.
+use mathlib.Core.Path.{_≡_, refl, sym, ap, ap₂, _∙_, subst}
+use mathlib.Core.Bool.{Bool, true, false}
+use mathlib.Core.List.{List, [], _∷_, _++_, append-assoc}
+use Prim.Native.Nat.{ℕ, zero, suc, _+_, _-_, _*_, _/_, _%_, _≤_, _<_}
+use native.Mathlib.Numerals.{add-one}
+use native.Mathlib.Decide.{ℕ-discrete}
+use native.Mathlib.Omega.{arith}
+use lib.ListN.{length, length-append}
+use lib.Dec.{eqb, ltb}
+use borrow.Author.Tests.{eq-eqb, ne-eqb, lt-ltb, le-ltb, eqb-true, ltb-false}
+use Rattle.lists.specs.Tests.{when, by-test}
+use Rattle.lists.specs.Parts.{over, over-none, behind}
+use Rattle.layout.specs.Layout.{frameIndices, multiframeFrames, multiframePairs, multiframeOctets, syncOctets, headerOctets, streamOctets, mostFrames, mostMultiframes, firstPair}
+use Rattle.bits.specs.Bits.{field, octets, numbers, value}
+use Rattle.bits.specs.Laws.{length-octets}
+use Rattle.packet.specs.Packet.{stream}
+use Rattle.header_code.specs.Code.{codeword}
+use Rattle.header.specs.Message.{message}
+use Rattle.writer.specs.Writing.{Search, at, nowhere, firstFrom, isFound, settingsRight, frameCount, isZero, endsEarly, firstWide, firstEarly, roomAnswer, earlyAnswer, wideAnswer, needed, verdict, multiframesFor, multiframe, image, outcome, writing}
+use Rattle.writer.specs.declared.Refusal.{Refusal}
+use Rattle.writer.specs.declared.Answer.{Answer}
+use Rattle.writer.specs.declared.Refusal.the-variants.{Settings, PartFrame, TooMany, WideIndex, ZeroFrame, OutputShort}
+use Rattle.writer.specs.declared.Answer.the-variants.{Written, Refused}
+use Rattle.writer.specs.declared.Found.{Found}
+use Rattle.writer.specs.declared.Found.the-variants.{At, Nowhere}
+
+-- what the code's search found
+abbrev pub foundAs : Found → Search
+foundAs (At f) = at (f .0)
+foundAs Nowhere = nowhere
+
+-- ---- a search that has passed i of n places
+module _ (f : ℕ → Bool) (k n i : ℕ) where
+  -- so far nothing: what the whole finds is what the rest finds
+  abbrev pub Passed : Type 0
+  Passed = (i ≤ n) × (firstFrom f k n ≡ firstFrom f (k + i) (n - i))
+
+  ahead : i < n → firstFrom f (k + i) (n - i) ≡ when (f (k + i)) (at (k + i)) (firstFrom f (k + i + 1) (n - (i + 1)))
+  unfolding firstFrom
+  ahead h = let e : n - i ≡ suc (n - (i + 1)) = omega arith in ap (firstFrom f (k + i)) e
+
+  pub search-hit : Passed → i < n → f (k + i) ≡ true → firstFrom f k n ≡ at (k + i)
+  search-hit p h t = p .1 ∙ ahead h ∙ rw t
+
+pub search-begin : (f : ℕ → Bool) (k n : ℕ) → Passed f k n 0
+search-begin f k n = let e : k + 0 ≡ k = omega arith in let g : n - 0 ≡ n = omega arith in (omega arith, sym (ap (λ (x : ℕ). firstFrom f x (n - 0)) e ∙ ap (firstFrom f k) g))
+
+pub search-on : (f : ℕ → Bool) (k n i : ℕ) → Passed f k n i → i < n → f (k + i) ≡ false → Passed f k n (i + 1)
+search-on f k n i p h t =
+    let e : k + i + 1 ≡ k + (i + 1) = omega arith in
+    (omega arith, p .1 ∙ ahead f k n i h ∙ rw t (ap (λ (x : ℕ). firstFrom f x (n - (i + 1))) e))
+
+pub search-end : (f : ℕ → Bool) (k n i : ℕ) → Passed f k n i → n ≤ i → firstFrom f k n ≡ nowhere
+unfolding firstFrom
+search-end f k n i p h = let e : n - i ≡ 0 = omega arith in p .1 ∙ ap (firstFrom f (k + i)) e
+
+-- ---- when a zero frame ends the utterance too early
+module _ (idx : List ℕ) (k : ℕ) where
+  pub early-last : k + 1 ≡ frameCount idx → endsEarly idx k ≡ isZero idx k
+  early-last e = rw (eq-eqb (k + 1) (frameCount idx) e)
+
+  pub early-boundary : (k + 1 ≡ frameCount idx → ⊥) → (k + 1) % multiframeFrames ≡ 0 → endsEarly idx k ≡ isZero idx k
+  early-boundary n e = rw (ne-eqb (k + 1) (frameCount idx) n, eq-eqb ((k + 1) % multiframeFrames) 0 e)
+
+  pub early-never : (k + 1 ≡ frameCount idx → ⊥) → ((k + 1) % multiframeFrames ≡ 0 → ⊥) → endsEarly idx k ≡ false
+  early-never n m = rw (ne-eqb (k + 1) (frameCount idx) n, ne-eqb ((k + 1) % multiframeFrames) 0 m)
+
+-- ---- what a search says
+abbrev pub Says : (ℕ → Bool) → ℕ → ℕ → Search → Type 0
+Says f k n (at j) = (k ≤ j) × (j < k + n) × (f j ≡ true) × ((i : ℕ) → k ≤ i → i < j → f i ≡ false)
+Says f k n nowhere = (i : ℕ) → k ≤ i → i < k + n → f i ≡ false
+
+one-more : (f : ℕ → Bool) (k n : ℕ) (s : Search) → f k ≡ false → Says f (k + 1) n s → Says f k (suc n) s
+one-more f k n (at j) e h =
+    (omega (arith, h .0), omega (arith, h .1), h .2, λ i a b. elim (ℕ-discrete i k) [ yes p ↦ ap f p ∙ e | no d ↦ h .3 i (omega arith) b ])
+one-more f k n nowhere e h = λ i a b. elim (ℕ-discrete i k) [ yes p ↦ ap f p ∙ e | no d ↦ h i (omega arith) (omega arith) ]
+
+-- the first place from k on at which the test holds, and nowhere exactly if it holds at none of the n
+pub first-says : (f : ℕ → Bool) (k n : ℕ) → Says f k n (firstFrom f k n)
+unfolding firstFrom
+first-says f k zero = λ i a b. absurd (omega arith)
+first-says f k (suc n) =
+    by-test (Says f k (suc n)) (f k) (λ e. (omega arith, omega arith, e, λ i a b. absurd (omega arith))) (λ e. one-more f k n (firstFrom f (k + 1) n) e (first-says f (k + 1) n))
+
+pub first-at : (f : ℕ → Bool) (k n j : ℕ) → firstFrom f k n ≡ at j → Says f k n (at j)
+first-at f k n j e = subst (Says f k n) e (first-says f k n)
+
+pub first-nowhere : (f : ℕ → Bool) (k n : ℕ) → firstFrom f k n ≡ nowhere → (i : ℕ) → k ≤ i → i < k + n → f i ≡ false
+first-nowhere f k n e = subst (Says f k n) e (first-says f k n)
+
+-- ---- the answers, one by one, in 01's order
+-- the settings are right, the frames whole and not too many
+pub record Sized (rate type : ℕ) (idx : List ℕ) : Type 0 where
+  pub settings : settingsRight rate type ≡ true
+  pub whole : length idx % frameIndices ≡ 0
+  pub few : frameCount idx ≤ mostFrames
+
+module _ (rate type : ℕ) (idx : List ℕ) (out : ℕ) where
+  pub refuses-settings : settingsRight rate type ≡ false → verdict rate type idx out ≡ Refused Settings
+  unfolding verdict
+  refuses-settings e = rw e
+
+  pub refuses-part : settingsRight rate type ≡ true → (length idx % frameIndices ≡ 0 → ⊥) → verdict rate type idx out ≡ Refused (PartFrame (length idx))
+  unfolding verdict
+  refuses-part e n = rw (e, ne-eqb (length idx % frameIndices) 0 n)
+
+  pub refuses-many : settingsRight rate type ≡ true → length idx % frameIndices ≡ 0 → mostFrames < frameCount idx
+      → verdict rate type idx out ≡ Refused (TooMany (frameCount idx))
+  unfolding verdict
+  refuses-many e w h = rw (e, eq-eqb (length idx % frameIndices) 0 w, lt-ltb mostFrames (frameCount idx) h)
+
+  sized : Sized rate type idx → verdict rate type idx out ≡ wideAnswer out (needed idx) (firstEarly idx) (firstWide idx)
+  unfolding verdict
+  sized s = rw (s .settings, eq-eqb (length idx % frameIndices) 0 (s .whole), le-ltb mostFrames (frameCount idx) (s .few))
+
+  pub refuses-wide : Sized rate type idx → (k : ℕ) → firstWide idx ≡ at k → verdict rate type idx out ≡ Refused (WideIndex (k + 1))
+  refuses-wide s k e = sized s ∙ ap (wideAnswer out (needed idx) (firstEarly idx)) e
+
+  narrow : Sized rate type idx → firstWide idx ≡ nowhere → verdict rate type idx out ≡ earlyAnswer out (needed idx) (firstEarly idx)
+  narrow s e = sized s ∙ ap (wideAnswer out (needed idx) (firstEarly idx)) e
+
+  pub refuses-zero : Sized rate type idx → firstWide idx ≡ nowhere → (k : ℕ) → firstEarly idx ≡ at k
+      → verdict rate type idx out ≡ Refused (ZeroFrame (k + 1))
+  refuses-zero s e k g = narrow s e ∙ ap (earlyAnswer out (needed idx)) g
+
+  pub refuses-short : Sized rate type idx → firstWide idx ≡ nowhere → firstEarly idx ≡ nowhere → out < needed idx
+      → verdict rate type idx out ≡ Refused (OutputShort (needed idx))
+  unfolding roomAnswer
+  refuses-short s e g h = narrow s e ∙ ap (earlyAnswer out (needed idx)) g ∙ rw (lt-ltb out (needed idx) h)
+
+  pub accepts : Sized rate type idx → firstWide idx ≡ nowhere → firstEarly idx ≡ nowhere → needed idx ≤ out
+      → verdict rate type idx out ≡ Written (needed idx)
+  unfolding roomAnswer
+  accepts s e g h = narrow s e ∙ ap (earlyAnswer out (needed idx)) g ∙ rw (le-ltb out (needed idx) h)
+
+-- ---- a multiframe laid down in three stores: sync, header, stream
+sync-octets : octets syncOctets (field 16 0xB287) ≡ 0x87 ∷ 0xB2 ∷ []
+unfolding field numbers value
+sync-octets = refl
+
+pub laid-multiframe : (rate type : ℕ) (idx : List ℕ) (k word q : ℕ) (out synced headed done : List ℕ)
+    → multiframeOctets * k + multiframeOctets ≤ length out → word ≡ codeword (message rate type (k + 1) 0) → q ≡ firstPair k
+    → synced ≡ over out (multiframeOctets * k) syncOctets (octets syncOctets (field 16 0xB287))
+    → headed ≡ over synced (multiframeOctets * k + 2) headerOctets (octets headerOctets (field 32 word))
+    → done ≡ over headed (multiframeOctets * k + 2 + 4) streamOctets (octets streamOctets (stream idx q multiframePairs))
+    → done ≡ over out (multiframeOctets * k) multiframeOctets (multiframe rate type idx k)
+unfolding multiframe
+laid-multiframe rate type idx k word q out synced headed done room ew eq es eh ed =
+    let at = multiframeOctets * k in
+    let sync : List ℕ = 0x87 ∷ 0xB2 ∷ [] in
+    let head = octets headerOctets (field 32 (codeword (message rate type (k + 1) 0))) in
+    let body = octets streamOctets (stream idx (firstPair k) multiframePairs) in
+    let r₁ : at + 2 ≤ length out = omega arith in
+    let r₂ : at + 6 ≤ length out = omega arith in
+    let e₁ : synced ≡ over out at 2 sync = es ∙ ap (over out at 2) sync-octets in
+    let e₂ : headed ≡ over synced (at + 2) 4 head = eh ∙ ap (λ (w : ℕ). over synced (at + 2) 4 (octets headerOctets (field 32 w))) ew in
+    let f : headed ≡ over out at 6 (sync ++ head) = behind out at 2 4 sync head r₁ refl e₁ e₂ in
+    let p : at + 2 + 4 ≡ at + 6 = omega arith in
+    let e₃ : done ≡ over headed (at + 6) 138 body =
+    ed ∙ ap₂ (λ (x y : ℕ). over headed x 138 (octets streamOctets (stream idx y multiframePairs))) p eq in
+    let size : length (sync ++ head) ≡ 6 = ap (λ (n : ℕ). suc (suc n)) (length-octets 4 (field 32 (codeword (message rate type (k + 1) 0)))) in
+    behind out at 6 138 (sync ++ head) body r₂ size f e₃ ∙ ap (over out at 144) (append-assoc sync head body)
+
+-- ---- the image's length, and its multiframes one behind the other
+pub length-multiframe : (rate type : ℕ) (idx : List ℕ) (k : ℕ) → length (multiframe rate type idx k) ≡ multiframeOctets
+unfolding multiframe
+length-multiframe rate type idx k =
+    ap (λ (n : ℕ). suc (suc n))
+    (length-append (octets headerOctets (field 32 (codeword (message rate type (k + 1) 0)))) (octets streamOctets (stream idx (firstPair k) multiframePairs))
+    ∙ ap₂ _+_ (length-octets 4 (field 32 (codeword (message rate type (k + 1) 0)))) (length-octets 138 (stream idx (firstPair k) multiframePairs)))
+
+pub length-image : (rate type : ℕ) (idx : List ℕ) (m : ℕ) → length (image rate type idx m) ≡ multiframeOctets * m
+unfolding image
+length-image rate type idx zero = refl
+length-image rate type idx (suc m) = rw (length-append, length-image rate type idx m, length-multiframe rate type idx m) (omega arith)
+
+pub image-none : (rate type : ℕ) (idx out : List ℕ) → out ≡ over out 0 (multiframeOctets * 0) (image rate type idx 0)
+unfolding image
+image-none rate type idx out = over-none out 0
+
+pub image-more : (rate type : ℕ) (idx out : List ℕ) (k : ℕ) (was done : List ℕ) → multiframeOctets * k ≤ length out
+    → was ≡ over out 0 (multiframeOctets * k) (image rate type idx k)
+    → done ≡ over was (multiframeOctets * k) multiframeOctets (multiframe rate type idx k)
+    → done ≡ over out 0 (multiframeOctets * (k + 1)) (image rate type idx (k + 1))
+unfolding image
+image-more rate type idx out k was done room ew ed =
+    let e : multiframeOctets * k + multiframeOctets ≡ multiframeOctets * (k + 1) = omega arith in
+    let z : multiframeOctets * k ≡ 0 + multiframeOctets * k = omega arith in
+    behind out 0 (multiframeOctets * k) multiframeOctets (image rate type idx k) (multiframe rate type idx k) (omega arith) (length-image rate type idx k) ew
+    (ed ∙ ap (λ (x : ℕ). over was x multiframeOctets (multiframe rate type idx k)) z)
+    ∙ ap₂ (λ (n : ℕ) (l : List ℕ). over out 0 n l) e (ap (image rate type idx) (sym (add-one k)))
+
+-- ---- what an accepted utterance has, and that this is enough
+pub record Accepted (rate type : ℕ) (idx : List ℕ) (out n : ℕ) : Type 0 where
+  pub sizes : Sized rate type idx
+  pub narrow-indices : firstWide idx ≡ nowhere
+  pub speaks : firstEarly idx ≡ nowhere
+  pub octets-needed : n ≡ needed idx
+  pub room : needed idx ≤ out
+
+module _ (rate type : ℕ) (idx : List ℕ) (out : ℕ) where
+  abbrev AcceptedBy : Answer → Type 0
+  AcceptedBy (Written n) = Accepted rate type idx out n
+  AcceptedBy (Refused r) = Unit
+
+  accepted-by : AcceptedBy (verdict rate type idx out)
+  unfolding verdict roomAnswer
+  accepted-by =
+      by-test AcceptedBy (settingsRight rate type) (λ hs.
+      by-test AcceptedBy (eqb (length idx % frameIndices) 0) (λ hw.
+      by-test AcceptedBy (ltb mostFrames (frameCount idx)) (λ h. tt) (λ hf.
+      wide (firstWide idx) refl
+      (record { settings = hs; whole = eqb-true (length idx % frameIndices) 0 hw; few = ltb-false mostFrames (frameCount idx) hf }))) (λ h. tt)) (λ h. tt)
+    where
+      early : (s : Search) → firstEarly idx ≡ s → firstWide idx ≡ nowhere → Sized rate type idx → AcceptedBy (earlyAnswer out (needed idx) s)
+      early (at k) e w z = tt
+      early nowhere e w z =
+          by-test AcceptedBy (ltb out (needed idx)) (λ h. tt)
+          (λ h. record { sizes = z; narrow-indices = w; speaks = e; octets-needed = refl; room = ltb-false out (needed idx) h })
+
+      wide : (s : Search) → firstWide idx ≡ s → Sized rate type idx → AcceptedBy (wideAnswer out (needed idx) (firstEarly idx) s)
+      wide (at k) e z = tt
+      wide nowhere e z = early (firstEarly idx) refl e z
+
+  pub accepted : (n : ℕ) → verdict rate type idx out ≡ Written n → Accepted rate type idx out n
+  accepted n e = rw e at accepted-by
+
+-- 6,119 frames are 255 multiframes, and no accepted utterance has more
+pub few-multiframes : (rate type : ℕ) (idx : List ℕ) → Sized rate type idx → multiframesFor (frameCount idx) ≤ mostMultiframes
+few-multiframes rate type idx s = omega (arith, s .few)
+
+-- the writer's end: the first n octets are the image, the rest is as it came
+pub finishes : (rate type : ℕ) (idx out done : List ℕ) (n : ℕ) → verdict rate type idx (length out) ≡ Written n
+    → done ≡ over out 0 (multiframeOctets * (n / multiframeOctets)) (image rate type idx (n / multiframeOctets))
+    → outcome (Written n) done ≡ writing rate type idx out
+unfolding writing
+finishes rate type idx out done n e ed =
+    let a = accepted rate type idx (length out) n e in
+    let q : n / multiframeOctets ≡ multiframesFor (frameCount idx) = omega (arith, a .octets-needed) in
+    let p : multiframeOctets * multiframesFor (frameCount idx) ≡ n = sym (a .octets-needed) in
+    rw e (ap (outcome (Written n)) (ed ∙ ap (λ (m : ℕ). over out 0 (multiframeOctets * m) (image rate type idx m)) q
+    ∙ ap (λ (k : ℕ). over out 0 k (image rate type idx (multiframesFor (frameCount idx)))) p))
+
+pub leaves : (rate type : ℕ) (idx out : List ℕ) (r : Refusal) → verdict rate type idx (length out) ≡ Refused r → outcome (Refused r) out ≡ writing rate type idx out
+unfolding writing
+leaves rate type idx out r e = rw e

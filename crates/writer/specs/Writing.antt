@@ -1,0 +1,143 @@
+-- What the writer answers and leaves in the output, for every input (01, "Writing"). Frames count from 0 here; the places of refusals 4 and 5
+-- count them from 1, as 01 does.
+-- Assumes nothing.
+use Prim.Native.Nat.{ℕ, zero, suc, _+_, _-_, _*_, _/_, _%_}
+use mathlib.Core.Bool.{Bool, true, false, not}
+use mathlib.Core.List.{List, [], _∷_, _++_}
+use lib.Dec.{eqb, ltb}
+use lib.ListN.{length, getD}
+use Rattle.lists.specs.Tests.{when}
+use Rattle.lists.specs.Parts.{over}
+use Rattle.layout.specs.Layout.{frameIndices, multiframeFrames, multiframePairs, multiframeOctets, headerOctets, streamOctets, mostFrames, firstPair}
+use Rattle.bits.specs.Bits.{field, octets}
+use Rattle.packet.specs.Packet.{stream}
+use Rattle.header_code.specs.Code.{codeword}
+use Rattle.header.specs.Message.{message}
+use Rattle.writer.specs.declared.Refusal.{Refusal}
+use Rattle.writer.specs.declared.Refusal.the-variants.{Settings, PartFrame, TooMany, WideIndex, ZeroFrame, OutputShort}
+use Rattle.writer.specs.declared.Answer.{Answer}
+use Rattle.writer.specs.declared.Answer.the-variants.{Written, Refused}
+
+-- ---- 01's number and place of each answer: success is 0, and its value the octets written
+abbrev pub numberOf : Answer → ℕ
+numberOf (Written n) = 0
+numberOf (Refused Settings) = 1
+numberOf (Refused (PartFrame n)) = 2
+numberOf (Refused (TooMany n)) = 3
+numberOf (Refused (WideIndex k)) = 4
+numberOf (Refused (ZeroFrame k)) = 5
+numberOf (Refused (OutputShort n)) = 6
+
+abbrev pub placeOf : Answer → ℕ
+placeOf (Written n) = n
+placeOf (Refused Settings) = 0
+placeOf (Refused (PartFrame n)) = n
+placeOf (Refused (TooMany n)) = n
+placeOf (Refused (WideIndex k)) = k
+placeOf (Refused (ZeroFrame k)) = k
+placeOf (Refused (OutputShort n)) = n
+
+-- ---- the settings: rate 0, 1 or 3, type 0 or 1
+abbrev pub settingsRight : ℕ → ℕ → Bool
+settingsRight rate type = when (ltb 3 rate) false (when (eqb rate 2) false (when (ltb 1 type) false true))
+
+-- ---- the first place at which a test holds
+pub data Search : Type 0 where
+  at : ℕ → Search
+  nowhere : Search
+
+-- among the n places from k on
+unfoldable pub firstFrom : (ℕ → Bool) → ℕ → ℕ → Search
+firstFrom f k zero = nowhere
+firstFrom f k (suc n) = when (f k) (at k) (firstFrom f (k + 1) n)
+
+abbrev pub isFound : Search → Bool
+isFound (at k) = true
+isFound nowhere = false
+
+-- ---- frames
+abbrev pub frameCount : List ℕ → ℕ
+frameCount idx = length idx / frameIndices
+
+-- "for n frames, m = n div 24 + 1 multiframes"
+abbrev pub multiframesFor : ℕ → ℕ
+multiframesFor n = n / multiframeFrames + 1
+
+-- one of the first six indices of frame k is above 63
+abbrev pub isWide : List ℕ → ℕ → Bool
+isWide idx k = isFound (firstFrom (λ j. ltb 63 (getD idx j 0)) (frameIndices * k) (frameIndices - 1))
+
+-- all seven indices of frame k are zero: none is found that is not
+abbrev pub isZero : List ℕ → ℕ → Bool
+isZero idx k = not (isFound (firstFrom (λ j. not (eqb (getD idx j 0) 0)) (frameIndices * k) frameIndices))
+
+-- frame k of n must not be zero: it is the last, or its number from 1 is a multiple of 24
+abbrev pub mustSpeak : ℕ → ℕ → Bool
+mustSpeak n k = when (eqb (k + 1) n) true (eqb ((k + 1) % multiframeFrames) 0)
+
+abbrev pub endsEarly : List ℕ → ℕ → Bool
+endsEarly idx k = when (mustSpeak (frameCount idx) k) (isZero idx k) false
+
+-- ---- the first frame that 4 or 5 is about
+abbrev pub firstWide : List ℕ → Search
+firstWide idx = firstFrom (isWide idx) 0 (frameCount idx)
+
+abbrev pub firstEarly : List ℕ → Search
+firstEarly idx = firstFrom (endsEarly idx) 0 (frameCount idx)
+
+-- ---- every refusal, in 01's order
+-- 6: output shorter than 144m
+unfoldable pub roomAnswer : ℕ → ℕ → Answer
+roomAnswer out needed = when (ltb out needed) (Refused (OutputShort needed)) (Written needed)
+
+-- 5: a zero frame that must not be one
+abbrev pub earlyAnswer : ℕ → ℕ → Search → Answer
+earlyAnswer out needed (at k) = Refused (ZeroFrame (k + 1))
+earlyAnswer out needed nowhere = roomAnswer out needed
+
+-- 4: an index above 63; it is searched over all frames before 5
+abbrev pub wideAnswer : ℕ → ℕ → Search → Search → Answer
+wideAnswer out needed early (at k) = Refused (WideIndex (k + 1))
+wideAnswer out needed early nowhere = earlyAnswer out needed early
+
+abbrev pub needed : List ℕ → ℕ
+needed idx = multiframeOctets * multiframesFor (frameCount idx)
+
+-- 1: settings. 2: no multiple of 7. 3: more than 6,119 frames
+unfoldable pub verdict : ℕ → ℕ → List ℕ → ℕ → Answer
+verdict rate type idx out =
+    when (settingsRight rate type)
+    (when (eqb (length idx % frameIndices) 0)
+    (when (ltb mostFrames (frameCount idx)) (Refused (TooMany (frameCount idx)))
+    (wideAnswer out (needed idx) (firstEarly idx) (firstWide idx)))
+    (Refused (PartFrame (length idx))))
+    (Refused Settings)
+
+-- ---- the image
+-- multiframe k: sync 87 B2, the header's codeword with the counter 1 in the first and stepping modulo 16, and twelve packets; frames past
+-- the last are zeros
+unfoldable pub multiframe : ℕ → ℕ → List ℕ → ℕ → List ℕ
+multiframe rate type idx k =
+    (0x87 ∷ 0xB2 ∷ [])
+    ++ (octets headerOctets (field 32 (codeword (message rate type (k + 1) 0))) ++ octets streamOctets (stream idx (firstPair k) multiframePairs))
+
+-- m multiframes, one behind the other
+unfoldable pub image : ℕ → ℕ → List ℕ → ℕ → List ℕ
+image rate type idx zero = []
+image rate type idx (suc m) = image rate type idx m ++ multiframe rate type idx m
+
+-- ---- the answer and the output
+pub record Outcome : Type 0 where
+  pub answer : Answer
+  pub output : List ℕ
+
+abbrev pub outcome : Answer → List ℕ → Outcome
+outcome a o = record { answer = a; output = o }
+
+-- success lays the image over the output's front, and octets beyond stay; a refusal changes no octet
+abbrev pub finished : ℕ → ℕ → List ℕ → List ℕ → Answer → Outcome
+finished rate type idx out (Written n) = outcome (Written n) (over out 0 n (image rate type idx (multiframesFor (frameCount idx))))
+finished rate type idx out (Refused r) = outcome (Refused r) out
+
+unfoldable pub writing : ℕ → ℕ → List ℕ → List ℕ → Outcome
+writing rate type idx out = finished rate type idx out (verdict rate type idx (length out))

@@ -1,0 +1,210 @@
+// The writer: index octets, seven a frame, become the protected multiframes of an utterance, or a refusal with 01's number and place.
+use header::Fields;
+use layout::Frame;
+use layout::FrameLayout;
+use layout::Multiframe;
+use layout::MultiframeLayout;
+use layout::UtteranceLayout;
+ghost use mathlib.Core.Path.{_≡_};
+ghost use Prim.Native.Nat.{ℕ, _+_, _*_, _%_, _^_, _≤_, _<_};
+ghost use lib.ListN.{length};
+ghost use Rattle.lists.specs.Parts.{over};
+ghost use Rattle.layout.specs.Layout.{frameIndices, multiframeOctets, mostFrames, mostMultiframes};
+ghost use Rattle.writer.specs.Writing.{settingsRight, frameCount, isWide, isZero, endsEarly, firstWide, firstEarly, verdict, multiframe, image, outcome, writing};
+ghost use Rattle.writer.specs.Laws.{foundAs};
+
+// The sync, 87 B2 in sending order, as a word.
+const SYNC: u64 = 0xb287;
+
+// The largest index of six bits.
+const LARGEST: u8 = 63;
+
+// Why an utterance is not written: 01's refusals 1 to 6 with their places. Frames count from 1.
+pub enum Refusal {
+    Settings,
+    PartFrame { octets: usize },
+    TooMany { frames: usize },
+    WideIndex { frame: usize },
+    ZeroFrame { frame: usize },
+    OutputShort { needed: usize },
+}
+
+pub enum Answer {
+    Written { octets: usize },
+    Refused(Refusal),
+}
+
+// What a search over the frames finds: a frame, or none.
+pub enum Found {
+    At(Frame),
+    Nowhere,
+}
+
+// Is one of the first six indices of the frame above 63?
+fn is_wide(indices: &[u8], frame: Frame) -> bool
+    requires { ⌜ frameIndices * (frame .0 + 1) ≤ length (now indices) ⌝ }
+    ensures { λ r. ⌜ r ≡ isWide (now (indices .entry)) (frame .0) ⌝ }
+{
+    let from = FrameLayout::INDICES * frame.0;
+    for i in 0..FrameLayout::NARROW {
+        if LARGEST < indices[from + i] {
+            return true;
+        }
+    }
+    false
+}
+
+// Are all seven indices of the frame zero?
+fn is_zero(indices: &[u8], frame: Frame) -> bool
+    requires { ⌜ frameIndices * (frame .0 + 1) ≤ length (now indices) ⌝ }
+    ensures { λ r. ⌜ r ≡ isZero (now (indices .entry)) (frame .0) ⌝ }
+{
+    let from = FrameLayout::INDICES * frame.0;
+    for i in 0..FrameLayout::INDICES {
+        if indices[from + i] != 0 {
+            return false;
+        }
+    }
+    true
+}
+
+// Is it a zero frame that must not be one: the last, or one whose number from 1 is a multiple of 24?
+fn ends_early(indices: &[u8], frame: Frame) -> bool
+    requires { ⌜ frameIndices * (frame .0 + 1) ≤ length (now indices) ⌝ }
+    ensures { λ r. ⌜ r ≡ endsEarly (now (indices .entry)) (frame .0) ⌝ }
+{
+    let number = frame.0 + 1;
+    if number == indices.len() / FrameLayout::INDICES {
+        return is_zero(indices, frame);
+    }
+    if number % MultiframeLayout::FRAMES == 0 {
+        return is_zero(indices, frame);
+    }
+    false
+}
+
+// The first frame with an index that is too large.
+fn first_wide(indices: &[u8]) -> Found
+    ensures { λ r. ⌜ foundAs r ≡ firstWide (now (indices .entry)) ⌝ }
+{
+    let frames = indices.len() / FrameLayout::INDICES;
+    for k in 0..frames {
+        if is_wide(indices, Frame(k)) {
+            return Found::At(Frame(k));
+        }
+    }
+    Found::Nowhere
+}
+
+// The first zero frame that must not be one.
+fn first_early(indices: &[u8]) -> Found
+    ensures { λ r. ⌜ foundAs r ≡ firstEarly (now (indices .entry)) ⌝ }
+{
+    let frames = indices.len() / FrameLayout::INDICES;
+    for k in 0..frames {
+        if ends_early(indices, Frame(k)) {
+            return Found::At(Frame(k));
+        }
+    }
+    Found::Nowhere
+}
+
+// Rate 0, 1 or 3, type 0 or 1.
+fn settings_right(rate: u8, kind: u8) -> bool
+    ensures { λ r. ⌜ r ≡ settingsRight rate kind ⌝ }
+{
+    if 3 < rate {
+        return false;
+    }
+    if rate == 2 {
+        return false;
+    }
+    if 1 < kind {
+        return false;
+    }
+    true
+}
+
+// Every refusal, in 01's order. Nothing that can be written is lent, so that a refusal can change nothing.
+fn decide(rate: u8, kind: u8, indices: &[u8], room: usize) -> Answer
+    ensures { λ r. ⌜ r ≡ verdict rate kind (now (indices .entry)) room ⌝ }
+{
+    if !settings_right(rate, kind) {
+        return Answer::Refused(Refusal::Settings);
+    }
+    if indices.len() % FrameLayout::INDICES != 0 {
+        return Answer::Refused(Refusal::PartFrame {
+            octets: indices.len(),
+        });
+    }
+    let frames = indices.len() / FrameLayout::INDICES;
+    if UtteranceLayout::FRAMES < frames {
+        return Answer::Refused(Refusal::TooMany { frames });
+    }
+    if let Found::At(f) = first_wide(indices) {
+        return Answer::Refused(Refusal::WideIndex { frame: f.0 + 1 });
+    }
+    if let Found::At(f) = first_early(indices) {
+        return Answer::Refused(Refusal::ZeroFrame { frame: f.0 + 1 });
+    }
+    let needed = MultiframeLayout::OCTETS * (frames / MultiframeLayout::FRAMES + 1);
+    if room < needed {
+        return Answer::Refused(Refusal::OutputShort { needed });
+    }
+    Answer::Written { octets: needed }
+}
+
+// One multiframe at its place. It asks for whole frames, at most 255 multiframes and room, which `decide` has tested.
+fn put_multiframe(rate: u8, kind: u8, indices: &[u8], k: Multiframe, out: &mut [u8])
+    requires { ⌜ (length (now indices) % frameIndices ≡ 0) × (k .0 < mostMultiframes) ⌝ }
+    requires { ⌜ multiframeOctets * k .0 + multiframeOctets ≤ length (now out) ⌝ }
+    ensures { λ _. ⌜ now (out .exit) ≡ over (now (out .entry)) (multiframeOctets * k .0) multiframeOctets (multiframe rate kind (now (indices .entry)) (k .0)) ⌝ }
+{
+    let at = MultiframeLayout::OCTETS * k.0;
+    let count = ((k.0 + 1) & 15) as u8;
+    let message = header::message_of(Fields {
+        rate,
+        kind,
+        count,
+        exp: 0,
+    });
+    let word = header::encode(message) as u64;
+    bits::store(out, at, SYNC, MultiframeLayout::SYNC);
+    bits::store(
+        out,
+        at + MultiframeLayout::SYNC,
+        word,
+        MultiframeLayout::HEADER,
+    );
+    packet::put_stream(
+        indices,
+        k.first_pair(),
+        out,
+        at + MultiframeLayout::SYNC + MultiframeLayout::HEADER,
+    );
+}
+
+// The first m multiframes, one behind the other.
+fn put_image(rate: u8, kind: u8, indices: &[u8], m: usize, out: &mut [u8])
+    requires { ⌜ (length (now indices) % frameIndices ≡ 0) × (m ≤ mostMultiframes) ⌝ }
+    requires { ⌜ multiframeOctets * m ≤ length (now out) ⌝ }
+    ensures { λ _. ⌜ now (out .exit) ≡ over (now (out .entry)) 0 (multiframeOctets * m) (image rate kind (now (indices .entry)) m) ⌝ }
+{
+    for k in 0..m {
+        put_multiframe(rate, kind, indices, Multiframe(k), out);
+    }
+}
+
+// write puts the utterance of these settings and index octets, seven a frame, into the front of out as multiframes and answers the number
+// of octets written; octets beyond stay. Or it refuses, in 01's order, and every octet of out is as it came.
+pub fn write(rate: u8, kind: u8, indices: &[u8], out: &mut [u8]) -> Answer
+    ensures { λ r. ⌜ outcome r (now (out .exit)) ≡ writing rate kind (now (indices .entry)) (now (out .entry)) ⌝ }
+{
+    match decide(rate, kind, indices, out.len()) {
+        Answer::Written { octets } => {
+            put_image(rate, kind, indices, octets / MultiframeLayout::OCTETS, out);
+            Answer::Written { octets }
+        }
+        Answer::Refused(r) => Answer::Refused(r),
+    }
+}
