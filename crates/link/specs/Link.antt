@@ -1,10 +1,73 @@
--- What the entries for C and Rust answer, in numbers. Assumes nothing.
+-- What the entries for C and Rust answer, in numbers, and what they leave in lent memory. Assumes nothing.
 use mathlib.Core.Path.{_≡_}
+use mathlib.Core.Bool.{Bool, true, false}
+use mathlib.Core.List.{List}
 use Prim.Native.Nat.{ℕ}
+use lib.Dec.{eqb}
+use lib.ListN.{length}
+use Rattle.lists.specs.Tests.{when}
+use Rattle.lists.specs.Parts.{part}
+use Rattle.lists.specs.Rows.{each, joined}
+use Rattle.layout.specs.Layout.{widths, dataBits, packetBits, packetStart, streamOctets, indexOctets, multiframePairs}
+use Rattle.bits.specs.Bits.{bits, octets}
+use Rattle.crc.specs.Crc.{right}
+use Rattle.packet.specs.Packet.{apart, stream}
 use Rattle.header.specs.declared.Header.{Header}
 use Rattle.header.specs.declared.Header.the-variants.{Codeword, Lost}
+use Rattle.writer.specs.Writing.{Search, at, nowhere, firstWide}
 
--- the answer and the two lent numbers, as they are and as they came, for a reading
+-- a header's reading: the answer and the two lent numbers, as they are and as they came
 abbrev pub headerRead : ℕ → ℕ → ℕ → ℕ → ℕ → Header → Type 0
 headerRead r m f m₀ f₀ (Codeword message flips) = (r ≡ 1) × (m ≡ message) × (f ≡ flips)
 headerRead r m f m₀ f₀ Lost = (r ≡ 0) × (m ≡ m₀) × (f ≡ f₀)
+
+-- ---- a multiframe's stream, packed
+pub record Packing : Type 0 where
+  pub answer : ℕ
+  pub stream : List ℕ
+
+abbrev pub packed : ℕ → List ℕ → Packing
+packed a s = record { answer = a; stream = s }
+
+-- with no index above its width
+abbrev pub narrowPacking : List ℕ → List ℕ → Search → Packing
+narrowPacking idx s (at k) = packed 0 s
+narrowPacking idx s nowhere = packed 1 (octets streamOctets (stream idx 0 multiframePairs))
+
+-- 1 and the stream of 24 frames, or 0 and the octets as they came
+unfoldable pub packing : List ℕ → List ℕ → Packing
+packing idx s =
+    when (eqb (length idx) indexOctets) (when (eqb (length s) streamOctets) (narrowPacking idx s (firstWide idx)) (packed 0 s)) (packed 0 s)
+
+-- ---- and unpacked
+pub record Unpacking : Type 0 where
+  pub answer : ℕ
+  pub indices : List ℕ
+  pub notes : List ℕ
+
+abbrev pub unpacked : ℕ → List ℕ → List ℕ → Unpacking
+unpacked a i n = record { answer = a; indices = i; notes = n }
+
+-- packet p of a stream: its fourteen indices, and its note
+abbrev pub packetIn : List ℕ → ℕ → List Bool
+packetIn s p = part (packetStart p) packetBits (bits s)
+
+abbrev pub framesOf : List ℕ → ℕ → List ℕ
+framesOf s p = apart widths (packetIn s p)
+
+-- 0 for a right CRC, 1 for a failed one
+abbrev pub markOf : Bool → ℕ
+markOf true = 0
+markOf false = 1
+
+abbrev pub noteOf : List ℕ → ℕ → ℕ
+noteOf s p = markOf (right dataBits (packetIn s p))
+
+-- 1, the frames and the notes, or 0 and both as they came
+unfoldable pub unpacking : List ℕ → List ℕ → List ℕ → Unpacking
+unpacking s i n =
+    when (eqb (length s) streamOctets)
+    (when (eqb (length i) indexOctets)
+    (when (eqb (length n) multiframePairs) (unpacked 1 (joined (framesOf s) multiframePairs) (each (noteOf s) multiframePairs)) (unpacked 0 i n))
+    (unpacked 0 i n))
+    (unpacked 0 i n)

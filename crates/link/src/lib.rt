@@ -1,11 +1,23 @@
-// The entries for C and Rust: numbers and slices only, nothing asked of the caller.
+// The entries for C and Rust: numbers and slices only, and nothing is asked of the caller. c/dsr.h says the same in C.
 use header::Header;
+use layout::FrameLayout;
+use layout::MultiframeLayout;
+use layout::PacketLayout;
+use layout::Pair;
+use layout::ReadingLayout;
+use writer::Found;
 ghost use mathlib.Core.Path.{_≡_};
+ghost use Prim.Native.Nat.{_≤_};
+ghost use lib.ListN.{length};
+ghost use Rattle.lists.specs.Parts.{over};
+ghost use Rattle.lists.specs.Rows.{each, joined};
+ghost use Rattle.layout.specs.Layout.{streamOctets, indexOctets, multiframePairs};
 ghost use Rattle.header_code.specs.Code.{codeword};
 ghost use Rattle.header.specs.Reading.{reading};
-ghost use Rattle.link.specs.Link.{headerRead};
+ghost use Rattle.writer.specs.Writing.{writing, numberOf, placeOf};
+ghost use Rattle.link.specs.Link.{headerRead, packed, packing, unpacked, unpacking, framesOf, noteOf, markOf};
 
-// The codeword of a 16-bit message.
+// dsr_header_encode gives the codeword of a 16-bit message.
 #[no_mangle]
 pub extern "C" fn dsr_header_encode(message: u16) -> u32
     ensures { λ r. ⌜ r ≡ codeword message ⌝ }
@@ -13,7 +25,7 @@ pub extern "C" fn dsr_header_encode(message: u16) -> u32
     header::encode(message)
 }
 
-// 1 with the message and the number of flipped bits, or 0 for a lost header, and then both lent numbers stay.
+// dsr_header_read answers 1 with the message and the number of flipped bits, or 0 for a lost header, and then both lent numbers stay.
 #[no_mangle]
 pub extern "C" fn dsr_header_read(word: u32, message: &mut u16, flips: &mut u32) -> u32
     ensures { λ r. ⌜ headerRead r (now (message .exit)) (now (flips .exit)) (now (message .entry)) (now (flips .entry)) (reading word) ⌝ }
@@ -29,4 +41,89 @@ pub extern "C" fn dsr_header_read(word: u32, message: &mut u16, flips: &mut u32)
         }
         Header::Lost => 0,
     }
+}
+
+// dsr_pack turns the 24 frames of a multiframe into its stream and answers 1, or 0 if a length or an index is wrong, and then the stream
+// stays.
+#[no_mangle]
+pub extern "C" fn dsr_pack(indices: &[u8], stream: &mut [u8]) -> u32
+    ensures { λ r. ⌜ packed r (now (stream .exit)) ≡ packing (now (indices .entry)) (now (stream .entry)) ⌝ }
+{
+    if indices.len() != ReadingLayout::INDEX {
+        return 0;
+    }
+    if stream.len() != MultiframeLayout::STREAM {
+        return 0;
+    }
+    match writer::first_wide(indices) {
+        Found::At(_) => 0,
+        Found::Nowhere => {
+            packet::put_stream(indices, Pair(0), stream, 0);
+            1
+        }
+    }
+}
+
+// A packet's note: 0 if its CRC is right, 1 if it failed.
+fn mark(right: bool) -> u8
+    ensures { λ r. ⌜ r ≡ markOf right ⌝ }
+{
+    if right {
+        return 0;
+    }
+    1
+}
+
+// The frames and the notes of a stream's twelve packets. It asks for the lengths that dsr_unpack has tested.
+fn unpack_all(stream: &[u8], indices: &mut [u8], notes: &mut [u8])
+    requires { ⌜ (streamOctets ≤ length (now stream)) × (indexOctets ≤ length (now indices)) × (multiframePairs ≤ length (now notes)) ⌝ }
+    ensures frames { λ _. ⌜ now (indices .exit) ≡ over (now (indices .entry)) 0 indexOctets (joined (framesOf (now (stream .entry))) multiframePairs) ⌝ }
+    ensures notes { λ _. ⌜ now (notes .exit) ≡ over (now (notes .entry)) 0 multiframePairs (each (noteOf (now (stream .entry))) multiframePairs) ⌝ }
+{
+    for p in 0..MultiframeLayout::PAIRS {
+        packet::take_apart(
+            stream,
+            Pair(p),
+            indices,
+            PacketLayout::FRAMES * FrameLayout::INDICES * p,
+        );
+        notes[p] = mark(packet::is_right(stream, Pair(p)));
+    }
+}
+
+// dsr_unpack turns a stream into its 24 frames and twelve notes, 0 for a right CRC and 1 for a failed one, and answers 1, or 0 if a length
+// is wrong, and then both lent buffers stay.
+#[no_mangle]
+pub extern "C" fn dsr_unpack(stream: &[u8], indices: &mut [u8], notes: &mut [u8]) -> u32
+    ensures { λ r. ⌜ unpacked r (now (indices .exit)) (now (notes .exit)) ≡ unpacking (now (stream .entry)) (now (indices .entry)) (now (notes .entry)) ⌝ }
+{
+    if stream.len() != MultiframeLayout::STREAM {
+        return 0;
+    }
+    if indices.len() != ReadingLayout::INDEX {
+        return 0;
+    }
+    if notes.len() != MultiframeLayout::PAIRS {
+        return 0;
+    }
+    unpack_all(stream, indices, notes);
+    1
+}
+
+// dsr_write answers 01's number, 0 for success, and puts the octets written or the refusal's place into place.
+#[no_mangle]
+pub extern "C" fn dsr_write(
+    rate: u8,
+    kind: u8,
+    indices: &[u8],
+    out: &mut [u8],
+    place: &mut u64,
+) -> u32
+    ensures number { λ r. ⌜ r ≡ numberOf (writing rate kind (now (indices .entry)) (now (out .entry)) .answer) ⌝ }
+    ensures output { λ r. ⌜ now (out .exit) ≡ writing rate kind (now (indices .entry)) (now (out .entry)) .output ⌝ }
+    ensures place { λ r. ⌜ now (place .exit) ≡ placeOf (writing rate kind (now (indices .entry)) (now (out .entry)) .answer) ⌝ }
+{
+    let answer = writer::write(rate, kind, indices, out);
+    *place = writer::place_of(answer) as u64;
+    writer::number_of(answer)
 }

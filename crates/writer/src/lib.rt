@@ -10,7 +10,7 @@ ghost use Prim.Native.Nat.{ℕ, _+_, _*_, _%_, _^_, _≤_, _<_};
 ghost use lib.ListN.{length};
 ghost use Rattle.lists.specs.Parts.{over};
 ghost use Rattle.layout.specs.Layout.{frameIndices, multiframeOctets, mostFrames, mostMultiframes};
-ghost use Rattle.writer.specs.Writing.{settingsRight, frameCount, isWide, isZero, endsEarly, firstWide, firstEarly, verdict, multiframe, image, outcome, writing};
+ghost use Rattle.writer.specs.Writing.{settingsRight, frameCount, isWide, isZero, endsEarly, firstWide, firstEarly, verdict, multiframe, image, outcome, writing, numberOf, placeOf};
 ghost use Rattle.writer.specs.Laws.{foundAs};
 
 // The sync, 87 B2 in sending order, as a word.
@@ -83,8 +83,8 @@ fn ends_early(indices: &[u8], frame: Frame) -> bool
     false
 }
 
-// The first frame with an index that is too large.
-fn first_wide(indices: &[u8]) -> Found
+// first_wide gives the first frame with an index that is too large.
+pub fn first_wide(indices: &[u8]) -> Found
     ensures { λ r. ⌜ foundAs r ≡ firstWide (now (indices .entry)) ⌝ }
 {
     let frames = indices.len() / FrameLayout::INDICES;
@@ -206,5 +206,39 @@ pub fn write(rate: u8, kind: u8, indices: &[u8], out: &mut [u8]) -> Answer
             Answer::Written { octets }
         }
         Answer::Refused(r) => Answer::Refused(r),
+    }
+}
+
+// number_of gives 01's number of an answer: 0 for success.
+pub fn number_of(a: Answer) -> u32
+    ensures { λ r. ⌜ r ≡ numberOf a ⌝ }
+{
+    match a {
+        Answer::Written { octets: _ } => 0,
+        Answer::Refused(r) => match r {
+            Refusal::Settings => 1,
+            Refusal::PartFrame { octets: _ } => 2,
+            Refusal::TooMany { frames: _ } => 3,
+            Refusal::WideIndex { frame: _ } => 4,
+            Refusal::ZeroFrame { frame: _ } => 5,
+            Refusal::OutputShort { needed: _ } => 6,
+        },
+    }
+}
+
+// place_of gives the octets written, or 01's place of a refusal.
+pub fn place_of(a: Answer) -> usize
+    ensures { λ r. ⌜ r ≡ placeOf a ⌝ }
+{
+    match a {
+        Answer::Written { octets } => octets,
+        Answer::Refused(r) => match r {
+            Refusal::Settings => 0,
+            Refusal::PartFrame { octets } => octets,
+            Refusal::TooMany { frames } => frames,
+            Refusal::WideIndex { frame } => frame,
+            Refusal::ZeroFrame { frame } => frame,
+            Refusal::OutputShort { needed } => needed,
+        },
     }
 }
