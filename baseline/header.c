@@ -1,15 +1,16 @@
-/* The header code (01, "Parity" and "Headers"): the sixteen rows of matrix 6.2 as words, P1 least significant, and a search that
- * encodes each of the 529 candidates: the word itself, each flipped bit, each two. */
+/* The header code (01, "Parity" and "Headers"): P1 to P15 by the sixteen rows of matrix 6.2 as words, P1 least significant; P16 by the
+ * number of ones, as 01 says it; and a search that encodes each of the 529 candidates: the word itself, each flipped bit, each two. */
 #include "baseline.h"
 
-static const uint16_t parity_words[16] = {0xD101, 0x7303, 0xB707, 0xEE0E, 0x0D1D, 0x1A3A, 0x3474, 0x68E8,
-                                          0x80D1, 0x81A2, 0x8344, 0x8688, 0x8D10, 0x9A20, 0xB440, 0xE880};
+static const uint16_t parity_words[16] = {0x5101, 0x7303, 0x3707, 0x6E0E, 0x0D1D, 0x1A3A, 0x3474, 0x68E8,
+                                          0x00D1, 0x01A2, 0x0344, 0x0688, 0x0D10, 0x1A20, 0x3440, 0x6880};
 
 static inline uint32_t codeword(uint16_t message) {
     uint32_t parity = 0;
     for (unsigned i = 0; i < 16; i++)
         if (message >> i & 1) parity ^= parity_words[i];
-    return message | parity << 16;
+    uint32_t front = message | parity << 16;
+    return front | (uint32_t)(__builtin_popcount(front) & 1) << 31;
 }
 
 static inline int fits(uint32_t candidate) { return codeword((uint16_t)candidate) == candidate; }
