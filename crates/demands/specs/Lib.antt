@@ -1,1 +1,3 @@
 pub mod Examples
+pub mod Damage
+pub mod ToldApart

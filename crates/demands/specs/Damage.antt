@@ -1,0 +1,85 @@
+-- Damage to an image, as demand 3 counts it, and what is left of the utterance in a damaged image.
+-- Assumes nothing.
+use mathlib.Core.Path.{_≡_, sym, ap, _∙_, subst}
+use mathlib.Core.Bool.{Bool, true, false}
+use mathlib.Core.List.{List}
+use mathlib.Core.Logic.{_⊎_, inl, inr}
+use Prim.Native.Nat.{ℕ, _+_, _*_, _^_, _≤_, _<_}
+use lib.Bits.{bitXor}
+use lib.Count.{ones}
+use lib.ListN.{length, getD}
+use Rattle.layout.specs.Layout.{dataBits, multiframePairs}
+use Rattle.crc.specs.Crc.{Damaged, right}
+use Rattle.packet.specs.Packet.{packetOf}
+use Rattle.packet.specs.Laws.{packetOf-good, packetOf-damaged}
+use Rattle.header_code.specs.Code.{codeword, flipsTo}
+use Rattle.header.specs.Message.{message}
+use Rattle.header.specs.Message.Laws.{message-lt}
+use Rattle.header.specs.Reading.{reading}
+use Rattle.header.specs.Reading.Laws.{near}
+use Rattle.header.specs.declared.Header.the-variants.{Codeword}
+use Rattle.writer.specs.Image.{syncIn, wordIn, packetIn, image-word, image-packet, Utterance, multiframesOf, pairsOf, imageOf}
+
+-- ---- the damage: `sent` is an image of m multiframes, `got` is what came of it
+-- in how many bits header k differs
+abbrev pub headerFlips : List ℕ → List ℕ → ℕ → ℕ
+headerFlips sent got k = ones (bitXor (wordIn got k) (wordIn sent k))
+
+-- pair q is damaged: its packet came as another
+abbrev pub Touched : List ℕ → List ℕ → ℕ → Type 0
+Touched sent got q = packetIn got q ≡ packetIn sent q → ⊥
+
+pub record Damage (m : ℕ) (sent got : List ℕ) : Type 0 where
+  -- "same length", and what came are octets
+  pub size : length got ≡ length sent
+  pub small : (i : ℕ) → getD got i 0 < 2 ^ 8
+  -- "syncs whole"
+  pub syncs : (k : ℕ) → k < m → syncIn got k ≡ syncIn sent k
+  -- "at most two bits flipped in each header"
+  pub headers : (k : ℕ) → k < m → headerFlips sent got k ≤ 2
+  -- "in each 92-bit packet nothing, at least one flip and all inside four neighbouring bits, or exactly two flips whose distance is no multiple
+  -- of 15"
+  pub packets : (q : ℕ) → q < multiframePairs * m → (packetIn got q ≡ packetIn sent q) ⊎ Damaged (packetIn sent q) (packetIn got q)
+
+-- ---- what is left
+-- damage is a difference
+pub differs : (p q : List Bool) → Damaged p q → q ≡ p → ⊥
+differs p q (inl b) e = b .differs (ap (λ (l : List Bool). getD l (b .place) false) (sym e))
+differs p q (inr d) e = d .at-one (ap (λ (l : List Bool). getD l (d .one) false) (sym e))
+
+module _ (u : Utterance) (s : List ℕ) (d : Damage (multiframesOf u) (imageOf u) s) where
+  -- the message that the writer sent in header k
+  abbrev pub sentMessage : ℕ → ℕ
+  sentMessage k = message (u .rate) (u .kind) (k + 1) 0
+
+  -- header k is within two flips of the codeword sent
+  pub header-near : (k : ℕ) → k < multiframesOf u → flipsTo (wordIn s k) (sentMessage k) ≡ headerFlips (imageOf u) s k
+  unfolding flipsTo
+  header-near k h = ap (λ (w : ℕ). ones (bitXor (wordIn s k) w)) (sym (image-word (u .rate) (u .kind) (u .indices) (multiframesOf u) k h))
+
+  -- so it is read as that codeword, and its flips are counted
+  pub header-read : (k : ℕ) → k < multiframesOf u → reading (wordIn s k) ≡ Codeword (sentMessage k) (headerFlips (imageOf u) s k)
+  header-read k h =
+      let e = header-near k h in
+      near (wordIn s k) (sentMessage k) (message-lt (u .rate) (u .kind) (k + 1) 0) (subst (λ (n : ℕ). n ≤ 2) (sym e) (d .headers k h)) ∙ ap (Codeword (sentMessage k)) e
+
+  module _ (q : ℕ) (h : q < pairsOf u) where
+    sent : packetIn (imageOf u) q ≡ packetOf (u .indices) q
+    sent = image-packet (u .rate) (u .kind) (u .indices) (multiframesOf u) q h
+
+    -- a pair is damaged or it is as it was sent, and the CRC tells which
+    pub data Fate : Type 0 where
+      whole : packetIn s q ≡ packetOf (u .indices) q → right dataBits (packetIn s q) ≡ true → Fate
+      hit : Touched (imageOf u) s q → right dataBits (packetIn s q) ≡ false → Fate
+
+    pub fate : Fate
+    fate = by (d .packets q h)
+      where
+        by : (packetIn s q ≡ packetIn (imageOf u) q) ⊎ Damaged (packetIn (imageOf u) q) (packetIn s q) → Fate
+        by (inl e) = whole (e ∙ sent) (ap (right dataBits) (e ∙ sent) ∙ packetOf-good (u .indices) q)
+        by (inr x) =
+            hit (λ e. differs (packetIn (imageOf u) q) (packetIn s q) x e)
+            (packetOf-damaged (u .indices) q (packetIn s q) (subst (λ (p : List Bool). Damaged p (packetIn s q)) sent x))
+
+    pub not-touched : packetIn s q ≡ packetOf (u .indices) q → Touched (imageOf u) s q → ⊥
+    not-touched e t = t (e ∙ sym sent)
