@@ -8,119 +8,70 @@ use native.Mathlib.Nat.{mod-eq-of-lt}
 use native.Mathlib.Decide.{ℕ-discrete, decLt}
 use native.Mathlib.Omega.{arith}
 use lib.Dec.{eqb, ltb}
-use lib.ListN.{length, take, drop, getD, take-append-drop, List·getD-eq-default}
+use lib.ListN.{length, getD, List·getD-eq-default}
 use lib.Pow.{pow-pos}
-use lib.Seq.{take-all, take-at, drop-at, drop-drop, ext-getD}
+use lib.Seq.{ext-getD}
 use borrow.Author.Tests.{eqb-false, ltb-false}
 use Rattle.lists.specs.Tests.{when, true-false, not-true}
-use Rattle.lists.specs.Parts.{part, over, part-left, length-part}
-use Rattle.lists.specs.Rows.{joined, joined-part}
-use Rattle.layout.specs.Layout.{widths, frameIndices, packetBits, multiframeFrames, multiframePairs, multiframeOctets, syncOctets, headerOctets, streamOctets, firstFrame, secondFrame, multiframeOf, firstPair, packetStart}
-use Rattle.bits.specs.Bits.{value, bits, field, octets, Fits}
-use Rattle.bits.specs.Laws.{length-octets, length-field, value-field, bits-octets}
+use Rattle.lists.specs.Parts.{part, over}
+use Rattle.layout.specs.Layout.{widths, frameIndices, multiframeFrames, multiframePairs, multiframeOctets, headerOctets, streamOctets, firstFrame, secondFrame, firstPair}
+use Rattle.bits.specs.Bits.{field, octets, Fits}
 use Rattle.packet.specs.Packet.{stream, packetOf, frameAt}
-use Rattle.packet.specs.Laws.{stream-packet, fits-frame, getD-row, packetOf-same}
+use Rattle.packet.specs.Laws.{stream-part, length-stream, fits-frame, getD-row, packetOf-same}
 use Rattle.header_code.specs.Code.{codeword}
 use Rattle.header_code.specs.Code.Distance.{codeword-lt, codeword-low}
 use Rattle.header.specs.Message.{message, rateOf, typeOf}
 use Rattle.header.specs.Message.Laws.{message-lt, rate-back, type-back}
 use Rattle.writer.specs.Writing.{Search, at, nowhere, firstFrom, isFound, frameCount, isWide, isZero, endsEarly, multiframesFor, needed, verdict, multiframe, image, outcome, writing}
-use Rattle.writer.specs.Laws.{first-at, first-nowhere, early-last, early-boundary, length-multiframe, length-image, Accepted, accepted, accepts}
+use Rattle.writer.specs.Laws.{first-at, first-nowhere, early-last, early-boundary, length-image, Accepted, accepted, accepts}
 use Rattle.writer.specs.declared.Answer.the-variants.{Written}
+use Rattle.writer.specs.Made.{syncIn, headerIn, wordIn, streamIn, packetIn, framed, made, Small, made-part, made-sync, made-header, made-word, made-stream, made-packet, small-made}
 
--- ---- multiframes one behind the other in octets: the sync and the header word of multiframe k, and the packet of pair q
-abbrev pub syncIn : List ℕ → ℕ → List ℕ
-syncIn s k = part (multiframeOctets * k) syncOctets s
-
-abbrev pub headerIn : List ℕ → ℕ → List ℕ
-headerIn s k = part (multiframeOctets * k + syncOctets) headerOctets s
-
-abbrev pub wordIn : List ℕ → ℕ → ℕ
-wordIn s k = value (bits (headerIn s k))
-
-abbrev pub streamIn : List ℕ → ℕ → List ℕ
-streamIn s k = part (multiframeOctets * k + syncOctets + headerOctets) streamOctets s
-
-abbrev pub packetIn : List ℕ → ℕ → List Bool
-packetIn s q = part (packetStart q) packetBits (bits (streamIn s (multiframeOf q)))
-
--- ---- the image's parts
+-- ---- the image is so made
 module _ (rate type : ℕ) (idx : List ℕ) where
-  -- an image is its multiframes in a row
-  in-a-row : (m : ℕ) → image rate type idx m ≡ joined (multiframe rate type idx) m
-  unfolding image
-  in-a-row zero = refl
-  in-a-row (suc m) = ap (λ (l : List ℕ). l ++ multiframe rate type idx m) (in-a-row m)
+  abbrev pub words : ℕ → ℕ
+  words k = codeword (message rate type (k + 1) 0)
+
+  abbrev pub streams : ℕ → List Bool
+  streams k = stream idx (firstPair k) multiframePairs
+
+  pub image-made : (m : ℕ) → image rate type idx m ≡ made words streams m
+  unfolding image multiframe
+  image-made zero = refl
+  image-made (suc m) = ap (λ (l : List ℕ). l ++ framed (words m) (streams m)) (image-made m)
 
   -- ITS k-TH MULTIFRAME
   pub image-part : (m k : ℕ) → k < m → part (multiframeOctets * k) multiframeOctets (image rate type idx m) ≡ multiframe rate type idx k
-  image-part m k h =
-      ap (part (multiframeOctets * k) multiframeOctets) (in-a-row m)
-      ∙ joined-part (multiframe rate type idx) multiframeOctets m k (λ i z. length-multiframe rate type idx i) h
+  unfolding multiframe
+  image-part m k h = ap (part (multiframeOctets * k) multiframeOctets) (image-made m) ∙ made-part words streams m k h
 
-  module _ (k : ℕ) where
-    header : List ℕ
-    header = octets headerOctets (field 32 (codeword (message rate type (k + 1) 0)))
-
-    body : List ℕ
-    body = octets streamOctets (stream idx (firstPair k) multiframePairs)
-
-    -- its sync
-    pub multiframe-sync : part 0 syncOctets (multiframe rate type idx k) ≡ 0x87 ∷ 0xB2 ∷ []
-    unfolding multiframe
-    multiframe-sync = refl
-
-    -- its header's octets
-    pub multiframe-header : part syncOctets headerOctets (multiframe rate type idx k) ≡ octets headerOctets (field 32 (codeword (message rate type (k + 1) 0)))
-    unfolding multiframe header body
-    multiframe-header = take-at header body headerOctets (length-octets headerOctets (field 32 (codeword (message rate type (k + 1) 0))))
-
-    -- its stream's octets
-    pub multiframe-stream : part (syncOctets + headerOctets) streamOctets (multiframe rate type idx k) ≡ octets streamOctets (stream idx (firstPair k) multiframePairs)
-    unfolding multiframe header body
-    multiframe-stream =
-        ap (take streamOctets) (drop-at header body headerOctets (length-octets headerOctets (field 32 (codeword (message rate type (k + 1) 0)))))
-        ∙ take-all streamOctets body (omega (arith, length-octets streamOctets (stream idx (firstPair k) multiframePairs)))
+  pub image-small : (m : ℕ) → Small (image rate type idx m)
+  image-small m = subst Small (sym (image-made m)) (small-made words streams m)
 
   module _ (m k : ℕ) (h : k < m) where
-    -- a part of the multiframe is that part of the image
-    inside : (a v : ℕ) → a + v ≤ multiframeOctets → part (multiframeOctets * k + a) v (image rate type idx m) ≡ part a v (multiframe rate type idx k)
-    inside a v l =
-        let s = image rate type idx m in
-        let d = drop (multiframeOctets * k) s in
-        let r : a + v ≤ length (take multiframeOctets d) = omega (arith, length-part s (multiframeOctets * k) multiframeOctets (omega (arith, length-image rate type idx m))) in
-        ap (take v) (sym (drop-drop a (multiframeOctets * k) s)) ∙ ap (part a v) (sym (take-append-drop multiframeOctets d))
-        ∙ part-left (take multiframeOctets d) (drop multiframeOctets d) a v r ∙ ap (part a v) (image-part m k h)
-
     -- EACH MULTIFRAME BEGINS WITH THE SYNC
     pub image-sync : syncIn (image rate type idx m) k ≡ 0x87 ∷ 0xB2 ∷ []
-    image-sync =
-        let z : multiframeOctets * k ≡ multiframeOctets * k + 0 = omega arith in
-        ap (λ (i : ℕ). part i syncOctets (image rate type idx m)) z ∙ inside 0 syncOctets (omega arith) ∙ multiframe-sync k
+    image-sync = ap (λ (s : List ℕ). syncIn s k) (image-made m) ∙ made-sync words streams m k h
 
     -- ITS HEADER IS THE CODEWORD of the settings and the counter, 1 in the first
     pub image-header : headerIn (image rate type idx m) k ≡ octets headerOctets (field 32 (codeword (message rate type (k + 1) 0)))
-    image-header = inside syncOctets headerOctets (omega arith) ∙ multiframe-header k
+    image-header = ap (λ (s : List ℕ). headerIn s k) (image-made m) ∙ made-header words streams m k h
 
     pub image-word : wordIn (image rate type idx m) k ≡ codeword (message rate type (k + 1) 0)
     image-word =
-        let w = codeword (message rate type (k + 1) 0) in
-        ap (λ (l : List ℕ). value (bits l)) image-header ∙ ap value (bits-octets headerOctets (field 32 w) (length-field 32 w)) ∙ value-field 32 w
-        ∙ mod-eq-of-lt (codeword-lt (message rate type (k + 1) 0) (message-lt rate type (k + 1) 0))
+        ap (λ (s : List ℕ). wordIn s k) (image-made m)
+        ∙ made-word words streams m k h (codeword-lt (message rate type (k + 1) 0) (message-lt rate type (k + 1) 0))
 
     pub image-stream : streamIn (image rate type idx m) k ≡ octets streamOctets (stream idx (firstPair k) multiframePairs)
-    image-stream =
-        let z : multiframeOctets * k + 2 + 4 ≡ multiframeOctets * k + (syncOctets + headerOctets) = omega arith in
-        ap (λ (i : ℕ). part i streamOctets (image rate type idx m)) z ∙ inside (syncOctets + headerOctets) streamOctets (omega arith) ∙ multiframe-stream k
+    image-stream = ap (λ (s : List ℕ). streamIn s k) (image-made m) ∙ made-stream words streams m k h
 
   -- ITS PACKETS are those of the pairs, which run on through all multiframes
   pub image-packet : (m q : ℕ) → q < multiframePairs * m → packetIn (image rate type idx m) q ≡ packetOf idx q
   image-packet m q h =
-      let k : q / 12 < m = omega arith in
       let e : 12 * (q / 12) + q % 12 ≡ q = omega arith in
       let l : q % 12 < 12 = omega arith in
-      ap (λ (s : List ℕ). part (packetStart q) packetBits (bits s)) (image-stream m (q / 12) k) ∙ stream-packet idx (firstPair (q / 12)) (q % 12) l
-      ∙ ap (packetOf idx) e
+      ap (λ (s : List ℕ). packetIn s q) (image-made m) ∙ made-packet words streams m q h (length-stream idx (firstPair (q / 12)) multiframePairs)
+      ∙ stream-part idx (firstPair (q / 12)) multiframePairs (q % 12) l ∙ ap (packetOf idx) e
 
 -- ---- what an accepted utterance has
 -- one of the frame's seven indices is not 0
@@ -166,7 +117,7 @@ module _ (rate type : ℕ) (idx : List ℕ) (out n : ℕ) (a : Accepted rate typ
       go nowhere f z = first-nowhere (λ j. ltb 63 (getD idx j 0)) (frameIndices * k) (frameIndices - 1) f (frameIndices * k + j) (omega arith) (omega arith)
 
   -- so every frame, padding too, fits its widths, if each index is an octet
-  pub fits : ((i : ℕ) → getD idx i 0 < 2 ^ 8) → (k : ℕ) → Fits widths (frameAt idx k)
+  pub fits : Small idx → (k : ℕ) → Fits widths (frameAt idx k)
   fits small k = fits-frame idx k (λ i h. each i h (decLt k (frameCount idx)))
     where
       whole : length idx ≡ frameIndices * frameCount idx
@@ -200,7 +151,7 @@ pub record Utterance : Type 0 where
   pub rate : ℕ
   pub kind : ℕ
   pub indices : List ℕ
-  pub small : (i : ℕ) → getD indices i 0 < 2 ^ 8
+  pub small : Small indices
   pub written : verdict rate kind indices (needed indices) ≡ Written (needed indices)
 
 module _ (u : Utterance) where
@@ -256,7 +207,7 @@ module _ (u : Utterance) where
   fits-each-frame = fits (u .rate) (u .kind) (u .indices) (needed (u .indices)) (needed (u .indices)) is-accepted (u .small)
 
 -- what the writer answered with some room, it would with just enough
-pub utterance : (rate kind : ℕ) (indices : List ℕ) (out n : ℕ) → ((i : ℕ) → getD indices i 0 < 2 ^ 8) → verdict rate kind indices out ≡ Written n → Utterance
+pub utterance : (rate kind : ℕ) (indices : List ℕ) (out n : ℕ) → Small indices → verdict rate kind indices out ≡ Written n → Utterance
 utterance rate kind indices out n small e =
     let a = accepted rate kind indices out n e in
     record {
