@@ -1,14 +1,17 @@
 -- Damage to an image, as demand 3 counts it, and what is left of the utterance in a damaged image.
 -- Assumes nothing.
-use mathlib.Core.Path.{_≡_, sym, ap, _∙_, subst}
+use mathlib.Core.Path.{_≡_, refl, sym, ap, ap₂, _∙_, subst}
 use mathlib.Core.Bool.{Bool, true, false}
 use mathlib.Core.List.{List}
-use mathlib.Core.Logic.{_⊎_, inl, inr}
-use Prim.Native.Nat.{ℕ, _+_, _*_, _^_, _≤_, _<_}
-use lib.Bits.{bitXor}
-use lib.Count.{ones}
+use mathlib.Core.Logic.{_⊎_, inl, inr, ⊎-elim}
+use Prim.Native.Nat.{ℕ, _+_, _*_, _/_, _^_, _≤_, _<_}
+use native.Mathlib.Omega.{arith}
+use lib.Bits.{bitXor, xor-self}
+use lib.Count.{ones, ones-le}
+use lib.Dec.{lit<}
 use lib.ListN.{length, getD}
-use Rattle.layout.specs.Layout.{dataBits, multiframePairs}
+use Rattle.lists.specs.Parts.{part}
+use Rattle.layout.specs.Layout.{dataBits, packetBits, multiframePairs, streamOctets, multiframeOf, packetStart}
 use Rattle.crc.specs.Crc.{Damaged, right}
 use Rattle.packet.specs.Packet.{packetOf}
 use Rattle.packet.specs.Laws.{packetOf-good, packetOf-damaged}
@@ -18,7 +21,9 @@ use Rattle.header.specs.Message.Laws.{message-lt}
 use Rattle.header.specs.Reading.{reading}
 use Rattle.header.specs.Reading.Laws.{near}
 use Rattle.header.specs.declared.Header.the-variants.{Codeword}
-use Rattle.writer.specs.Image.{syncIn, wordIn, packetIn, image-word, image-packet, Utterance, multiframesOf, pairsOf, imageOf}
+use Rattle.writer.specs.Made.{Small, syncIn, wordIn, packetIn, made, length-made, small-made, made-sync, made-word, made-packet}
+use Rattle.writer.specs.Laws.{length-image}
+use Rattle.writer.specs.Image.{image-sync, image-word, image-packet, image-small, Utterance, multiframesOf, pairsOf, imageOf}
 
 -- ---- the damage: `sent` is an image of m multiframes, `got` is what came of it
 -- in how many bits header k differs
@@ -32,7 +37,7 @@ Touched sent got q = packetIn got q ≡ packetIn sent q → ⊥
 pub record Damage (m : ℕ) (sent got : List ℕ) : Type 0 where
   -- "same length", and what came are octets
   pub size : length got ≡ length sent
-  pub small : (i : ℕ) → getD got i 0 < 2 ^ 8
+  pub small : Small got
   -- "syncs whole"
   pub syncs : (k : ℕ) → k < m → syncIn got k ≡ syncIn sent k
   -- "at most two bits flipped in each header"
@@ -41,6 +46,10 @@ pub record Damage (m : ℕ) (sent got : List ℕ) : Type 0 where
   -- of 15"
   pub packets : (q : ℕ) → q < multiframePairs * m → (packetIn got q ≡ packetIn sent q) ⊎ Damaged (packetIn sent q) (packetIn got q)
 
+-- the message that the writer sends in header k
+abbrev pub sentMessage : Utterance → ℕ → ℕ
+sentMessage u k = message (u .rate) (u .kind) (k + 1) 0
+
 -- ---- what is left
 -- damage is a difference
 pub differs : (p q : List Bool) → Damaged p q → q ≡ p → ⊥
@@ -48,20 +57,16 @@ differs p q (inl b) e = b .differs (ap (λ (l : List Bool). getD l (b .place) fa
 differs p q (inr d) e = d .at-one (ap (λ (l : List Bool). getD l (d .one) false) (sym e))
 
 module _ (u : Utterance) (s : List ℕ) (d : Damage (multiframesOf u) (imageOf u) s) where
-  -- the message that the writer sent in header k
-  abbrev pub sentMessage : ℕ → ℕ
-  sentMessage k = message (u .rate) (u .kind) (k + 1) 0
-
   -- header k is within two flips of the codeword sent
-  pub header-near : (k : ℕ) → k < multiframesOf u → flipsTo (wordIn s k) (sentMessage k) ≡ headerFlips (imageOf u) s k
+  pub header-near : (k : ℕ) → k < multiframesOf u → flipsTo (wordIn s k) (sentMessage u k) ≡ headerFlips (imageOf u) s k
   unfolding flipsTo
   header-near k h = ap (λ (w : ℕ). ones (bitXor (wordIn s k) w)) (sym (image-word (u .rate) (u .kind) (u .indices) (multiframesOf u) k h))
 
   -- so it is read as that codeword, and its flips are counted
-  pub header-read : (k : ℕ) → k < multiframesOf u → reading (wordIn s k) ≡ Codeword (sentMessage k) (headerFlips (imageOf u) s k)
+  pub header-read : (k : ℕ) → k < multiframesOf u → reading (wordIn s k) ≡ Codeword (sentMessage u k) (headerFlips (imageOf u) s k)
   header-read k h =
       let e = header-near k h in
-      near (wordIn s k) (sentMessage k) (message-lt (u .rate) (u .kind) (k + 1) 0) (subst (λ (n : ℕ). n ≤ 2) (sym e) (d .headers k h)) ∙ ap (Codeword (sentMessage k)) e
+      near (wordIn s k) (sentMessage u k) (message-lt (u .rate) (u .kind) (k + 1) 0) (subst (λ (n : ℕ). n ≤ 2) (sym e) (d .headers k h)) ∙ ap (Codeword (sentMessage u k)) e
 
   module _ (q : ℕ) (h : q < pairsOf u) where
     sent : packetIn (imageOf u) q ≡ packetOf (u .indices) q
@@ -83,3 +88,47 @@ module _ (u : Utterance) (s : List ℕ) (d : Damage (multiframesOf u) (imageOf u
 
     pub not-touched : packetIn s q ≡ packetOf (u .indices) q → Touched (imageOf u) s q → ⊥
     not-touched e t = t (e ∙ sym sent)
+
+-- ---- which images are damaged ones: no other limit is hidden in `Damage`
+-- any header words within two flips of those sent, and any streams of packets that are damaged or not, make one
+module _ (u : Utterance) (w : ℕ → ℕ) (x : ℕ → List Bool) where
+  pub record Parts : Type 0 where
+    pub words : (k : ℕ) → k < multiframesOf u → w k < 2 ^ 32
+    pub near-words : (k : ℕ) → k < multiframesOf u → flipsTo (w k) (sentMessage u k) ≤ 2
+    pub sizes : (k : ℕ) → k < multiframesOf u → length (x k) ≡ 8 * streamOctets
+    pub each : (q : ℕ) → q < pairsOf u
+        → (part (packetStart q) packetBits (x (multiframeOf q)) ≡ packetOf (u .indices) q) ⊎ Damaged (packetOf (u .indices) q) (part (packetStart q) packetBits (x (multiframeOf q)))
+
+  pub damage-made : Parts → Damage (multiframesOf u) (imageOf u) (made w x (multiframesOf u))
+  unfolding flipsTo
+  damage-made p = record {
+    size = length-made w x m ∙ sym (length-image (u .rate) (u .kind) (u .indices) m);
+    small = small-made w x m;
+    syncs = λ k h. made-sync w x m k h ∙ sym (image-sync (u .rate) (u .kind) (u .indices) m k h);
+    headers = λ k h.
+        subst (λ (n : ℕ). n ≤ 2)
+        (sym (ap₂ (λ (a b : ℕ). ones (bitXor a b)) (made-word w x m k h (p .words k h)) (image-word (u .rate) (u .kind) (u .indices) m k h)))
+        (p .near-words k h);
+    packets = λ q h. packet q h (p .each q h);
+  }
+    where
+      m : ℕ
+      m = multiframesOf u
+
+      packet : (q : ℕ) → q < pairsOf u
+          → (part (packetStart q) packetBits (x (multiframeOf q)) ≡ packetOf (u .indices) q) ⊎ Damaged (packetOf (u .indices) q) (part (packetStart q) packetBits (x (multiframeOf q)))
+          → (packetIn (made w x m) q ≡ packetIn (imageOf u) q) ⊎ Damaged (packetIn (imageOf u) q) (packetIn (made w x m) q)
+      packet q h e =
+          let got = made-packet w x m q h (p .sizes (q / 12) (omega arith)) in
+          let sent = image-packet (u .rate) (u .kind) (u .indices) m q h in
+          ⊎-elim (λ a. inl (got ∙ a ∙ sym sent)) (λ a. inr (subst (λ (l : List Bool). Damaged l (packetIn (made w x m) q)) (sym sent) (subst (Damaged (packetOf (u .indices) q)) (sym got) a))) e
+
+-- and so does none at all
+pub unharmed : (u : Utterance) → Damage (multiframesOf u) (imageOf u) (imageOf u)
+unharmed u = record {
+  size = refl;
+  small = image-small (u .rate) (u .kind) (u .indices) (multiframesOf u);
+  syncs = λ k h. refl;
+  headers = λ k h. subst (λ (n : ℕ). ones n ≤ 2) (sym (xor-self (wordIn (imageOf u) k))) (omega (arith, ones-le 0 0 (lit< tt)));
+  packets = λ q h. inl refl;
+}

@@ -1,22 +1,20 @@
 -- TOLD APART (demand 3). "If a damaged image of one accepted utterance equals a damaged image of another, then settings and multiframe counts
 -- are equal, a pair is damaged in the one exactly if it is in the other, and every undamaged pair is equal."
 -- Assumes nothing.
-use mathlib.Core.Path.{_≡_, sym, ap, _∙_, subst}
-use mathlib.Core.Bool.{Bool, true, false}
+use mathlib.Core.Path.{_≡_, sym, _∙_, subst}
 use mathlib.Core.List.{List}
 use mathlib.Core.Logic.{_↔_}
 use Prim.Native.Nat.{ℕ, _≤_, _<_}
 use native.Mathlib.Omega.{arith}
-use lib.ListN.{length}
 use Rattle.lists.specs.Tests.{true-false}
-use Rattle.layout.specs.Layout.{dataBits, firstFrame, secondFrame}
+use Rattle.layout.specs.Layout.{firstFrame, secondFrame}
 use Rattle.packet.specs.Packet.{packetOf, frameAt}
-use Rattle.crc.specs.Crc.{right}
 use Rattle.header_code.specs.Code.{flipsTo}
 use Rattle.header_code.specs.Code.Distance.{nearest}
 use Rattle.header.specs.Message.Laws.{message-lt}
 use Rattle.writer.specs.Laws.{length-image}
-use Rattle.writer.specs.Image.{wordIn, packetIn, Utterance, multiframesOf, pairsOf, imageOf, same-settings, same-pair}
+use Rattle.writer.specs.Made.{wordIn}
+use Rattle.writer.specs.Image.{Utterance, multiframesOf, pairsOf, imageOf, same-settings, same-pair}
 use Rattle.demands.specs.Damage.{Damage, Touched, sentMessage, header-near, fate, Fate, whole, hit, not-touched}
 
 -- a damaged image of one accepted utterance equals a damaged image of another
@@ -47,10 +45,10 @@ module _ (u v : Utterance) (s : List ℕ) (d : Damage (multiframesOf u) (imageOf
   -- the first header is within two flips of both codewords
   settings : (u .rate ≡ v .rate) × (u .kind ≡ v .kind)
   settings =
-      let a : flipsTo (wordIn s 0) (sentMessage u s d 0) ≤ 2 = omega (arith, header-near u s d 0 (omega arith), d .headers 0 (omega arith)) in
-      let b : flipsTo (wordIn s 0) (sentMessage v s e 0) ≤ 2 = omega (arith, header-near v s e 0 (omega arith), e .headers 0 (omega arith)) in
+      let a : flipsTo (wordIn s 0) (sentMessage u 0) ≤ 2 = omega (arith, header-near u s d 0 (omega arith), d .headers 0 (omega arith)) in
+      let b : flipsTo (wordIn s 0) (sentMessage v 0) ≤ 2 = omega (arith, header-near v s e 0 (omega arith), e .headers 0 (omega arith)) in
       same-settings u v 1
-      (nearest (wordIn s 0) (sentMessage u s d 0) (sentMessage v s e 0) (message-lt (u .rate) (u .kind) 1 0) (message-lt (v .rate) (v .kind) 1 0) a b)
+      (nearest (wordIn s 0) (sentMessage u 0) (sentMessage v 0) (message-lt (u .rate) (u .kind) 1 0) (message-lt (v .rate) (v .kind) 1 0) a b)
 
   module _ (q : ℕ) (h : q < pairsOf u) where
     there : q < pairsOf v
