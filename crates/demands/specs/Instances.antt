@@ -1,12 +1,11 @@
 -- Utterances and damaged images that meet the premises of the theorems, so that none of them speaks of nothing.
 -- Assumes nothing.
 use mathlib.Core.Path.{_≡_, refl, sym, ap, ap₂, _∙_, subst}
-use mathlib.Core.Bool.{Bool, true, false, not, xor}
+use mathlib.Core.Bool.{Bool, true, false, xor}
 use mathlib.Core.List.{List, [], _∷_, _++_}
 use mathlib.Core.Logic.{_⊎_, inl, inr}
-use Prim.Native.Nat.{ℕ, zero, suc, _+_, _-_, _*_, _/_, _%_, _^_, _≤_, _<_}
+use Prim.Native.Nat.{ℕ, zero, suc, _+_, _*_, _%_, _^_, _≤_, _<_}
 use native.Mathlib.Nat.{le-of-eq}
-use native.Mathlib.Decide.{ℕ-discrete}
 use native.Mathlib.Omega.{arith}
 use lib.Bits.{bitXor, xor-lt}
 use lib.Count.{ones, onesIn}
@@ -15,9 +14,9 @@ use lib.ListN.{length, take, drop, getD, replicate, length-append}
 use lib.Seq.{take-at, drop-append-add}
 use Rattle.gf2.specs.Light.{ones-in}
 use Rattle.lists.specs.Parts.{part}
-use Rattle.layout.specs.Layout.{widths, frameIndices, firstFrame, packetBits, multiframePairs, streamOctets, multiframeOf, packetStart}
+use Rattle.layout.specs.Layout.{widths, frameIndices, firstFrame, packetBits, streamOctets, packetStart}
 use Rattle.bits.specs.Bits.{field, laid}
-use Rattle.crc.specs.Crc.{crc, after, flip, Burst, Damaged}
+use Rattle.crc.specs.Crc.{crc, after, flip, Damaged}
 use Rattle.crc.specs.Damage.{length-flip, flips-burst}
 use Rattle.packet.specs.Packet.{frame, guarded, packet, row, packetOf, stream}
 use Rattle.packet.specs.Laws.{row-past, length-packetOf, length-stream, stream-part}
@@ -29,7 +28,7 @@ use Rattle.writer.specs.Writing.{verdict, roomAnswer, firstFrom, needed}
 use Rattle.writer.specs.Made.{Small, made}
 use Rattle.writer.specs.Image.{Utterance, multiframesOf, pairsOf, imageOf}
 use Rattle.writer.specs.declared.Answer.the-variants.{Written}
-use Rattle.demands.specs.Damage.{Damage, Parts, damage-made, sentMessage}
+use Rattle.demands.specs.Damage.{Damage, damage-made, sentMessage}
 use Rattle.demands.specs.ToldApart.{Equal}
 
 -- ---- utterances of one frame, one multiframe long
