@@ -197,6 +197,13 @@ place-stands s q [] a k h = absurd (omega arith)
 place-stands s q (p ∷ ps) a zero h = (omega (arith, a .0), a .1, a .2, a .3)
 place-stands s q (p ∷ ps) a (suc k) h = let b = place-stands s (p + 144) ps (a .4) k (omega arith) in (omega (arith, a .0, b .0), b .1, b .2, b .3)
 
+-- a whole multiframe stands at each of some places
+abbrev pub Placed : List ℕ → List ℕ → Type 0
+Placed s ps = (k : ℕ) → k < length ps → getD ps k 0 + multiframeOctets ≤ length s
+
+pub places-placed : (s : List ℕ) → Placed s (cutting s .places)
+places-placed s k h = place-stands s 0 (cutting s .places) (sound s .stand) k h .1
+
 ascend : (s : List ℕ) (q : ℕ) (ps : List ℕ) → Stand s q ps → (k : ℕ) → suc k < length ps → getD ps k 0 + multiframeOctets ≤ getD ps (suc k) 0
 ascend s q [] a k h = absurd (omega arith)
 ascend s q (p ∷ []) a k h = absurd (omega arith)

@@ -1,1 +1,4 @@
 pub mod Examples
+pub mod Damage
+pub mod ToldApart
+pub mod Instances

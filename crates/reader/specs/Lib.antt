@@ -1,4 +1,3 @@
-pub mod Settling
-pub mod SettlingLaws
 pub mod Reading
 pub mod ReadingLaws
+pub mod Steps

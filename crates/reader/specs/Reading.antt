@@ -1,25 +1,30 @@
 -- One definition of what a reading answers and leaves in both buffers, for every input (01, "Reading"). Frames, pairs and multiframes
 -- count from 0.
 -- Assumes nothing.
-use Prim.Native.Nat.{ℕ, zero, suc, _+_, _*_, _%_}
-use mathlib.Core.List.{List, [], _∷_, _++_}
-use mathlib.Core.Bool.{Bool}
-use lib.ListN.{length, getD, take, drop}
+use Prim.Native.Nat.{ℕ, _*_}
+use mathlib.Core.List.{List, _∷_}
+use lib.ListN.{length, getD}
 use lib.IntN.{ℤ}
 use lib.Dec.{ltb, eqb}
 use Rattle.lists.specs.Tests.{when}
 use Rattle.lists.specs.Parts.{part, over}
-use Rattle.lists.specs.Rows.{each, joined}
-use Rattle.layout.specs.Layout.{frameIndices, multiframePairs, syncOctets, headerOctets, streamOctets, indexOctets, reportOctets, codebookNumbers, thresholdNumbers, multiframeOf, firstPair}
+use Rattle.lists.specs.Rows.{joined}
+use Rattle.layout.specs.Layout.{multiframePairs, indexOctets, reportOctets, codebookNumbers, thresholdNumbers, firstPair}
 use Rattle.cutting.specs.Cutting.{Ending, whole, refused, cutting}
-use Rattle.consistency.specs.Consistency.{inconsistent}
-use Rattle.judging.specs.Judging.{notes, badPairs}
+use Rattle.header.specs.Message.{rateOf, typeOf, expOf}
+use Rattle.header.specs.declared.Header.the-variants.{Lost}
+use Rattle.settling.specs.Settling.{readings, settling, headerNote}
+use Rattle.settling.specs.declared.Settings.{Settings}
+use Rattle.settling.specs.declared.Settings.the-variants as S
+use Rattle.pairs.specs.Pairs.{pairCount, allFrames, pairNotes}
+use Rattle.judging.specs.Judging.{badPairs}
 use Rattle.replacing.specs.Replacing.{replaced}
 use Rattle.replacing.specs.Speech.{speechOf, endOf}
-use Rattle.reader.specs.Settling.{Received, lost, Settled, settled, unsettled, settling, headerNote, rateOf, typeOf, expOf}
 use Rattle.reader.specs.declared.Summary.{Summary}
 use Rattle.reader.specs.declared.Refusal.{Refusal}
 use Rattle.reader.specs.declared.Refusal.the-variants.{WrongTables, Unknown, CutShort, Empty, TooMany, Unsettled, Unfit, IndexShort, ReportShort, AllBad}
+use Rattle.reader.specs.declared.Verdict.{Verdict}
+use Rattle.reader.specs.declared.Verdict.the-variants.{Refuse, Accept}
 use Rattle.reader.specs.declared.Answer.{Answer}
 use Rattle.reader.specs.declared.Answer.the-variants.{Read, Refused}
 
@@ -48,72 +53,30 @@ placeOf (IndexShort n) = n
 placeOf (ReportShort n) = n
 placeOf AllBad = 0
 
--- ---- what the layers below say: of four header octets, and of pair p's packet in a stream's octets
-pub record Link : Type 0 where
-  pub received : List ℕ → Received
-  pub fails : List ℕ → ℕ → Bool
-  pub frames : List ℕ → ℕ → List ℕ
+-- ---- what a reading gives, of multiframes at places of the octets; ns are the notes of all pairs
 
--- ---- the multiframes at places of the octets
-module _ (link : Link) (octets places : List ℕ) where
-  -- the header and the stream of multiframe k
-  abbrev pub headerAt : ℕ → List ℕ
-  headerAt k = part (getD places k 0 + syncOctets) headerOctets octets
+-- the index buffer's part: all frames in order, seven octets each, after replacing
+abbrev pub indexPart : List ℕ → List ℕ → List ℕ → List ℕ
+indexPart octets places ns = replaced ns (allFrames octets places)
 
-  abbrev pub streamAt : ℕ → List ℕ
-  streamAt k = part (getD places k 0 + syncOctets + headerOctets) streamOctets octets
+-- the report's part: 13 octets a multiframe, a header note and then twelve pair notes
+unfoldable pub reportPart : List ℕ → List ℕ → List ℕ → ℕ → List ℕ
+reportPart octets places ns c =
+    joined (λ k. headerNote c k (getD (readings octets places) k Lost) ∷ part (firstPair k) multiframePairs ns) (length places)
 
-  -- every header's reading
-  unfoldable pub readings : List Received
-  readings = each (λ k. link .received (headerAt k)) (length places)
-
-  -- pairs run on through all multiframes: pair q is packet q mod 12 of multiframe q div 12
-  abbrev pub pairCount : ℕ
-  pairCount = multiframePairs * length places
-
-  unfoldable pub pairFails : ℕ → Bool
-  pairFails q = link .fails (streamAt (multiframeOf q)) (q % multiframePairs)
-
-  unfoldable pub framesOf : ℕ → List ℕ
-  framesOf q = link .frames (streamAt (multiframeOf q)) (q % multiframePairs)
-
-  -- all frames in order, before replacing
-  unfoldable pub allFrames : List ℕ
-  allFrames = joined framesOf pairCount
-
-  -- with the quantiser's tables: which pairs are inconsistent, and the notes of all pairs
-  module _ (codebook thresholds : List ℤ) where
-    unfoldable pub pairOdd : ℕ → Bool
-    pairOdd q = inconsistent codebook thresholds (take frameIndices (framesOf q)) (drop frameIndices (framesOf q))
-
-    unfoldable pub pairNotes : List ℕ
-    pairNotes = notes (each pairFails pairCount) (each pairOdd pairCount)
-
-    -- all frames in order, seven octets each, after replacing
-    abbrev pub indexPart : List ℕ
-    indexPart = replaced pairNotes allFrames
-
-    -- 13 octets a multiframe: a header note, then twelve pair notes
-    unfoldable pub reportPart : ℕ → List ℕ
-    reportPart c = joined (λ k. headerNote c k (getD readings k lost) ∷ part (firstPair k) multiframePairs pairNotes) (length places)
-
-    -- the settings, m, speech, the number of bad pairs and end
-    abbrev pub summary : ℕ → Summary
-    summary c =
-        record {
-          rate = rateOf c;
-          kind = typeOf c;
-          multiframes = length places;
-          speech = speechOf (length places) indexPart;
-          bad = badPairs pairNotes;
-          end = endOf (length places) indexPart;
-        }
+-- the settings, m, speech, the number of bad pairs and end
+abbrev pub summary : List ℕ → List ℕ → List ℕ → ℕ → Summary
+summary octets places ns c =
+    record {
+      rate = rateOf c;
+      kind = typeOf c;
+      multiframes = length places;
+      speech = speechOf (length places) (indexPart octets places ns);
+      bad = badPairs ns;
+      end = endOf (length places) (indexPart octets places ns);
+    }
 
 -- ---- every refusal, in 01's order
-pub data Verdict : Type 0 where
-  refuse : Refusal → Verdict
-  accept : ℕ → Verdict
-
 -- 12, 13 and 15, as cutting meets them
 unfoldable pub cutRefusal : ℕ → ℕ → Refusal
 cutRefusal n p = when (eqb n 12) (Unknown p) (when (eqb n 13) (CutShort p) (TooMany p))
@@ -121,34 +84,34 @@ cutRefusal n p = when (eqb n 12) (Unknown p) (when (eqb n 13) (CutShort p) (TooM
 -- 18: index buffer under 168m. 19: report buffer under 13m. 20: every pair bad
 unfoldable pub roomVerdict : (m bad pairs index report c : ℕ) → Verdict
 roomVerdict m bad pairs index report c =
-    when (ltb index (indexOctets * m)) (refuse (IndexShort (indexOctets * m)))
-    (when (ltb report (reportOctets * m)) (refuse (ReportShort (reportOctets * m)))
-    (when (eqb bad pairs) (refuse AllBad) (accept c)))
+    when (ltb index (indexOctets * m)) (Refuse (IndexShort (indexOctets * m)))
+    (when (ltb report (reportOctets * m)) (Refuse (ReportShort (reportOctets * m)))
+    (when (eqb bad pairs) (Refuse AllBad) (Accept c)))
 
 -- 16: settings not settled. 17: settled rate is 2 or any EXP is 1
-unfoldable pub settledVerdict : (m bad pairs index report : ℕ) → Settled → Verdict
-settledVerdict m bad pairs index report unsettled = refuse Unsettled
-settledVerdict m bad pairs index report (settled c) =
-    when (eqb (rateOf c) 2) (refuse Unfit) (when (eqb (expOf c) 0) (roomVerdict m bad pairs index report c) (refuse Unfit))
+unfoldable pub settledVerdict : (m bad pairs index report : ℕ) → Settings → Verdict
+settledVerdict m bad pairs index report S.Unsettled = Refuse Unsettled
+settledVerdict m bad pairs index report (S.Settled c) =
+    when (eqb (rateOf c) 2) (Refuse Unfit) (when (eqb (expOf c) 0) (roomVerdict m bad pairs index report c) (Refuse Unfit))
 
-module _ (link : Link) (octets : List ℕ) (codebook thresholds : List ℤ) (index report : ℕ) where
+module _ (octets : List ℕ) (codebook thresholds : List ℤ) (index report : ℕ) where
   -- 14: no multiframe
   unfoldable pub wholeVerdict : List ℕ → Verdict
   wholeVerdict places =
-      when (eqb (length places) 0) (refuse (Empty (length octets)))
-      (settledVerdict (length places) (badPairs (pairNotes link octets places codebook thresholds)) (pairCount link octets places) index report
-      (settling (readings link octets places)))
+      when (eqb (length places) 0) (Refuse (Empty (length octets)))
+      (settledVerdict (length places) (badPairs (pairNotes octets places codebook thresholds)) (pairCount places) index report
+      (settling (readings octets places)))
 
   abbrev pub endVerdict : List ℕ → Ending → Verdict
   endVerdict places whole = wholeVerdict places
-  endVerdict places (refused n p) = refuse (cutRefusal n p)
+  endVerdict places (refused n p) = Refuse (cutRefusal n p)
 
   -- 11: codebook not 1,280 or thresholds not 14. It comes first
   unfoldable pub verdict : Verdict
   verdict =
       when (eqb (length codebook) codebookNumbers)
-      (when (eqb (length thresholds) thresholdNumbers) (endVerdict (cutting octets .places) (cutting octets .ending)) (refuse WrongTables))
-      (refuse WrongTables)
+      (when (eqb (length thresholds) thresholdNumbers) (endVerdict (cutting octets .places) (cutting octets .ending)) (Refuse WrongTables))
+      (Refuse WrongTables)
 
 -- ---- the answer and both buffers
 pub record Outcome : Type 0 where
@@ -159,14 +122,14 @@ pub record Outcome : Type 0 where
 abbrev pub outcome : Answer → List ℕ → List ℕ → Outcome
 outcome a i r = record { answer = a; index = i; report = r }
 
-module _ (link : Link) (octets : List ℕ) (codebook thresholds : List ℤ) (index report : List ℕ) where
+module _ (octets : List ℕ) (codebook thresholds : List ℤ) (index report : List ℕ) where
   -- a refusal changes no octet; success lays both parts over the buffers' fronts, and octets beyond stay
   abbrev pub finished : List ℕ → Verdict → Outcome
-  finished places (refuse r) = outcome (Refused r) index report
-  finished places (accept c) =
-      outcome (Read (summary link octets places codebook thresholds c))
-      (over index 0 (indexOctets * length places) (indexPart link octets places codebook thresholds))
-      (over report 0 (reportOctets * length places) (reportPart link octets places codebook thresholds c))
+  finished places (Refuse r) = outcome (Refused r) index report
+  finished places (Accept c) =
+      outcome (Read (summary octets places (pairNotes octets places codebook thresholds) c))
+      (over index 0 (indexOctets * length places) (indexPart octets places (pairNotes octets places codebook thresholds)))
+      (over report 0 (reportOctets * length places) (reportPart octets places (pairNotes octets places codebook thresholds) c))
 
   unfoldable pub reading : Outcome
-  reading = finished (cutting octets .places) (verdict link octets codebook thresholds (length index) (length report))
+  reading = finished (cutting octets .places) (verdict octets codebook thresholds (length index) (length report))

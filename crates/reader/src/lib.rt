@@ -23,6 +23,12 @@ pub enum Refusal {
     AllBad,
 }
 
+// What is decided before anything is written: a refusal, or the settled common bits.
+pub enum Verdict {
+    Refuse(Refusal),
+    Accept { common: u16 },
+}
+
 pub enum Answer {
     Read(Summary),
     Refused(Refusal),

@@ -1,2 +1,4 @@
 pub mod Writing
 pub mod Laws
+pub mod Made
+pub mod Image

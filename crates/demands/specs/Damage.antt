@@ -1,0 +1,134 @@
+-- Damage to an image, as demand 3 counts it, and what is left of the utterance in a damaged image.
+-- Assumes nothing.
+use mathlib.Core.Path.{_≡_, refl, sym, ap, ap₂, _∙_, subst}
+use mathlib.Core.Bool.{Bool, true, false}
+use mathlib.Core.List.{List}
+use mathlib.Core.Logic.{_⊎_, inl, inr, ⊎-elim}
+use Prim.Native.Nat.{ℕ, _+_, _*_, _/_, _^_, _≤_, _<_}
+use native.Mathlib.Omega.{arith}
+use lib.Bits.{bitXor, xor-self}
+use lib.Count.{ones, ones-le}
+use lib.Dec.{lit<}
+use lib.ListN.{length, getD}
+use Rattle.lists.specs.Parts.{part}
+use Rattle.layout.specs.Layout.{dataBits, packetBits, multiframePairs, streamOctets, multiframeOf, packetStart}
+use Rattle.crc.specs.Crc.{Damaged, right}
+use Rattle.packet.specs.Packet.{packetOf}
+use Rattle.packet.specs.Laws.{packetOf-good, packetOf-damaged}
+use Rattle.header_code.specs.Code.{codeword, flipsTo}
+use Rattle.header.specs.Message.{message}
+use Rattle.header.specs.Message.Laws.{message-lt}
+use Rattle.header.specs.Reading.{reading}
+use Rattle.header.specs.Reading.Laws.{near}
+use Rattle.header.specs.declared.Header.the-variants.{Codeword}
+use Rattle.writer.specs.Made.{Small, syncIn, wordIn, packetIn, made, length-made, small-made, made-sync, made-word, made-packet}
+use Rattle.writer.specs.Laws.{length-image}
+use Rattle.writer.specs.Image.{image-sync, image-word, image-packet, image-small, Utterance, multiframesOf, pairsOf, imageOf}
+
+-- ---- the damage: `sent` is an image of m multiframes, `got` is what came of it
+-- in how many bits header k differs
+abbrev pub headerFlips : List ℕ → List ℕ → ℕ → ℕ
+headerFlips sent got k = ones (bitXor (wordIn got k) (wordIn sent k))
+
+-- pair q is damaged: its packet came as another
+abbrev pub Touched : List ℕ → List ℕ → ℕ → Type 0
+Touched sent got q = packetIn got q ≡ packetIn sent q → ⊥
+
+pub record Damage (m : ℕ) (sent got : List ℕ) : Type 0 where
+  -- "same length", and what came are octets
+  pub size : length got ≡ length sent
+  pub small : Small got
+  -- "syncs whole"
+  pub syncs : (k : ℕ) → k < m → syncIn got k ≡ syncIn sent k
+  -- "at most two bits flipped in each header"
+  pub headers : (k : ℕ) → k < m → headerFlips sent got k ≤ 2
+  -- "in each 92-bit packet nothing, at least one flip and all inside four neighbouring bits, or exactly two flips whose distance is no multiple
+  -- of 15"
+  pub packets : (q : ℕ) → q < multiframePairs * m → (packetIn got q ≡ packetIn sent q) ⊎ Damaged (packetIn sent q) (packetIn got q)
+
+-- the message that the writer sends in header k
+abbrev pub sentMessage : Utterance → ℕ → ℕ
+sentMessage u k = message (u .rate) (u .kind) (k + 1) 0
+
+-- ---- what is left
+-- damage is a difference
+pub differs : (p q : List Bool) → Damaged p q → q ≡ p → ⊥
+differs p q (inl b) e = b .differs (ap (λ (l : List Bool). getD l (b .place) false) (sym e))
+differs p q (inr d) e = d .at-one (ap (λ (l : List Bool). getD l (d .one) false) (sym e))
+
+module _ (u : Utterance) (s : List ℕ) (d : Damage (multiframesOf u) (imageOf u) s) where
+  -- header k is within two flips of the codeword sent
+  pub header-near : (k : ℕ) → k < multiframesOf u → flipsTo (wordIn s k) (sentMessage u k) ≡ headerFlips (imageOf u) s k
+  unfolding flipsTo
+  header-near k h = ap (λ (w : ℕ). ones (bitXor (wordIn s k) w)) (sym (image-word (u .rate) (u .kind) (u .indices) (multiframesOf u) k h))
+
+  -- so it is read as that codeword, and its flips are counted
+  pub header-read : (k : ℕ) → k < multiframesOf u → reading (wordIn s k) ≡ Codeword (sentMessage u k) (headerFlips (imageOf u) s k)
+  header-read k h =
+      let e = header-near k h in
+      near (wordIn s k) (sentMessage u k) (message-lt (u .rate) (u .kind) (k + 1) 0) (subst (λ (n : ℕ). n ≤ 2) (sym e) (d .headers k h)) ∙ ap (Codeword (sentMessage u k)) e
+
+  module _ (q : ℕ) (h : q < pairsOf u) where
+    sent : packetIn (imageOf u) q ≡ packetOf (u .indices) q
+    sent = image-packet (u .rate) (u .kind) (u .indices) (multiframesOf u) q h
+
+    -- a pair is damaged or it is as it was sent, and the CRC tells which
+    pub data Fate : Type 0 where
+      whole : packetIn s q ≡ packetOf (u .indices) q → right dataBits (packetIn s q) ≡ true → Fate
+      hit : Touched (imageOf u) s q → right dataBits (packetIn s q) ≡ false → Fate
+
+    pub fate : Fate
+    fate = by (d .packets q h)
+      where
+        by : (packetIn s q ≡ packetIn (imageOf u) q) ⊎ Damaged (packetIn (imageOf u) q) (packetIn s q) → Fate
+        by (inl e) = whole (e ∙ sent) (ap (right dataBits) (e ∙ sent) ∙ packetOf-good (u .indices) q)
+        by (inr x) =
+            hit (λ e. differs (packetIn (imageOf u) q) (packetIn s q) x e)
+            (packetOf-damaged (u .indices) q (packetIn s q) (subst (λ (p : List Bool). Damaged p (packetIn s q)) sent x))
+
+    pub not-touched : packetIn s q ≡ packetOf (u .indices) q → Touched (imageOf u) s q → ⊥
+    not-touched e t = t (e ∙ sym sent)
+
+-- ---- which images are damaged ones: no other limit is hidden in `Damage`
+-- any header words within two flips of those sent, and any streams of packets that are damaged or not, make one
+module _ (u : Utterance) (w : ℕ → ℕ) (x : ℕ → List Bool) where
+  pub record Parts : Type 0 where
+    pub words : (k : ℕ) → k < multiframesOf u → w k < 2 ^ 32
+    pub near-words : (k : ℕ) → k < multiframesOf u → flipsTo (w k) (sentMessage u k) ≤ 2
+    pub sizes : (k : ℕ) → k < multiframesOf u → length (x k) ≡ 8 * streamOctets
+    pub each : (q : ℕ) → q < pairsOf u
+        → (part (packetStart q) packetBits (x (multiframeOf q)) ≡ packetOf (u .indices) q) ⊎ Damaged (packetOf (u .indices) q) (part (packetStart q) packetBits (x (multiframeOf q)))
+
+  pub damage-made : Parts → Damage (multiframesOf u) (imageOf u) (made w x (multiframesOf u))
+  unfolding flipsTo
+  damage-made p = record {
+    size = length-made w x m ∙ sym (length-image (u .rate) (u .kind) (u .indices) m);
+    small = small-made w x m;
+    syncs = λ k h. made-sync w x m k h ∙ sym (image-sync (u .rate) (u .kind) (u .indices) m k h);
+    headers = λ k h.
+        subst (λ (n : ℕ). n ≤ 2)
+        (sym (ap₂ (λ (a b : ℕ). ones (bitXor a b)) (made-word w x m k h (p .words k h)) (image-word (u .rate) (u .kind) (u .indices) m k h)))
+        (p .near-words k h);
+    packets = λ q h. packet q h (p .each q h);
+  }
+    where
+      m : ℕ
+      m = multiframesOf u
+
+      packet : (q : ℕ) → q < pairsOf u
+          → (part (packetStart q) packetBits (x (multiframeOf q)) ≡ packetOf (u .indices) q) ⊎ Damaged (packetOf (u .indices) q) (part (packetStart q) packetBits (x (multiframeOf q)))
+          → (packetIn (made w x m) q ≡ packetIn (imageOf u) q) ⊎ Damaged (packetIn (imageOf u) q) (packetIn (made w x m) q)
+      packet q h e =
+          let got = made-packet w x m q h (p .sizes (q / 12) (omega arith)) in
+          let sent = image-packet (u .rate) (u .kind) (u .indices) m q h in
+          ⊎-elim (λ a. inl (got ∙ a ∙ sym sent)) (λ a. inr (subst (λ (l : List Bool). Damaged l (packetIn (made w x m) q)) (sym sent) (subst (Damaged (packetOf (u .indices) q)) (sym got) a))) e
+
+-- and so does none at all
+pub unharmed : (u : Utterance) → Damage (multiframesOf u) (imageOf u) (imageOf u)
+unharmed u = record {
+  size = refl;
+  small = image-small (u .rate) (u .kind) (u .indices) (multiframesOf u);
+  syncs = λ k h. refl;
+  headers = λ k h. subst (λ (n : ℕ). ones n ≤ 2) (sym (xor-self (wordIn (imageOf u) k))) (omega (arith, ones-le 0 0 (lit< tt)));
+  packets = λ q h. inl refl;
+}

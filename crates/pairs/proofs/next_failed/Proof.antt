@@ -1,0 +1,33 @@
+-- `next_failed` meets its contract: past the notes stands none. Assumes nothing.
+use Prim.Native.Nat.{_+_}
+use mathlib.Core.Path.{sym, ap}
+use lib.ListN.{List·getD-eq-default}
+use Rattle.judging.specs.Judging.{bad}
+use borrow.Author.Needs.{needs}
+use Rattle.pairs.proofs.next_failed.Statement.{statement}
+use Rattle.pairs.proofs.next_failed.Tie as tie
+
+add-if1 : tie.Need-add-if1
+add-if1 c = search needs
+
+add-is-bad : tie.Need-add-is-bad
+add-is-bad c = search needs
+
+shared-slice-read-is-bad : tie.Need-shared-slice-read-is-bad
+shared-slice-read-is-bad c = search needs
+
+is-bad-requires : tie.Need-is-bad-requires
+is-bad-requires c κs = search needs
+
+returns : tie.Need-returns
+returns c = search needs
+
+returns-2 : tie.Need-returns-2
+returns-2 c =
+    let st = c .before .before in
+    sym (ap bad (List·getD-eq-default (st .args .notes .now) 0 (c .if1 .left)))
+
+pub next-failed-spec : {M : Type 1} → statement M
+next-failed-spec =
+    tie.close
+    (tie.spec add-if1 add-is-bad shared-slice-read-is-bad is-bad-requires returns returns-2)

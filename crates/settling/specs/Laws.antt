@@ -1,0 +1,203 @@
+-- What a reader of 01 would ask of the settings and of the header notes.
+-- Assumes nothing.
+use Prim.Native.Nat.{ℕ, zero, suc, _+_, _/_, _%_, _≤_, _<_}
+use mathlib.Core.Path.{_≡_, refl, ap, sym, _∙_}
+use mathlib.Core.Logic.{_⊎_, inl, inr, ⊎-elim}
+use mathlib.Core.List.{List, [], _∷_}
+use mathlib.Core.Bool.{Bool, true, false}
+use lib.ListN.{length}
+use lib.Dec.{eqb}
+use native.Mathlib.Omega.{arith}
+use borrow.Author.Tests.{eq-eqb, ne-eqb, eqb-true}
+use Rattle.lists.specs.Tests.{when, true-false}
+use Rattle.header.specs.Message.{countOf, commonBits}
+use Rattle.header.specs.declared.Header.{Header}
+use Rattle.header.specs.declared.Header.the-variants.{Codeword, Lost}
+use Rattle.settling.specs.Settling.{among, firstAgreeing, onlyOne, orElse, settling, headerNote}
+use Rattle.settling.specs.declared.Settings.{Settings}
+use Rattle.settling.specs.declared.Settings.the-variants.{Settled, Unsettled}
+
+-- the note says how many flips were mended, whether the counter is in step and whether the common bits are the settled ones
+module _ (c k m f : ℕ) (mended : f ≤ 2) where
+  flips-by : (s t : Bool) → (f + when s 0 4 + when t 0 8) % 4 ≡ f
+  flips-by true true = omega arith
+  flips-by true false = omega arith
+  flips-by false true = omega arith
+  flips-by false false = omega arith
+
+  step-by : (s t : Bool) → (f + when s 0 4 + when t 0 8) / 4 % 2 ≡ when s 0 1
+  step-by true true = omega arith
+  step-by true false = omega arith
+  step-by false true = omega arith
+  step-by false false = omega arith
+
+  same-by : (s t : Bool) → (f + when s 0 4 + when t 0 8) / 8 ≡ when t 0 1
+  same-by true true = omega arith
+  same-by true false = omega arith
+  same-by false true = omega arith
+  same-by false false = omega arith
+
+  pub note-flips : headerNote c k (Codeword m f) % 4 ≡ f
+  unfolding headerNote
+  note-flips = flips-by (eqb (countOf m) ((k + 1) % 16)) (eqb (commonBits m) c)
+
+  pub note-counter : headerNote c k (Codeword m f) / 4 % 2 ≡ when (eqb (countOf m) ((k + 1) % 16)) 0 1
+  unfolding headerNote
+  note-counter = step-by (eqb (countOf m) ((k + 1) % 16)) (eqb (commonBits m) c)
+
+  pub note-common : headerNote c k (Codeword m f) / 8 ≡ when (eqb (commonBits m) c) 0 1
+  unfolding headerNote
+  note-common = same-by (eqb (countOf m) ((k + 1) % 16)) (eqb (commonBits m) c)
+
+-- ---- the settled common bits are those of two headers, and of the first two that agree
+
+-- header k is read as a codeword with these common bits
+abbrev pub Has : List Header → ℕ → ℕ → Type 0
+Has [] k c = ⊥
+Has (Lost ∷ hs) zero c = ⊥
+Has (Codeword m f ∷ hs) zero c = commonBits m ≡ c
+Has (h ∷ hs) (suc k) c = Has hs k c
+
+-- header k agrees in its common bits c with an earlier readable one, or with those already seen
+pub record Earlier (hs : List Header) (k c : ℕ) : Type 0 where
+  pub at : ℕ
+  pub less : at < k
+  pub has : Has hs at c
+
+pub record Agrees (seen : List ℕ) (hs : List Header) (k c : ℕ) : Type 0 where
+  pub has : Has hs k c
+  pub with : (among c seen ≡ true) ⊎ Earlier hs k c
+
+-- header k is the first that agrees
+pub record First (seen : List ℕ) (hs : List Header) (c : ℕ) : Type 0 where
+  pub at : ℕ
+  pub agrees : Agrees seen hs at c
+  pub none : (i d : ℕ) → i < at → Agrees seen hs i d → ⊥
+
+-- one header on, with its common bits seen
+module _ (m f : ℕ) (seen : List ℕ) (hs : List Header) where
+  among-more : (c : ℕ) → (c ≡ commonBits m) ⊎ (among c seen ≡ true) → among c (commonBits m ∷ seen) ≡ true
+  among-more c (inl e) = rw (eq-eqb c (commonBits m) e)
+  among-more c (inr h) = by (eqb c (commonBits m))
+    where
+      by : (t : Bool) → when t true (among c seen) ≡ true
+      by true = refl
+      by false = h
+
+  among-less : (c : ℕ) → among c (commonBits m ∷ seen) ≡ true → (c ≡ commonBits m) ⊎ (among c seen ≡ true)
+  among-less c h = by (eqb c (commonBits m)) refl h
+    where
+      by : (t : Bool) → eqb c (commonBits m) ≡ t → when t true (among c seen) ≡ true → (c ≡ commonBits m) ⊎ (among c seen ≡ true)
+      by true e h = inl (eqb-true c (commonBits m) e)
+      by false e h = inr h
+
+  back : (k c : ℕ) → Agrees (commonBits m ∷ seen) hs k c → Agrees seen (Codeword m f ∷ hs) (suc k) c
+  back k c a =
+      record {
+        has = a .has;
+        with = ⊎-elim (λ h. ⊎-elim (λ e. inr (record { at = 0; less = omega arith; has = sym e })) (λ e. inl e) (among-less c h))
+            (λ e. inr (record { at = suc (e .at); less = omega (arith, e .less); has = e .has })) (a .with);
+      }
+
+  ahead : (k c : ℕ) → Agrees seen (Codeword m f ∷ hs) (suc k) c → Agrees (commonBits m ∷ seen) hs k c
+  ahead k c a = record { has = a .has; with = ⊎-elim (λ h. inl (among-more c (inr h))) (λ e. from (e .at) (e .less) (e .has)) (a .with) }
+    where
+      from : (j : ℕ) → j < suc k → Has (Codeword m f ∷ hs) j c → (among c (commonBits m ∷ seen) ≡ true) ⊎ Earlier hs k c
+      from zero l h = inl (among-more c (inl (sym h)))
+      from (suc j) l h = inr (record { at = j; less = omega arith; has = h })
+
+  -- the header itself agrees only with what was seen
+  itself : (c : ℕ) → Agrees seen (Codeword m f ∷ hs) 0 c → among (commonBits m) seen ≡ true
+  itself c a = ⊎-elim (λ h. ap (λ (x : ℕ). among x seen) (a .has) ∙ h) (λ e. absurd (omega (arith, e .less))) (a .with)
+
+-- past a lost header
+module _ (seen : List ℕ) (hs : List Header) where
+  past : (k c : ℕ) → Agrees seen hs k c → Agrees seen (Lost ∷ hs) (suc k) c
+  past k c a = record { has = a .has; with = ⊎-elim (λ h. inl h) (λ e. inr (record { at = suc (e .at); less = omega (arith, e .less); has = e .has })) (a .with) }
+
+  over-lost : (k c : ℕ) → Agrees seen (Lost ∷ hs) (suc k) c → Agrees seen hs k c
+  over-lost k c a = record { has = a .has; with = ⊎-elim (λ h. inl h) (λ e. from (e .at) (e .less) (e .has)) (a .with) }
+    where
+      from : (j : ℕ) → j < suc k → Has (Lost ∷ hs) j c → (among c seen ≡ true) ⊎ Earlier hs k c
+      from zero l h = absurd h
+      from (suc j) l h = inr (record { at = j; less = omega arith; has = h })
+
+-- what `firstAgreeing` gives
+abbrev pub Says : List ℕ → List Header → Settings → Type 0
+Says seen hs (Settled c) = First seen hs c
+Says seen hs Unsettled = (k d : ℕ) → Agrees seen hs k d → ⊥
+
+lost-on : (seen : List ℕ) (hs : List Header) (s : Settings) → Says seen hs s → Says seen (Lost ∷ hs) s
+lost-on seen hs (Settled c) r = record { at = suc (r .at); agrees = past seen hs (r .at) c (r .agrees); none = λ i d h a. before i d h a }
+  where
+    before : (i d : ℕ) → i < suc (r .at) → Agrees seen (Lost ∷ hs) i d → ⊥
+    before zero d h a = a .has
+    before (suc i) d h a = r .none i d (omega arith) (over-lost seen hs i d a)
+lost-on seen hs Unsettled r = λ k d a. nowhere k d a
+  where
+    nowhere : (k d : ℕ) → Agrees seen (Lost ∷ hs) k d → ⊥
+    nowhere zero d a = a .has
+    nowhere (suc k) d a = r k d (over-lost seen hs k d a)
+
+read-on : (m f : ℕ) (seen : List ℕ) (hs : List Header) (s : Settings) → among (commonBits m) seen ≡ false → Says (commonBits m ∷ seen) hs s → Says seen (Codeword m f ∷ hs) s
+read-on m f seen hs (Settled c) new r = record { at = suc (r .at); agrees = back m f seen hs (r .at) c (r .agrees); none = λ i d h a. before i d h a }
+  where
+    before : (i d : ℕ) → i < suc (r .at) → Agrees seen (Codeword m f ∷ hs) i d → ⊥
+    before zero d h a = true-false (sym (itself m f seen hs d a) ∙ new)
+    before (suc i) d h a = r .none i d (omega arith) (ahead m f seen hs i d a)
+read-on m f seen hs Unsettled new r = λ k d a. nowhere k d a
+  where
+    nowhere : (k d : ℕ) → Agrees seen (Codeword m f ∷ hs) k d → ⊥
+    nowhere zero d a = true-false (sym (itself m f seen hs d a) ∙ new)
+    nowhere (suc k) d a = r k d (ahead m f seen hs k d a)
+
+-- THE FIRST READABLE HEADER THAT AGREES WITH AN EARLIER READABLE ONE; unsettled exactly if none does
+pub first-agreeing : (seen : List ℕ) (hs : List Header) → Says seen hs (firstAgreeing seen hs)
+unfolding firstAgreeing
+first-agreeing seen [] = λ k d a. a .has
+first-agreeing seen (Lost ∷ hs) = lost-on seen hs (firstAgreeing seen hs) (first-agreeing seen hs)
+first-agreeing seen (Codeword m f ∷ hs) = by (among (commonBits m) seen) refl (first-agreeing (commonBits m ∷ seen) hs)
+  where
+    by : (t : Bool) → among (commonBits m) seen ≡ t → Says (commonBits m ∷ seen) hs (firstAgreeing (commonBits m ∷ seen) hs)
+        → Says seen (Codeword m f ∷ hs) (when t (Settled (commonBits m)) (firstAgreeing (commonBits m ∷ seen) hs))
+    by true e r = record { at = 0; agrees = record { has = refl; with = inl e }; none = λ i d h a. absurd (omega arith) }
+    by false e r = read-on m f seen hs (firstAgreeing (commonBits m ∷ seen) hs) e r
+
+seen-true : (x : ℕ) (l : List ℕ) (y : ℕ) → x ≡ y → among x (y ∷ l) ≡ true
+seen-true x l y e = rw (eq-eqb x y e)
+
+-- all headers are read with the common bits c: once one was seen the next settles them
+abbrev pub AllHave : List Header → ℕ → Type 0
+AllHave [] c = Unit
+AllHave (Lost ∷ hs) c = ⊥
+AllHave (Codeword m f ∷ hs) c = (commonBits m ≡ c) × AllHave hs c
+
+again : (hs : List Header) (seen : List ℕ) (c : ℕ) → 0 < length hs → AllHave hs c → among c seen ≡ true → firstAgreeing seen hs ≡ Settled c
+unfolding firstAgreeing
+again [] seen c n a e = absurd (omega arith)
+again (Lost ∷ hs) seen c n a e = absurd a
+again (Codeword m f ∷ hs) seen c n a e =
+    let t : among (commonBits m) seen ≡ true = ap (λ (x : ℕ). among x seen) (a .0) ∙ e in
+    rw t (ap Settled (a .0))
+
+-- two headers or more, all read with the same common bits, settle them
+pub all-agree : (hs : List Header) (c : ℕ) → 2 ≤ length hs → AllHave hs c → settling hs ≡ Settled c
+unfolding settling firstAgreeing
+all-agree [] c n a = absurd (omega arith)
+all-agree (Lost ∷ hs) c n a = absurd a
+all-agree (Codeword m f ∷ hs) c n a =
+    ap (λ (s : Settings). orElse s (onlyOne (Codeword m f ∷ hs)))
+    (again hs (commonBits m ∷ []) c (omega arith) (a .1) (seen-true c [] (commonBits m) (sym (a .0))))
+
+-- an only header settles them exactly if it is a codeword
+pub only-clean : (m : ℕ) → settling (Codeword m 0 ∷ []) ≡ Settled (commonBits m)
+unfolding settling firstAgreeing onlyOne
+only-clean m = refl
+
+pub only-mended : (m f : ℕ) → (f ≡ 0 → ⊥) → settling (Codeword m f ∷ []) ≡ Unsettled
+unfolding settling firstAgreeing onlyOne
+only-mended m f n = rw (ne-eqb f 0 n)
+
+pub only-lost : settling (Lost ∷ []) ≡ Unsettled
+unfolding settling firstAgreeing onlyOne
+only-lost = refl

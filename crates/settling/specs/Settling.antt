@@ -1,0 +1,62 @@
+-- Settings and header notes (01, "Headers", "Settings", and the report's header notes), from the readings of all headers in order.
+-- Assumes nothing.
+use Prim.Native.Nat.{ℕ, _+_, _%_}
+use mathlib.Core.List.{List, [], _∷_}
+use mathlib.Core.Bool.{Bool, true, false}
+use lib.Dec.{eqb}
+use lib.ListN.{length, getD}
+use Rattle.lists.specs.Tests.{when}
+use Rattle.lists.specs.Parts.{part}
+use Rattle.lists.specs.Rows.{each}
+use Rattle.layout.specs.Layout.{syncOctets, headerOctets}
+use Rattle.bits.specs.Bits.{value, bits}
+use Rattle.header.specs.Message.{countOf, commonBits}
+use Rattle.header.specs.Reading.{reading}
+use Rattle.header.specs.declared.Header.{Header}
+use Rattle.header.specs.declared.Header.the-variants.{Codeword, Lost}
+use Rattle.settling.specs.declared.Settings.{Settings}
+use Rattle.settling.specs.declared.Settings.the-variants.{Settled, Unsettled}
+
+-- ---- the headers of the multiframes at places of the octets
+
+-- the header of a multiframe stands behind its sync: 32 bits, the first sent the least significant of a word
+abbrev pub headerWord : List ℕ → ℕ → ℕ
+headerWord octets place = value (bits (part (place + syncOctets) headerOctets octets))
+
+-- every header's reading, in order: a codeword's message and the number of its flips, or lost
+unfoldable pub readings : List ℕ → List ℕ → List Header
+readings octets places = each (λ k. reading (headerWord octets (getD places k 0))) (length places)
+
+-- ---- settings: common bits are SampRate, feType and EXP, a message with its counter 0
+
+-- x is one of them
+abbrev pub among : ℕ → List ℕ → Bool
+among x [] = false
+among x (y ∷ l) = when (eqb x y) true (among x l)
+
+-- the common bits of the first readable header that agrees in them with an earlier readable one, of which `seen` are the common bits
+unfoldable pub firstAgreeing : List ℕ → List Header → Settings
+firstAgreeing seen [] = Unsettled
+firstAgreeing seen (Lost ∷ hs) = firstAgreeing seen hs
+firstAgreeing seen (Codeword m f ∷ hs) = when (among (commonBits m) seen) (Settled (commonBits m)) (firstAgreeing (commonBits m ∷ seen) hs)
+
+-- an only multiframe whose header is itself a codeword (house)
+unfoldable pub onlyOne : List Header → Settings
+onlyOne [] = Unsettled
+onlyOne (Lost ∷ hs) = Unsettled
+onlyOne (Codeword m f ∷ []) = when (eqb f 0) (Settled (commonBits m)) Unsettled
+onlyOne (Codeword m f ∷ h ∷ hs) = Unsettled
+
+-- if none agrees
+abbrev pub orElse : Settings → Settings → Settings
+orElse (Settled c) other = Settled c
+orElse Unsettled other = other
+
+unfoldable pub settling : List Header → Settings
+settling hs = orElse (firstAgreeing [] hs) (onlyOne hs)
+
+-- ---- header notes: 0 clean, 1 or 2 flips mended, 3 lost; a readable one adds 4 if its counter is not (position from 1) mod 16, and 8 if
+-- its common bits differ from the settled, c. k counts from 0
+unfoldable pub headerNote : ℕ → ℕ → Header → ℕ
+headerNote c k Lost = 3
+headerNote c k (Codeword m f) = f + when (eqb (countOf m) ((k + 1) % 16)) 0 4 + when (eqb (commonBits m) c) 0 8

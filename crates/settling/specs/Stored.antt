@@ -1,0 +1,249 @@
+-- How the code keeps the readings of headers in an array of numbers, and what its functions find there one header at a time. Nothing that
+-- 01 says stands here.
+-- Assumes nothing.
+use Prim.Native.Nat.{ℕ, zero, suc, _+_, _-_, _*_, _/_, _%_, _^_, _≤_, _<_}
+use mathlib.Core.Path.{_≡_, refl, ap, sym, _∙_}
+use mathlib.Core.List.{List, [], _∷_}
+use mathlib.Core.Bool.{Bool, true, false}
+use lib.Dec.{eqb}
+use lib.ListN.{length, getD, set, drop, length-set}
+use lib.Seq.{drop-cons, drop-length}
+use native.Mathlib.Nat.{div-one, add-zero, mod-lt}
+use lib.Bits.{bitAnd, and-mask}
+use lib.Pow.{pow-pos}
+use native.Mathlib.Numerals.{add-one}
+use native.Mathlib.Omega.{arith}
+use borrow.Author.Tests.{eq-eqb, ne-eqb}
+use Rattle.lists.specs.Tests.{when}
+use Rattle.lists.specs.Parts.{part, over, set-over, behind}
+use Rattle.layout.specs.Layout.{multiframeOctets, syncOctets}
+use Rattle.bits.specs.Bits.{value, bits}
+use Rattle.bits.specs.Laws.{in-word, bits-part}
+use Rattle.lists.specs.Rows.{each, length-each, each-at, same-each}
+use Rattle.header.specs.Message.{countOf, commonBits}
+use Rattle.header.specs.Reading.{ReadAs, reading}
+use Rattle.header.specs.Reading.Laws.{reads}
+use Rattle.header.specs.declared.Header.{Header}
+use Rattle.header.specs.declared.Header.the-variants.{Codeword, Lost}
+use Rattle.settling.specs.Settling.{headerWord, readings, among, firstAgreeing, onlyOne, orElse, headerNote}
+use Rattle.settling.specs.declared.Settings.{Settings}
+use Rattle.settling.specs.declared.Settings.the-variants.{Settled, Unsettled}
+
+-- ---- a reading as one number: the message, and above it the flips, of which a lost header has three
+abbrev pub packed : Header → ℕ
+packed Lost = 3 * 2 ^ 16
+packed (Codeword m f) = f * 2 ^ 16 + m
+
+unfoldable pub opened : ℕ → Header
+opened x = when (eqb (x / 2 ^ 16) 3) Lost (Codeword (x % 2 ^ 16) (x / 2 ^ 16))
+
+-- what every reading keeps to
+abbrev pub Mended : Header → Type 0
+Mended Lost = Unit
+Mended (Codeword m f) = (m < 2 ^ 16) × (f ≤ 2)
+
+pub mended : (w : ℕ) → Mended (reading w)
+mended w = from (reading w) (reads w)
+  where
+    from : (h : Header) → ReadAs w h → Mended h
+    from Lost r = tt
+    from (Codeword m f) r = (r .0, r .2)
+
+pub opened-packed : (h : Header) → Mended h → opened (packed h) ≡ h
+unfolding opened
+opened-packed Lost h = refl
+opened-packed (Codeword m f) h =
+    let l = h .0 in
+    let n = h .1 in
+    let d : (f * 2 ^ 16 + m) / 2 ^ 16 ≡ f = omega arith in
+    let r : (f * 2 ^ 16 + m) % 2 ^ 16 ≡ m = omega arith in
+    rw (d, r, ne-eqb f 3 (λ e. omega arith))
+
+-- ---- an array of them
+unfoldable pub openAll : List ℕ → List Header
+openAll l = each (λ k. opened (getD l k 0)) (length l)
+
+abbrev pub packAll : List ℕ → List ℕ → ℕ → List ℕ
+packAll octets places n = each (λ k. packed (reading (headerWord octets (getD places k 0)))) n
+
+pub length-open : (l : List ℕ) → length (openAll l) ≡ length l
+unfolding openAll
+length-open l = length-each (λ k. opened (getD l k 0)) (length l)
+
+pub open-at : (l : List ℕ) (k : ℕ) → k < length l → getD (openAll l) k Lost ≡ opened (getD l k 0)
+unfolding openAll
+open-at l k h = each-at (λ k. opened (getD l k 0)) (length l) k Lost h
+
+-- the readings of all headers, stored and found again
+pub stored-back : (octets places : List ℕ) → openAll (packAll octets places (length places)) ≡ readings octets places
+unfolding openAll readings
+stored-back octets places =
+    let f : ℕ → ℕ = λ k. packed (reading (headerWord octets (getD places k 0))) in
+    let m = length places in
+    ap (each (λ k. opened (getD (each f m) k 0))) (length-each f m)
+    ∙ same-each (λ k. opened (getD (each f m) k 0)) (λ k. reading (headerWord octets (getD places k 0))) m (λ k h.
+    ap opened (each-at f m k 0 h) ∙ opened-packed (reading (headerWord octets (getD places k 0))) (mended (headerWord octets (getD places k 0))))
+
+-- ---- settling, one header at a time
+
+-- the common bits seen so far, with one header more
+abbrev pub withSeen : Header → List ℕ → List ℕ
+withSeen Lost seen = seen
+withSeen (Codeword m f) seen = commonBits m ∷ seen
+
+-- the common bits of the readable ones among the first k headers, the last one first
+unfoldable pub seenBefore : List Header → ℕ → List ℕ
+seenBefore hs zero = []
+seenBefore hs (suc k) = withSeen (getD hs k Lost) (seenBefore hs k)
+
+-- what one header settles
+abbrev pub settledBy : Header → List ℕ → Settings
+settledBy Lost seen = Unsettled
+settledBy (Codeword m f) seen = when (among (commonBits m) seen) (Settled (commonBits m)) Unsettled
+
+-- whether a header has these common bits
+abbrev pub hasCommon : Header → ℕ → Bool
+hasCommon Lost c = false
+hasCommon (Codeword m f) c = eqb c (commonBits m)
+
+pub agreeing-step : (h : Header) (hs : List Header) (seen : List ℕ) → firstAgreeing seen (h ∷ hs) ≡ orElse (settledBy h seen) (firstAgreeing (withSeen h seen) hs)
+unfolding firstAgreeing
+agreeing-step Lost hs seen = refl
+agreeing-step (Codeword m f) hs seen = by (among (commonBits m) seen)
+  where
+    by : (t : Bool) → when t (Settled (commonBits m)) (firstAgreeing (commonBits m ∷ seen) hs)
+        ≡ orElse (when t (Settled (commonBits m)) Unsettled) (firstAgreeing (commonBits m ∷ seen) hs)
+    by true = refl
+    by false = refl
+
+-- what is left to settle from header k on
+pub agreeing-on : (hs : List Header) (k : ℕ) (s : Settings) → k < length hs → s ≡ settledBy (getD hs k Lost) (seenBefore hs k)
+    → firstAgreeing (seenBefore hs k) (drop k hs) ≡ orElse s (firstAgreeing (seenBefore hs (k + 1)) (drop (k + 1) hs))
+unfolding seenBefore
+agreeing-on hs k s h e = rw (drop-cons hs k Lost h, add-one k, e) (agreeing-step (getD hs k Lost) (drop (suc k) hs) (seenBefore hs k))
+
+pub agreeing-end : (hs : List Header) (seen : List ℕ) → firstAgreeing seen (drop (length hs) hs) ≡ Unsettled
+unfolding firstAgreeing
+agreeing-end hs seen = rw (drop-length hs)
+
+-- ---- looking back for common bits, from the last header to the first
+pub among-step : (hs : List Header) (c k : ℕ) (t : Bool) → t ≡ hasCommon (getD hs k Lost) c → among c (seenBefore hs (suc k)) ≡ when t true (among c (seenBefore hs k))
+unfolding seenBefore
+among-step hs c k t e = from (getD hs k Lost) t e
+  where
+    from : (h : Header) (t : Bool) → t ≡ hasCommon h c → among c (withSeen h (seenBefore hs k)) ≡ when t true (among c (seenBefore hs k))
+    from Lost t e = rw e
+    from (Codeword m f) t e = rw e
+
+pub among-none : (hs : List Header) (c : ℕ) → among c (seenBefore hs 0) ≡ false
+unfolding seenBefore
+among-none hs c = refl
+
+-- ---- an only header
+abbrev pub onlyBy : Header → Settings
+onlyBy Lost = Unsettled
+onlyBy (Codeword m f) = when (eqb f 0) (Settled (commonBits m)) Unsettled
+
+pub only-is : (hs : List Header) → length hs ≡ 1 → onlyOne hs ≡ onlyBy (getD hs 0 Lost)
+unfolding onlyOne
+only-is [] e = absurd (omega arith)
+only-is (Lost ∷ hs) e = refl
+only-is (Codeword m f ∷ []) e = refl
+only-is (Codeword m f ∷ h ∷ hs) e = absurd (omega arith)
+
+pub not-only : (hs : List Header) → (length hs ≡ 1 → ⊥) → onlyOne hs ≡ Unsettled
+unfolding onlyOne
+not-only [] n = refl
+not-only (Lost ∷ hs) n = refl
+not-only (Codeword m f ∷ []) n = absurd (n refl)
+not-only (Codeword m f ∷ h ∷ hs) n = refl
+
+-- ---- header notes: what a readable header's flips are added to
+unfoldable pub stepNote : ℕ → ℕ → ℕ
+stepNote count k = when (eqb count ((k + 1) % 16)) 0 4
+
+unfoldable pub commonNote : ℕ → ℕ → ℕ
+commonNote found common = when (eqb found common) 0 8
+
+pub step-note-le : (count k : ℕ) → stepNote count k ≤ 4
+unfolding stepNote
+step-note-le count k = by (eqb count ((k + 1) % 16))
+  where
+    by : (t : Bool) → when t 0 4 ≤ 4
+    by true = omega arith
+    by false = omega arith
+
+pub common-note-le : (a b : ℕ) → commonNote a b ≤ 8
+unfolding commonNote
+common-note-le a b = by (eqb a b)
+  where
+    by : (t : Bool) → when t 0 8 ≤ 8
+    by true = omega arith
+    by false = omega arith
+
+pub note-sum : (c k m f s t : ℕ) (h : Header) → h ≡ Codeword m f → s ≡ stepNote (countOf m) k → t ≡ commonNote (commonBits m) c → f + s + t ≡ headerNote c k h
+unfolding stepNote commonNote headerNote
+note-sum c k m f s t h e es et = rw (e, es, et)
+
+pub note-lost : (c k : ℕ) (h : Header) → h ≡ Lost → 3 ≡ headerNote c k h
+unfolding headerNote
+note-lost c k h e = rw e
+
+-- ---- a header's word is the low half of eight octets
+pub low-half : (x : ℕ) → bitAnd x 4294967295 < 2 ^ 32
+low-half x = rw (and-mask x 32) (mod-lt x (pow-pos 32))
+
+pub word-is : (s : List ℕ) (place x : ℕ) → place + multiframeOctets ≤ length s → x ≡ value (part (8 * (place + syncOctets)) 64 (bits s))
+    → bitAnd x 4294967295 ≡ headerWord s place
+word-is s place x h e =
+    let a : x / 2 ^ 0 ≡ x = div-one x in
+    let z : 8 * (place + 2) + 0 ≡ 8 * (place + 2) = omega arith in
+    and-mask x 32 ∙ ap (λ (n : ℕ). n % 2 ^ 32) (sym a) ∙ in-word s (place + 2) 0 32 x (omega arith) (omega arith) e
+    ∙ ap (λ (n : ℕ). value (part n 32 (bits s))) z ∙ ap value (sym (bits-part (place + 2) 4 s (omega arith)))
+
+-- ---- one header more is stored
+pub stored-on : (octets places l m : List ℕ) (k x : ℕ) → k < length l → x ≡ packed (reading (headerWord octets (getD places k 0)))
+    → m ≡ over l 0 k (packAll octets places k) → length m ≡ length l → set m k x ≡ over l 0 (k + 1) (packAll octets places (k + 1))
+stored-on octets places l m k x h e em size =
+    let f : ℕ → ℕ = λ k. packed (reading (headerWord octets (getD places k 0))) in
+    let z : 0 + k ≡ k = omega arith in
+    let s : set m k x ≡ over m (0 + k) 1 (f k ∷ []) = set-over m k x (omega arith) ∙ ap (λ (y : ℕ). over m k 1 (y ∷ [])) e ∙ ap (λ (i : ℕ). over m i 1 (f k ∷ [])) (sym z) in
+    behind l 0 k 1 (each f k) (f k ∷ []) (omega arith) (length-each f k) em s ∙ ap (λ (n : ℕ). over l 0 (k + 1) (each f n)) (sym (add-one k))
+
+-- ---- what the code's branches find
+module _ (l : List ℕ) (k : ℕ) (h : k < length l) (r : Header) (e : r ≡ opened (getD l k 0)) where
+  pub found-at : getD (openAll l) k Lost ≡ r
+  found-at = open-at l k h ∙ sym e
+
+  pub lost-settles-nothing : (seen : List ℕ) → r ≡ Lost → Unsettled ≡ settledBy (getD (openAll l) k Lost) seen
+  lost-settles-nothing seen q = rw (found-at, q)
+
+  pub seen-settles : (seen : List ℕ) (m f c : ℕ) (t : Bool) → r ≡ Codeword m f → c ≡ commonBits m → t ≡ among c seen → t ≡ true
+      → Settled c ≡ settledBy (getD (openAll l) k Lost) seen
+  seen-settles seen m f c t q ec et y =
+      let s : among (commonBits m) seen ≡ true = ap (λ (x : ℕ). among x seen) (sym ec) ∙ sym et ∙ y in
+      rw (found-at, q, s) (ap Settled ec)
+
+  pub new-settles-nothing : (seen : List ℕ) (m f c : ℕ) (t : Bool) → r ≡ Codeword m f → c ≡ commonBits m → t ≡ among c seen → t ≡ false
+      → Unsettled ≡ settledBy (getD (openAll l) k Lost) seen
+  new-settles-nothing seen m f c t q ec et y =
+      let s : among (commonBits m) seen ≡ false = ap (λ (x : ℕ). among x seen) (sym ec) ∙ sym et ∙ y in
+      rw (found-at, q, s)
+
+  -- looking back: from header k + 1 to header k
+  pub looked : (c i : ℕ) (t : Bool) → t ≡ hasCommon r c → suc k ≡ i → among c (seenBefore (openAll l) i) ≡ when t true (among c (seenBefore (openAll l) k))
+  looked c i t et ei =
+      ap (λ (n : ℕ). among c (seenBefore (openAll l) n)) (sym ei) ∙ among-step (openAll l) c k t (et ∙ ap (λ (x : Header). hasCommon x c) (sym found-at))
+
+module _ (l : List ℕ) (one : length l ≡ 1) (r : Header) (e : r ≡ opened (getD l 0 0)) where
+  pub only-found : onlyOne (openAll l) ≡ onlyBy r
+  only-found = only-is (openAll l) (length-open l ∙ one) ∙ ap onlyBy (found-at l 0 (omega arith) r e)
+
+  pub only-lost : r ≡ Lost → Unsettled ≡ onlyOne (openAll l)
+  only-lost q = rw (only-found, q)
+
+  pub only-clean : (m f c : ℕ) → r ≡ Codeword m f → f ≡ 0 → c ≡ commonBits m → Settled c ≡ onlyOne (openAll l)
+  only-clean m f c q z ec = rw (only-found, q, eq-eqb f 0 z) (ap Settled ec)
+
+  pub only-mended : (m f : ℕ) → r ≡ Codeword m f → (f ≡ 0 → ⊥) → Unsettled ≡ onlyOne (openAll l)
+  only-mended m f q n = rw (only-found, q, ne-eqb f 0 n)

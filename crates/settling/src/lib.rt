@@ -1,0 +1,204 @@
+// Settings and header notes: every header of an utterance read once, what the readings settle, and what the report says of each.
+use header::Header;
+use layout::MultiframeLayout;
+ghost use mathlib.Core.Path.{_≡_};
+ghost use mathlib.Core.List.{[]};
+ghost use Prim.Native.Nat.{_+_, _≤_, _<_};
+ghost use lib.ListN.{length, getD};
+ghost use Rattle.lists.specs.Parts.{over};
+ghost use Rattle.layout.specs.Layout.{multiframeOctets};
+ghost use Rattle.cutting.specs.Laws.{Placed};
+ghost use Rattle.header.specs.declared.Header.the-variants.{Lost};
+ghost use Rattle.settling.specs.Settling.{headerWord, among, firstAgreeing, onlyOne, settling, headerNote};
+ghost use Rattle.settling.specs.Stored.{packed, opened, Mended, openAll, packAll, seenBefore, settledBy, hasCommon, stepNote, commonNote};
+
+// What the headers settle: common bits, SampRate, feType and EXP, as a message with its counter 0; or nothing.
+pub enum Settings {
+    Settled { common: u16 },
+    Unsettled,
+}
+
+// In an array a reading is one number: the message, and above it the flips, of which a lost header has three.
+const ABOVE: u32 = 0x10000;
+
+const LOST_FLIPS: u32 = 3;
+
+// The counter of a header counts modulo 16.
+const COUNTS: usize = 16;
+
+// What the note of a lost header says, and what the note of a readable one adds.
+const LOST: u8 = 3;
+
+const OUT_OF_STEP: u8 = 4;
+
+const UNLIKE_SETTLED: u8 = 8;
+
+// The header of the multiframe at a place, as a word. It asks for a whole multiframe, which cutting has found.
+fn header_word(octets: &[u8], place: usize) -> u32
+    requires { ⌜ place + multiframeOctets ≤ length (now octets) ⌝ }
+    ensures { λ r. ⌜ r ≡ headerWord (now (octets .entry)) place ⌝ }
+{
+    (bits::word(octets, place + MultiframeLayout::SYNC) & 0xffffffff) as u32
+}
+
+fn pack_reading(h: Header) -> u32
+    requires { ⌜ Mended h ⌝ }
+    ensures { λ r. ⌜ r ≡ packed h ⌝ }
+{
+    let Header::Codeword { message, flips } = h else {
+        return LOST_FLIPS * ABOVE;
+    };
+    flips * ABOVE + message as u32
+}
+
+fn open_reading(x: u32) -> Header
+    ensures { λ r. ⌜ r ≡ opened x ⌝ }
+{
+    let flips = x / ABOVE;
+    if flips == LOST_FLIPS {
+        return Header::Lost;
+    }
+    Header::Codeword {
+        message: (x % ABOVE) as u16,
+        flips,
+    }
+}
+
+// read_headers puts the reading of every header to the front of headers; the rest of headers stays.
+// It asks for places of whole multiframes, and for room.
+pub fn read_headers(octets: &[u8], places: &[usize], headers: &mut [u32])
+    requires { ⌜ Placed (now octets) (now places) ⌝ }
+    requires { ⌜ length (now places) ≤ length (now headers) ⌝ }
+    ensures { λ _. ⌜ now (headers .exit) ≡ over (now (headers .entry)) 0 (length (now (places .entry))) (packAll (now (octets .entry)) (now (places .entry)) (length (now (places .entry)))) ⌝ }
+{
+    let mut k = 0;
+    while k < places.len() {
+        let place = places[k];
+        headers[k] = pack_reading(header::read(header_word(octets, place)));
+        k += 1;
+    }
+}
+
+// Whether a header was read with these common bits.
+fn has_common(h: Header, common: u16) -> bool
+    ensures { λ r. ⌜ r ≡ hasCommon h common ⌝ }
+{
+    let Header::Codeword { message, flips: _ } = h else {
+        return false;
+    };
+    common == header::common_of(message)
+}
+
+// Whether one of the first k headers was read with these common bits: the nearest is tried first.
+fn was_seen(headers: &[u32], k: usize, common: u16) -> bool
+    requires { ⌜ k ≤ length (now headers) ⌝ }
+    ensures { λ r. ⌜ r ≡ among common (seenBefore (openAll (now (headers .entry))) k) ⌝ }
+{
+    let mut j = k;
+    while 0 < j {
+        j -= 1;
+        if has_common(open_reading(headers[j]), common) {
+            return true;
+        }
+    }
+    false
+}
+
+// What header k settles: its common bits, if an earlier readable one has the same.
+fn agreed(headers: &[u32], k: usize) -> Settings
+    requires { ⌜ k < length (now headers) ⌝ }
+    ensures { λ r. ⌜ r ≡ settledBy (getD (openAll (now (headers .entry))) k Lost) (seenBefore (openAll (now (headers .entry))) k) ⌝ }
+{
+    let Header::Codeword { message, flips: _ } = open_reading(headers[k]) else {
+        return Settings::Unsettled;
+    };
+    let common = header::common_of(message);
+    if was_seen(headers, k, common) {
+        return Settings::Settled { common };
+    }
+    Settings::Unsettled
+}
+
+fn first_agreeing(headers: &[u32]) -> Settings
+    ensures { λ r. ⌜ r ≡ firstAgreeing [] (openAll (now (headers .entry))) ⌝ }
+{
+    let mut k = 0;
+    while k < headers.len() {
+        if let Settings::Settled { common } = agreed(headers, k) {
+            return Settings::Settled { common };
+        }
+        k += 1;
+    }
+    Settings::Unsettled
+}
+
+// An only header settles its common bits if it is itself a codeword (house).
+fn only_one(headers: &[u32]) -> Settings
+    ensures { λ r. ⌜ r ≡ onlyOne (openAll (now (headers .entry))) ⌝ }
+{
+    if headers.len() != 1 {
+        return Settings::Unsettled;
+    }
+    let Header::Codeword { message, flips } = open_reading(headers[0]) else {
+        return Settings::Unsettled;
+    };
+    if flips == 0 {
+        return Settings::Settled {
+            common: header::common_of(message),
+        };
+    }
+    Settings::Unsettled
+}
+
+// settle gives what the readings of all headers settle.
+pub fn settle(headers: &[u32]) -> Settings
+    ensures { λ r. ⌜ r ≡ settling (openAll (now (headers .entry))) ⌝ }
+{
+    match first_agreeing(headers) {
+        Settings::Settled { common } => Settings::Settled { common },
+        Settings::Unsettled => only_one(headers),
+    }
+}
+
+// What the note of a readable header adds if its counter is out of step at position k (from 0).
+fn step_note(count: u8, k: usize) -> u8
+    requires { ⌜ k < 65536 ⌝ }
+    ensures { λ r. ⌜ r ≡ stepNote count k ⌝ }
+{
+    if count as usize == (k + 1) % COUNTS {
+        return 0;
+    }
+    OUT_OF_STEP
+}
+
+// And if its common bits are not the settled ones.
+fn common_note(found: u16, common: u16) -> u8
+    ensures { λ r. ⌜ r ≡ commonNote found common ⌝ }
+{
+    if found == common {
+        return 0;
+    }
+    UNLIKE_SETTLED
+}
+
+// The note of a header's reading at position k (from 0). It asks for a reading as header::read gives it.
+fn note_of(h: Header, k: usize, common: u16) -> u8
+    requires { ⌜ Mended h × (k < 65536) ⌝ }
+    ensures { λ r. ⌜ r ≡ headerNote common k h ⌝ }
+{
+    let Header::Codeword { message, flips } = h else {
+        return LOST;
+    };
+    let step = step_note(header::fields_of(message).count, k);
+    let like = common_note(header::common_of(message), common);
+    flips as u8 + step + like
+}
+
+// note_at gives the note of header k of the readings in an array, as read_headers puts them there.
+pub fn note_at(headers: &[u32], k: usize, common: u16) -> u8
+    requires { ⌜ (k < length (now headers)) × (k < 65536) ⌝ }
+    requires { ⌜ Mended (opened (getD (now headers) k 0)) ⌝ }
+    ensures { λ r. ⌜ r ≡ headerNote common k (opened (getD (now (headers .entry)) k 0)) ⌝ }
+{
+    note_of(open_reading(headers[k]), k, common)
+}

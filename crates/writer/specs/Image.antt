@@ -1,0 +1,296 @@
+-- What stands where in an image, what an accepted utterance has, and that its image is the image of no other (01, "Writing").
+-- Assumes nothing.
+use mathlib.Core.Path.{_≡_, refl, sym, ap, _∙_, subst}
+use mathlib.Core.Bool.{Bool, true, false, not}
+use mathlib.Core.List.{List, [], _∷_, _++_}
+use Prim.Native.Nat.{ℕ, zero, suc, _+_, _-_, _*_, _/_, _%_, _^_, _≤_, _<_}
+use native.Mathlib.Nat.{mod-eq-of-lt}
+use native.Mathlib.Decide.{ℕ-discrete, decLt}
+use native.Mathlib.Omega.{arith}
+use lib.Dec.{eqb, ltb}
+use lib.ListN.{length, getD, List·getD-eq-default}
+use lib.Pow.{pow-pos}
+use lib.Seq.{ext-getD}
+use borrow.Author.Tests.{eqb-false, ltb-false}
+use Rattle.lists.specs.Tests.{when, true-false, not-true}
+use Rattle.lists.specs.Parts.{part, over}
+use Rattle.layout.specs.Layout.{widths, frameIndices, multiframeFrames, multiframePairs, multiframeOctets, headerOctets, streamOctets, firstFrame, secondFrame, firstPair}
+use Rattle.bits.specs.Bits.{field, octets, Fits}
+use Rattle.packet.specs.Packet.{stream, packetOf, frameAt}
+use Rattle.packet.specs.Laws.{stream-part, length-stream, fits-frame, getD-row, packetOf-same}
+use Rattle.header_code.specs.Code.{codeword}
+use Rattle.header_code.specs.Code.Distance.{codeword-lt, codeword-low}
+use Rattle.header.specs.Message.{message, rateOf, typeOf}
+use Rattle.header.specs.Message.Laws.{message-lt, rate-back, type-back}
+use Rattle.writer.specs.Writing.{Search, at, nowhere, firstFrom, isFound, frameCount, isWide, isZero, endsEarly, multiframesFor, needed, verdict, multiframe, image, outcome, writing}
+use Rattle.writer.specs.Laws.{first-at, first-nowhere, early-last, early-boundary, length-image, Accepted, accepted, accepts}
+use Rattle.writer.specs.declared.Answer.the-variants.{Written}
+use Rattle.writer.specs.Made.{syncIn, headerIn, wordIn, streamIn, packetIn, framed, made, Small, made-part, made-sync, made-header, made-word, made-stream, made-packet, small-made}
+
+-- ---- the image is so made
+module _ (rate type : ℕ) (idx : List ℕ) where
+  abbrev pub words : ℕ → ℕ
+  words k = codeword (message rate type (k + 1) 0)
+
+  abbrev pub streams : ℕ → List Bool
+  streams k = stream idx (firstPair k) multiframePairs
+
+  pub image-made : (m : ℕ) → image rate type idx m ≡ made words streams m
+  unfolding image multiframe
+  image-made zero = refl
+  image-made (suc m) = ap (λ (l : List ℕ). l ++ framed (words m) (streams m)) (image-made m)
+
+  -- ITS k-TH MULTIFRAME
+  pub image-part : (m k : ℕ) → k < m → part (multiframeOctets * k) multiframeOctets (image rate type idx m) ≡ multiframe rate type idx k
+  unfolding multiframe
+  image-part m k h = ap (part (multiframeOctets * k) multiframeOctets) (image-made m) ∙ made-part words streams m k h
+
+  pub image-small : (m : ℕ) → Small (image rate type idx m)
+  image-small m = subst Small (sym (image-made m)) (small-made words streams m)
+
+  module _ (m k : ℕ) (h : k < m) where
+    -- EACH MULTIFRAME BEGINS WITH THE SYNC
+    pub image-sync : syncIn (image rate type idx m) k ≡ 0x87 ∷ 0xB2 ∷ []
+    image-sync = ap (λ (s : List ℕ). syncIn s k) (image-made m) ∙ made-sync words streams m k h
+
+    -- ITS HEADER IS THE CODEWORD of the settings and the counter, 1 in the first
+    pub image-header : headerIn (image rate type idx m) k ≡ octets headerOctets (field 32 (codeword (message rate type (k + 1) 0)))
+    image-header = ap (λ (s : List ℕ). headerIn s k) (image-made m) ∙ made-header words streams m k h
+
+    pub image-word : wordIn (image rate type idx m) k ≡ codeword (message rate type (k + 1) 0)
+    image-word =
+        ap (λ (s : List ℕ). wordIn s k) (image-made m)
+        ∙ made-word words streams m k h (codeword-lt (message rate type (k + 1) 0) (message-lt rate type (k + 1) 0))
+
+    pub image-stream : streamIn (image rate type idx m) k ≡ octets streamOctets (stream idx (firstPair k) multiframePairs)
+    image-stream = ap (λ (s : List ℕ). streamIn s k) (image-made m) ∙ made-stream words streams m k h
+
+  -- ITS PACKETS are those of the pairs, which run on through all multiframes
+  pub image-packet : (m q : ℕ) → q < multiframePairs * m → packetIn (image rate type idx m) q ≡ packetOf idx q
+  image-packet m q h =
+      let e : 12 * (q / 12) + q % 12 ≡ q = omega arith in
+      let l : q % 12 < 12 = omega arith in
+      ap (λ (s : List ℕ). packetIn s q) (image-made m) ∙ made-packet words streams m q h (length-stream idx (firstPair (q / 12)) multiframePairs)
+      ∙ stream-part idx (firstPair (q / 12)) multiframePairs (q % 12) l ∙ ap (packetOf idx) e
+
+-- ---- what an accepted utterance has
+-- one of the frame's seven indices is not 0
+pub record Nonzero (idx : List ℕ) (k : ℕ) : Type 0 where
+  pub place : ℕ
+  pub within : place < frameIndices
+  pub nonzero : getD idx (frameIndices * k + place) 0 ≡ 0 → ⊥
+
+unzero : (idx : List ℕ) (k : ℕ) → isZero idx k ≡ false → Nonzero idx k
+unzero idx k e = go (firstFrom (λ j. not (eqb (getD idx j 0) 0)) (frameIndices * k) frameIndices) refl e
+  where
+    go : (s : Search) → firstFrom (λ j. not (eqb (getD idx j 0) 0)) (frameIndices * k) frameIndices ≡ s → not (isFound s) ≡ false → Nonzero idx k
+    go (at j) f z =
+        let s = first-at (λ i. not (eqb (getD idx i 0) 0)) (frameIndices * k) frameIndices j f in
+        let b : eqb (getD idx j 0) 0 ≡ false = not-true (eqb (getD idx j 0) 0) (s .2) in
+        let w : 7 * k + (j - 7 * k) ≡ j = omega (arith, s .0) in
+        record { place = j - frameIndices * k; within = omega (arith, s .0, s .1); nonzero = λ n. eqb-false (getD idx j 0) 0 b (ap (λ (i : ℕ). getD idx i 0) (sym w) ∙ n) }
+    go nowhere f z = absurd (true-false z)
+
+module _ (rate type : ℕ) (idx : List ℕ) (out n : ℕ) (a : Accepted rate type idx out n) where
+  -- ITS LAST FRAME IS NOT ZERO
+  pub last-speaks : (k : ℕ) → k + 1 ≡ frameCount idx → Nonzero idx k
+  last-speaks k e = unzero idx k (sym (early-last idx k e) ∙ first-nowhere (endsEarly idx) 0 (frameCount idx) (a .speaks) k (omega arith) (omega arith))
+
+  -- NOR IS A FRAME WHOSE NUMBER FROM 1 IS A MULTIPLE OF 24
+  pub boundary-speaks : (k : ℕ) → k < frameCount idx → (k + 1) % multiframeFrames ≡ 0 → Nonzero idx k
+  boundary-speaks k h z =
+      elim (ℕ-discrete (k + 1) (frameCount idx)) [
+        | yes e ↦ last-speaks k e
+        | no d ↦ unzero idx k (sym (early-boundary idx k d z) ∙ first-nowhere (endsEarly idx) 0 (frameCount idx) (a .speaks) k (omega arith) (omega arith))
+      ]
+
+  -- THE FIRST SIX INDICES OF EVERY FRAME ARE AT MOST 63
+  pub narrow : (k j : ℕ) → k < frameCount idx → j < frameIndices - 1 → getD idx (frameIndices * k + j) 0 ≤ 63
+  narrow k j h l =
+      ltb-false 63 (getD idx (frameIndices * k + j) 0)
+      (go (firstFrom (λ j. ltb 63 (getD idx j 0)) (frameIndices * k) (frameIndices - 1)) refl
+      (first-nowhere (isWide idx) 0 (frameCount idx) (a .narrow-indices) k (omega arith) (omega arith)))
+    where
+      go : (s : Search) → firstFrom (λ j. ltb 63 (getD idx j 0)) (frameIndices * k) (frameIndices - 1) ≡ s → isFound s ≡ false
+          → ltb 63 (getD idx (frameIndices * k + j) 0) ≡ false
+      go (at i) f z = absurd (true-false z)
+      go nowhere f z = first-nowhere (λ j. ltb 63 (getD idx j 0)) (frameIndices * k) (frameIndices - 1) f (frameIndices * k + j) (omega arith) (omega arith)
+
+  -- so every frame, padding too, fits its widths, if each index is an octet
+  pub fits : Small idx → (k : ℕ) → Fits widths (frameAt idx k)
+  fits small k = fits-frame idx k (λ i h. each i h (decLt k (frameCount idx)))
+    where
+      whole : length idx ≡ frameIndices * frameCount idx
+      whole = omega (arith, a .sizes .whole)
+
+      six : (i : ℕ) → i < 6 → getD widths i 0 ≡ 6
+      six zero h = refl
+      six (suc zero) h = refl
+      six (suc (suc zero)) h = refl
+      six (suc (suc (suc zero))) h = refl
+      six (suc (suc (suc (suc zero)))) h = refl
+      six (suc (suc (suc (suc (suc zero))))) h = refl
+      six (suc (suc (suc (suc (suc (suc i)))))) h = absurd (omega arith)
+
+      each : (i : ℕ) → i < frameIndices → Dec (k < frameCount idx) → getD idx (frameIndices * k + i) 0 < 2 ^ getD widths i 0
+      each i h (no d) =
+          let e : getD idx (7 * k + i) 0 ≡ 0 = List·getD-eq-default idx 0 (omega (arith, whole)) in
+          subst (λ (x : ℕ). x < 2 ^ getD widths i 0) (sym e) (pow-pos (getD widths i 0))
+      each i h (yes l) =
+          elim (decLt i 6) [
+            | yes s ↦
+                let b : getD idx (7 * k + i) 0 < 2 ^ 6 = omega (arith, narrow k i l s) in
+                subst (λ (w : ℕ). getD idx (7 * k + i) 0 < 2 ^ w) (sym (six i s)) b
+            | no d ↦
+                let e : i ≡ 6 = omega arith in
+                subst (λ (x : ℕ). getD idx (7 * k + i) 0 < 2 ^ getD widths x 0) (sym e) (small (7 * k + i))
+          ]
+
+-- ---- an utterance that the writer accepts, given room for its image
+pub record Utterance : Type 0 where
+  pub rate : ℕ
+  pub kind : ℕ
+  pub indices : List ℕ
+  pub small : Small indices
+  pub written : verdict rate kind indices (needed indices) ≡ Written (needed indices)
+
+module _ (u : Utterance) where
+  abbrev pub multiframesOf : ℕ
+  multiframesOf = multiframesFor (frameCount (u .indices))
+
+  abbrev pub pairsOf : ℕ
+  pairsOf = multiframePairs * multiframesOf
+
+  abbrev pub imageOf : List ℕ
+  imageOf = image (u .rate) (u .kind) (u .indices) multiframesOf
+
+  pub is-accepted : Accepted (u .rate) (u .kind) (u .indices) (needed (u .indices)) (needed (u .indices))
+  is-accepted = accepted (u .rate) (u .kind) (u .indices) (needed (u .indices)) (needed (u .indices)) (u .written)
+
+  -- the writer's answer and output, whatever is lent, if it is enough
+  pub writes : (out : List ℕ) → needed (u .indices) ≤ length out
+      → writing (u .rate) (u .kind) (u .indices) out ≡ outcome (Written (needed (u .indices))) (over out 0 (needed (u .indices)) imageOf)
+  unfolding writing
+  writes out room =
+      let a = is-accepted in
+      rw (accepts (u .rate) (u .kind) (u .indices) (length out) (a .sizes) (a .narrow-indices) (a .speaks) room)
+
+  -- the settings fit their fields
+  pub rate-small : u .rate < 4
+  rate-small = bound (ltb 3 (u .rate)) refl (is-accepted .sizes .settings)
+    where
+      bound : (t : Bool) → ltb 3 (u .rate) ≡ t → when t false (when (eqb (u .rate) 2) false (when (ltb 1 (u .kind)) false true)) ≡ true → u .rate < 4
+      bound true e z = absurd (true-false (sym z))
+      bound false e z = omega (arith, ltb-false 3 (u .rate) e)
+
+  pub kind-small : u .kind < 2
+  kind-small = bound (ltb 3 (u .rate)) (eqb (u .rate) 2) (ltb 1 (u .kind)) refl (is-accepted .sizes .settings)
+    where
+      bound : (s r t : Bool) → ltb 1 (u .kind) ≡ t → when s false (when r false (when t false true)) ≡ true → u .kind < 2
+      bound true r t e z = absurd (true-false (sym z))
+      bound false true t e z = absurd (true-false (sym z))
+      bound false false true e z = absurd (true-false (sym z))
+      bound false false false e z = omega (arith, ltb-false 1 (u .kind) e)
+
+  pub rate-not-2 : u .rate ≡ 2 → ⊥
+  rate-not-2 = bound (ltb 3 (u .rate)) (eqb (u .rate) 2) refl (is-accepted .sizes .settings)
+    where
+      bound : (s r : Bool) → eqb (u .rate) 2 ≡ r → when s false (when r false (when (ltb 1 (u .kind)) false true)) ≡ true → u .rate ≡ 2 → ⊥
+      bound true r e z = absurd (true-false (sym z))
+      bound false true e z = absurd (true-false (sym z))
+      bound false false e z = eqb-false (u .rate) 2 e
+
+  pub whole-frames : length (u .indices) ≡ frameIndices * frameCount (u .indices)
+  whole-frames = omega (arith, is-accepted .sizes .whole)
+
+  pub fits-each-frame : (k : ℕ) → Fits widths (frameAt (u .indices) k)
+  fits-each-frame = fits (u .rate) (u .kind) (u .indices) (needed (u .indices)) (needed (u .indices)) is-accepted (u .small)
+
+-- what the writer answered with some room, it would with just enough
+pub utterance : (rate kind : ℕ) (indices : List ℕ) (out n : ℕ) → Small indices → verdict rate kind indices out ≡ Written n → Utterance
+utterance rate kind indices out n small e =
+    let a = accepted rate kind indices out n e in
+    record {
+      rate = rate;
+      kind = kind;
+      indices = indices;
+      small = small;
+      written = accepts rate kind indices (needed indices) (a .sizes) (a .narrow-indices) (a .speaks) (omega arith);
+    }
+
+-- ---- TWO ACCEPTED UTTERANCES WITH THE SAME IMAGE ARE THE SAME UTTERANCE
+-- settings of one codeword
+pub same-settings : (u v : Utterance) (c : ℕ) → message (u .rate) (u .kind) c 0 ≡ message (v .rate) (v .kind) c 0 → (u .rate ≡ v .rate) × (u .kind ≡ v .kind)
+same-settings u v c e = (
+  sym (mod-eq-of-lt (rate-small u)) ∙ sym (rate-back (u .rate) (u .kind) c 0) ∙ ap rateOf e ∙ rate-back (v .rate) (v .kind) c 0
+      ∙ mod-eq-of-lt (rate-small v),
+  sym (mod-eq-of-lt (kind-small u)) ∙ sym (type-back (u .rate) (u .kind) c 0) ∙ ap typeOf e ∙ type-back (v .rate) (v .kind) c 0
+      ∙ mod-eq-of-lt (kind-small v),
+)
+
+-- frames of one packet
+pub same-pair : (u v : Utterance) (q : ℕ) → packetOf (u .indices) q ≡ packetOf (v .indices) q
+    → (frameAt (u .indices) (firstFrame q) ≡ frameAt (v .indices) (firstFrame q)) × (frameAt (u .indices) (secondFrame q) ≡ frameAt (v .indices) (secondFrame q))
+same-pair u v q =
+    packetOf-same (u .indices) (v .indices) q q (fits-each-frame u (firstFrame q)) (fits-each-frame u (secondFrame q)) (fits-each-frame v (firstFrame q))
+    (fits-each-frame v (secondFrame q))
+
+module _ (u v : Utterance) (same : (i : ℕ) → getD (u .indices) i 0 ≡ getD (v .indices) i 0) where
+  -- a last frame that is not zero cannot stand past the other's end
+  no-more : frameCount (v .indices) ≤ frameCount (u .indices)
+  no-more = by (decLt (frameCount (u .indices)) (frameCount (v .indices)))
+    where
+      by : Dec (frameCount (u .indices) < frameCount (v .indices)) → frameCount (v .indices) ≤ frameCount (u .indices)
+      by (no d) = omega arith
+      by (yes h) =
+          let k = frameCount (v .indices) - 1 in
+          let l = last-speaks (v .rate) (v .kind) (v .indices) (needed (v .indices)) (needed (v .indices)) (is-accepted v) k (omega arith) in
+          absurd (l .nonzero (sym (same (7 * k + l .place)) ∙ List·getD-eq-default (u .indices) 0 (omega (arith, whole-frames u))))
+
+module _ (u v : Utterance) (count : multiframesOf u ≡ multiframesOf v) (packets : (q : ℕ) → q < pairsOf u → packetOf (u .indices) q ≡ packetOf (v .indices) q) where
+  same-frame : (k : ℕ) → k < multiframeFrames * multiframesOf u → frameAt (u .indices) k ≡ frameAt (v .indices) k
+  same-frame k h =
+      let p = same-pair u v (k / 2) (packets (k / 2) (omega arith)) in
+      elim (ℕ-discrete (2 * (k / 2)) k) [
+        | yes e ↦ subst (λ (j : ℕ). frameAt (u .indices) j ≡ frameAt (v .indices) j) e (p .0)
+        | no d ↦ let e : 2 * (k / 2) + 1 ≡ k = omega arith in subst (λ (j : ℕ). frameAt (u .indices) j ≡ frameAt (v .indices) j) e (p .1)
+      ]
+
+  same-index : (i : ℕ) → getD (u .indices) i 0 ≡ getD (v .indices) i 0
+  same-index i =
+      elim (decLt i (frameIndices * (multiframeFrames * multiframesOf u))) [
+        | yes h ↦
+            let e : 7 * (i / 7) + i % 7 ≡ i = omega arith in
+            let l : i % 7 < 7 = omega arith in
+            subst (λ (j : ℕ). getD (u .indices) j 0 ≡ getD (v .indices) j 0) e
+            (sym (getD-row (u .indices) (7 * (i / 7)) 7 (i % 7) l) ∙ ap (λ (f : List ℕ). getD f (i % 7) 0) (same-frame (i / 7) (omega arith))
+            ∙ getD-row (v .indices) (7 * (i / 7)) 7 (i % 7) l)
+        | no d ↦
+            List·getD-eq-default (u .indices) 0 (omega (arith, whole-frames u)) ∙ sym (List·getD-eq-default (v .indices) 0 (omega (arith, whole-frames v, count)))
+      ]
+
+  pub same-indices : u .indices ≡ v .indices
+  same-indices =
+      let a = no-more u v same-index in
+      let b = no-more v u (λ i. sym (same-index i)) in
+      ext-getD 0 (u .indices) (v .indices) (omega (arith, whole-frames u, whole-frames v)) (λ i h. same-index i)
+
+pub same-image : (u v : Utterance) → imageOf u ≡ imageOf v → (u .rate ≡ v .rate) × (u .kind ≡ v .kind) × (u .indices ≡ v .indices)
+same-image u v e = (s .0, s .1, same-indices u v count packets)
+  where
+    count : multiframesOf u ≡ multiframesOf v
+    count =
+        omega (arith, length-image (u .rate) (u .kind) (u .indices) (multiframesOf u), length-image (v .rate) (v .kind) (v .indices) (multiframesOf v), ap length e)
+
+    message-of : (w : Utterance) → wordIn (imageOf w) 0 % 2 ^ 16 ≡ message (w .rate) (w .kind) 1 0
+    message-of w =
+        ap (λ (x : ℕ). x % 2 ^ 16) (image-word (w .rate) (w .kind) (w .indices) (multiframesOf w) 0 (omega arith))
+        ∙ codeword-low (message (w .rate) (w .kind) 1 0) (message-lt (w .rate) (w .kind) 1 0)
+
+    s : (u .rate ≡ v .rate) × (u .kind ≡ v .kind)
+    s = same-settings u v 1 (sym (message-of u) ∙ ap (λ (l : List ℕ). wordIn l 0 % 2 ^ 16) e ∙ message-of v)
+
+    packets : (q : ℕ) → q < pairsOf u → packetOf (u .indices) q ≡ packetOf (v .indices) q
+    packets q h =
+        sym (image-packet (u .rate) (u .kind) (u .indices) (multiframesOf u) q h) ∙ ap (λ (l : List ℕ). packetIn l q) e
+        ∙ image-packet (v .rate) (v .kind) (v .indices) (multiframesOf v) q (omega (arith, count))
