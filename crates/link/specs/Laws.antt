@@ -8,15 +8,20 @@ use native.Mathlib.Numerals.{add-one}
 use native.Mathlib.Omega.{arith}
 use lib.ListN.{length, set, drop, length-set, length-append}
 use lib.Seq.{drop-length}
-use borrow.Author.Tests.{eq-eqb, ne-eqb}
+use borrow.Author.Tests.{eq-eqb, ne-eqb, lt-ltb, le-ltb}
 use Rattle.lists.specs.Parts.{part, over, over-none, behind, set-over, length-over, length-part}
 use Rattle.lists.specs.Rows.{each, joined, length-each, length-joined}
 use Rattle.layout.specs.Layout.{widths, packetBits, packetStart, streamOctets, indexOctets, multiframePairs}
 use Rattle.bits.specs.Bits.{bits, octets, total}
 use Rattle.packet.specs.Packet.{stream, apart, indices}
 use Rattle.bits.specs.Laws.{length-numbers}
+use Rattle.reader.specs.Reading.{Outcome, outcome, numberOf, placeOf}
+use Rattle.reader.specs.declared.Summary.{Summary}
+use Rattle.reader.specs.declared.Refusal.{Refusal}
+use Rattle.reader.specs.declared.Answer.{Answer}
+use Rattle.reader.specs.declared.Answer.the-variants.{Read, Refused}
 use Rattle.writer.specs.Writing.{Search, at, nowhere, firstWide}
-use Rattle.link.specs.Link.{Packing, packed, narrowPacking, packing, Unpacking, unpacked, unpacking, framesOf, noteOf}
+use Rattle.link.specs.Link.{Packing, packed, narrowPacking, packing, Unpacking, unpacked, unpacking, framesOf, noteOf, answerNumbers, summaryNumbers, returned, answered, returning}
 
 -- laid over all of a list, it is all of it
 over-all : {A : Type 0} (l f : List A) (w : ℕ) → length l ≡ w → over l 0 w f ≡ f
@@ -104,3 +109,34 @@ going-on s i₀ n₀ i n i′ n′ p x h hi hn g ei ex en =
           behind n₀ 0 p 1 (each (noteOf s) p) (noteOf s p ∷ []) (omega arith) (length-each (noteOf s) p) (g .notes-laid) (e ∙ ap (λ (a : ℕ). over n a 1 (noteOf s p ∷ [])) y)
           ∙ ap (over n₀ 0 (p + 1)) (ap (each (noteOf s)) (sym (add-one p)));
     }
+
+-- ---- a reading's answer
+-- six numbers stored one by one
+pub six-stored : (a : List ℕ) (u v w x y z : ℕ) → answerNumbers ≤ length a
+    → set (set (set (set (set (set a 0 u) 1 v) 2 w) 3 x) 4 y) 5 z ≡ over a 0 answerNumbers (u ∷ v ∷ w ∷ x ∷ y ∷ z ∷ [])
+six-stored [] u v w x y z h = absurd (omega arith)
+six-stored (a ∷ []) u v w x y z h = absurd (omega arith)
+six-stored (a ∷ b ∷ []) u v w x y z h = absurd (omega arith)
+six-stored (a ∷ b ∷ c ∷ []) u v w x y z h = absurd (omega arith)
+six-stored (a ∷ b ∷ c ∷ d ∷ []) u v w x y z h = absurd (omega arith)
+six-stored (a ∷ b ∷ c ∷ d ∷ e ∷ []) u v w x y z h = absurd (omega arith)
+six-stored (a ∷ b ∷ c ∷ d ∷ e ∷ f ∷ l) u v w x y z h = refl
+
+module _ (a i r : List ℕ) (o : Outcome) where
+  pub returns-no-room : length a < answerNumbers → returned 99 i r a ≡ returning a i r o
+  unfolding returning
+  returns-no-room h = rw (lt-ltb (length a) answerNumbers h)
+
+  answer : answerNumbers ≤ length a → (x : Answer) (i′ r′ : List ℕ) → outcome x i′ r′ ≡ o → answered a i′ r′ x ≡ returning a i r o
+  unfolding returning
+  answer h x i′ r′ e = rw (le-ltb (length a) answerNumbers h) (ap (λ (q : Outcome). answered a (q .index) (q .report) (q .answer)) e)
+
+  pub returns-read : answerNumbers ≤ length a → (x : Answer) (s : Summary) (i′ r′ a′ : List ℕ) → outcome x i′ r′ ≡ o → x ≡ Read s
+      → a′ ≡ over a 0 answerNumbers (summaryNumbers s) → returned 0 i′ r′ a′ ≡ returning a i r o
+  returns-read h x s i′ r′ a′ e ex ea = ap (returned 0 i′ r′) ea ∙ ap (answered a i′ r′) (sym ex) ∙ answer h x i′ r′ e
+
+  pub returns-refusal : answerNumbers ≤ length a → (x : Answer) (q : Refusal) (i′ r′ : List ℕ) (n p : ℕ) → outcome x i′ r′ ≡ o → x ≡ Refused q
+      → n ≡ numberOf q → p ≡ placeOf q → returned n i′ r′ (set a 0 p) ≡ returning a i r o
+  returns-refusal h x q i′ r′ n p e ex en ep =
+      ap₂ (λ (m k : ℕ). returned m i′ r′ (set a 0 k)) en ep ∙ ap (returned (numberOf q) i′ r′) (set-over a 0 (placeOf q) (omega arith))
+      ∙ ap (answered a i′ r′) (sym ex) ∙ answer h x i′ r′ e

@@ -1,12 +1,12 @@
 -- What the entries for C and Rust answer, in numbers, and what they leave in lent memory. Assumes nothing.
 use mathlib.Core.Path.{_≡_}
 use mathlib.Core.Bool.{Bool, true, false}
-use mathlib.Core.List.{List}
+use mathlib.Core.List.{List, [], _∷_}
 use Prim.Native.Nat.{ℕ}
-use lib.Dec.{eqb}
+use lib.Dec.{eqb, ltb}
 use lib.ListN.{length}
 use Rattle.lists.specs.Tests.{when}
-use Rattle.lists.specs.Parts.{part}
+use Rattle.lists.specs.Parts.{part, over}
 use Rattle.lists.specs.Rows.{each, joined}
 use Rattle.layout.specs.Layout.{widths, dataBits, packetBits, packetStart, streamOctets, indexOctets, multiframePairs}
 use Rattle.bits.specs.Bits.{bits, octets}
@@ -14,6 +14,10 @@ use Rattle.crc.specs.Crc.{right}
 use Rattle.packet.specs.Packet.{apart, stream}
 use Rattle.header.specs.declared.Header.{Header}
 use Rattle.header.specs.declared.Header.the-variants.{Codeword, Lost}
+use Rattle.reader.specs.Reading.{Outcome, numberOf, placeOf}
+use Rattle.reader.specs.declared.Summary.{Summary}
+use Rattle.reader.specs.declared.Answer.{Answer}
+use Rattle.reader.specs.declared.Answer.the-variants.{Read, Refused}
 use Rattle.writer.specs.Writing.{Search, at, nowhere, firstWide}
 
 -- a header's reading: the answer and the two lent numbers, as they are and as they came
@@ -71,3 +75,30 @@ unpacking s i n =
     (when (eqb (length n) multiframePairs) (unpacked 1 (joined (framesOf s) multiframePairs) (each (noteOf s) multiframePairs)) (unpacked 0 i n))
     (unpacked 0 i n))
     (unpacked 0 i n)
+
+-- ---- a reading's answer in numbers
+abbrev pub answerNumbers : ℕ
+answerNumbers = 6
+
+-- rate, type, multiframes, speech, bad pairs, end
+abbrev pub summaryNumbers : Summary → List ℕ
+summaryNumbers s = s .rate ∷ s .kind ∷ s .multiframes ∷ s .speech ∷ s .bad ∷ s .end ∷ []
+
+-- the number, the two buffers and the lent numbers
+pub record Returned : Type 0 where
+  pub number : ℕ
+  pub index : List ℕ
+  pub report : List ℕ
+  pub answer : List ℕ
+
+abbrev pub returned : ℕ → List ℕ → List ℕ → List ℕ → Returned
+returned n i r a = record { number = n; index = i; report = r; answer = a }
+
+-- success gives 0 and six numbers, a refusal its number and its place
+abbrev pub answered : List ℕ → List ℕ → List ℕ → Answer → Returned
+answered a i r (Read s) = returned 0 i r (over a 0 answerNumbers (summaryNumbers s))
+answered a i r (Refused x) = returned (numberOf x) i r (over a 0 1 (placeOf x ∷ []))
+
+-- with no room for six numbers nothing is read, and all stays
+unfoldable pub returning : List ℕ → List ℕ → List ℕ → Outcome → Returned
+returning a i r o = when (ltb (length a) answerNumbers) (returned 99 i r a) (answered a (o .index) (o .report) (o .answer))

@@ -5,6 +5,8 @@ use layout::MultiframeLayout;
 use layout::PacketLayout;
 use layout::Pair;
 use layout::ReadingLayout;
+use reader::Answer;
+use reader::Summary;
 use writer::Found;
 ghost use mathlib.Core.Path.{_≡_};
 ghost use Prim.Native.Nat.{_≤_};
@@ -15,7 +17,13 @@ ghost use Rattle.layout.specs.Layout.{streamOctets, indexOctets, multiframePair
 ghost use Rattle.header_code.specs.Code.{codeword};
 ghost use Rattle.header.specs.Reading.{reading};
 ghost use Rattle.writer.specs.Writing.{writing, numberOf, placeOf};
-ghost use Rattle.link.specs.Link.{headerRead, packed, packing, unpacked, unpacking, framesOf, noteOf, markOf};
+ghost use Rattle.reader.specs.Reading.{reading as readingOf};
+ghost use Rattle.link.specs.Link.{answerNumbers, summaryNumbers, returned, returning, headerRead, packed, packing, unpacked, unpacking, framesOf, noteOf, markOf};
+
+// The numbers of a reading's answer, and what is answered if there is no room for them.
+const ANSWER: usize = 6;
+
+const NO_ROOM: u32 = 99;
 
 // dsr_header_encode gives the codeword of a 16-bit message.
 #[no_mangle]
@@ -126,4 +134,45 @@ pub extern "C" fn dsr_write(
     let answer = writer::write(rate, kind, indices, out);
     *place = writer::place_of(answer) as u64;
     writer::number_of(answer)
+}
+
+// The six numbers of a success, in 01's order. It asks for their room, which dsr_read has tested.
+fn put_summary(s: Summary, answer: &mut [u64])
+    requires { ⌜ answerNumbers ≤ length (now answer) ⌝ }
+    ensures { λ _. ⌜ now (answer .exit) ≡ over (now (answer .entry)) 0 answerNumbers (summaryNumbers s) ⌝ }
+{
+    answer[0] = s.rate as u64;
+    answer[1] = s.kind as u64;
+    answer[2] = s.multiframes as u64;
+    answer[3] = s.speech as u64;
+    answer[4] = s.bad as u64;
+    answer[5] = s.end as u64;
+}
+
+// dsr_read answers 01's number, 0 for success, and puts six numbers (rate, type, multiframes, speech, bad, end) or a refusal's place into
+// answer. Room for fewer than six numbers is refused with 99, a number that 01 does not have, and then all lent memory stays.
+#[no_mangle]
+pub extern "C" fn dsr_read(
+    octets: &[u8],
+    codebook: &[i32],
+    thresholds: &[i32],
+    index: &mut [u8],
+    report: &mut [u8],
+    answer: &mut [u64],
+) -> u32
+    ensures { λ r. ⌜ returned r (now (index .exit)) (now (report .exit)) (now (answer .exit)) ≡ returning (now (answer .entry)) (now (index .entry)) (now (report .entry)) (readingOf (now (octets .entry)) (now (codebook .entry)) (now (thresholds .entry)) (now (index .entry)) (now (report .entry))) ⌝ }
+{
+    if answer.len() < ANSWER {
+        return NO_ROOM;
+    }
+    match reader::read(octets, codebook, thresholds, index, report) {
+        Answer::Read(s) => {
+            put_summary(s, answer);
+            0
+        }
+        Answer::Refused(r) => {
+            answer[0] = reader::place_of(r) as u64;
+            reader::number_of(r)
+        }
+    }
 }

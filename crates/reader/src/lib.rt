@@ -15,7 +15,7 @@ ghost use Rattle.settling.specs.Stored.{packAll, Mended, opened};
 ghost use Rattle.pairs.specs.Pairs.{pairCount, pairNotes};
 ghost use Rattle.judging.specs.Judging.{badPairs};
 ghost use Rattle.judging.specs.Laws.{Good};
-ghost use Rattle.reader.specs.Reading.{indexPart, reportPart, summary, cutRefusal, wholeVerdict, settledVerdict, outcome, finished, reading};
+ghost use Rattle.reader.specs.Reading.{numberOf, placeOf, indexPart, reportPart, summary, cutRefusal, wholeVerdict, settledVerdict, outcome, finished, reading};
 ghost use Rattle.reader.specs.Steps.{earlyVerdict, Kept, section, sections};
 ghost use Rattle.settling.specs.declared.Settings.the-variants.{Settled};
 
@@ -352,5 +352,41 @@ pub fn read(
             report,
         ),
         Cut::Refused { number, place } => Answer::Refused(cut_refusal(number, place)),
+    }
+}
+
+// number_of gives 01's number of a refusal.
+pub fn number_of(r: Refusal) -> u32
+    ensures { λ n. ⌜ n ≡ numberOf r ⌝ }
+{
+    match r {
+        Refusal::WrongTables => 11,
+        Refusal::Unknown { place: _ } => 12,
+        Refusal::CutShort { place: _ } => 13,
+        Refusal::Empty { octets: _ } => 14,
+        Refusal::TooMany { place: _ } => 15,
+        Refusal::Unsettled => 16,
+        Refusal::Unfit => 17,
+        Refusal::IndexShort { needed: _ } => 18,
+        Refusal::ReportShort { needed: _ } => 19,
+        Refusal::AllBad => 20,
+    }
+}
+
+// place_of gives 01's place of a refusal.
+pub fn place_of(r: Refusal) -> usize
+    ensures { λ n. ⌜ n ≡ placeOf r ⌝ }
+{
+    match r {
+        Refusal::WrongTables => 0,
+        Refusal::Unknown { place } => place,
+        Refusal::CutShort { place } => place,
+        Refusal::Empty { octets } => octets,
+        Refusal::TooMany { place } => place,
+        Refusal::Unsettled => 0,
+        Refusal::Unfit => 0,
+        Refusal::IndexShort { needed } => needed,
+        Refusal::ReportShort { needed } => needed,
+        Refusal::AllBad => 0,
     }
 }
