@@ -2,3 +2,4 @@ pub mod Examples
 pub mod Damage
 pub mod ToldApart
 pub mod Instances
+pub mod Whole

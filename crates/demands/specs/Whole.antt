@@ -1,0 +1,94 @@
+-- Octets of m whole multiframes and nothing else, as the reader meets them: where it finds each header word and each packet, and what it gives
+-- once the settings are settled, a pair is good and there is room.
+-- Assumes nothing.
+use mathlib.Core.Path.{_≡_, refl, sym, ap, ap₂, _∙_, subst}
+use mathlib.Core.Bool.{Bool, true, false}
+use mathlib.Core.List.{List, [], _∷_}
+use Prim.Native.Nat.{ℕ, zero, suc, _+_, _*_, _/_, _%_, _≤_, _<_}
+use native.Mathlib.Omega.{arith}
+use lib.IntN.{ℤ}
+use lib.ListN.{length, take, drop, getD}
+use lib.Seq.{getD-take, getD-drop}
+use Rattle.lists.specs.Parts.{part, over}
+use Rattle.lists.specs.Rows.{each, same-each}
+use Rattle.layout.specs.Layout.{multiframePairs, multiframeOctets, syncOctets, headerOctets, streamOctets, mostMultiframes, indexOctets, reportOctets, codebookNumbers, thresholdNumbers}
+use Rattle.bits.specs.Bits.{value, bits}
+use Rattle.cutting.specs.Cutting.{Cutting, whole, cutting, syncFirst, syncSecond}
+use Rattle.cutting.specs.Laws.{every, every-length, every-at, whole-image}
+use Rattle.header.specs.Reading as H
+use Rattle.header.specs.declared.Header.{Header}
+use Rattle.settling.specs.Settling.{headerWord, readings, settling}
+use Rattle.pairs.specs.Pairs.{streamAt, packetAt, pairCount, pairNotes}
+use Rattle.judging.specs.Judging.{badPairs}
+use Rattle.reader.specs.Reading.{indexPart, reportPart, summary, verdict, finished, Outcome, outcome, reading}
+use Rattle.reader.specs.ReadingLaws.{Fitting, Accepted, accepting}
+use Rattle.reader.specs.declared.Verdict.{Verdict}
+use Rattle.reader.specs.declared.Verdict.the-variants.{Accept}
+use Rattle.reader.specs.declared.Answer.the-variants.{Read}
+use Rattle.writer.specs.Made.{syncIn, wordIn, packetIn, streamIn}
+
+-- the places of m multiframes, one behind the other
+abbrev pub rowOf : ℕ → List ℕ
+rowOf m = every 0 m
+
+-- what 01's tables and room are: any codebook of 1,280 numbers and any 14 thresholds; 168m index octets and 13m report octets
+pub record Lent (m : ℕ) (codebook thresholds : List ℤ) (index report : List ℕ) : Type 0 where
+  pub codebook-size : length codebook ≡ codebookNumbers
+  pub thresholds-size : length thresholds ≡ thresholdNumbers
+  pub index-room : indexOctets * m ≤ length index
+  pub report-room : reportOctets * m ≤ length report
+
+module _ (s : List ℕ) (m : ℕ) (k : ℕ) (h : k < m) where
+  place-at : getD (rowOf m) k 0 ≡ multiframeOctets * k
+  place-at = every-at 0 m k h ∙ omega arith
+
+  pub word-at : headerWord s (getD (rowOf m) k 0) ≡ wordIn s k
+  word-at = ap (headerWord s) place-at
+
+  pub stream-at : streamAt s (rowOf m) k ≡ streamIn s k
+  stream-at = ap (λ (p : ℕ). part (p + syncOctets + headerOctets) streamOctets s) place-at
+
+pub packet-at : (s : List ℕ) (m q : ℕ) → q < multiframePairs * m → packetAt s (rowOf m) q ≡ packetIn s q
+packet-at s m q h = ap (λ (l : List ℕ). part (92 * (q % 12)) 92 (bits l)) (stream-at s m (q / 12) (omega arith))
+
+pub readings-are : (s : List ℕ) (m : ℕ) → readings s (rowOf m) ≡ each (λ k. H.reading (wordIn s k)) m
+unfolding readings
+readings-are s m =
+    ap (each (λ k. H.reading (headerWord s (getD (rowOf m) k 0)))) (every-length 0 m)
+    ∙ same-each (λ k. H.reading (headerWord s (getD (rowOf m) k 0))) (λ k. H.reading (wordIn s k)) m (λ k h. ap H.reading (word-at s m k h))
+
+module _ (s : List ℕ) (m : ℕ) (few : m ≤ mostMultiframes) (size : length s ≡ multiframeOctets * m)
+    (syncs : (k : ℕ) → k < m → syncIn s k ≡ syncFirst ∷ syncSecond ∷ []) where
+  in-sync : (k i : ℕ) → k < m → i < 2 → getD s (multiframeOctets * k + i) 0 ≡ getD (syncFirst ∷ syncSecond ∷ []) i 0
+  in-sync k i h l =
+      sym (getD-take 2 (drop (144 * k) s) i 0 l ∙ getD-drop (144 * k) s i 0) ∙ ap (λ (x : List ℕ). getD x i 0) (syncs k h)
+
+  -- it is cut there
+  pub cut-is : cutting s ≡ record { places = rowOf m; ending = whole }
+  cut-is =
+      whole-image s m few size (λ k h.
+      let z : 144 * k ≡ 144 * k + 0 = omega arith in
+      (ap (λ (i : ℕ). getD s i 0) z ∙ in-sync k 0 h (omega arith), in-sync k 1 h (omega arith)))
+
+  -- and read
+  pub reads-as : (codebook thresholds : List ℤ) (index report : List ℕ) (c : ℕ) → 0 < m → Lent m codebook thresholds index report
+      → Fitting (length (rowOf m)) (badPairs (pairNotes s (rowOf m) codebook thresholds)) (pairCount (rowOf m)) (length index) (length report) (settling (readings s (rowOf m))) c
+      → reading s codebook thresholds index report
+      ≡ outcome (Read (summary s (rowOf m) (pairNotes s (rowOf m) codebook thresholds) c))
+      (over index 0 (indexOctets * length (rowOf m)) (indexPart s (rowOf m) (pairNotes s (rowOf m) codebook thresholds)))
+      (over report 0 (reportOctets * length (rowOf m)) (reportPart s (rowOf m) (pairNotes s (rowOf m) codebook thresholds) c))
+  unfolding reading
+  reads-as codebook thresholds index report c some lent fit =
+      let pl : cutting s .places ≡ rowOf m = ap (λ (w : Cutting). w .places) cut-is in
+      let a : Accepted s codebook thresholds (length index) (length report) c =
+      record {
+        codebook-size = lent .codebook-size;
+        thresholds-size = lent .thresholds-size;
+        uncut = ap (λ (w : Cutting). w .ending) cut-is;
+        some = λ e. omega (arith, ap length pl, every-length 0 m);
+        fitting = subst
+            (λ (ps : List ℕ). Fitting (length ps) (badPairs (pairNotes s ps codebook thresholds)) (pairCount ps) (length index) (length report) (settling (readings s ps)) c)
+            (sym pl) fit;
+      } in
+      ap₂ (λ (ps : List ℕ) (v : Verdict). finished s codebook thresholds index report ps v) pl
+      (accepting s codebook thresholds (length index) (length report) c a)
