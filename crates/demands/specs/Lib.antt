@@ -3,3 +3,4 @@ pub mod Damage
 pub mod ToldApart
 pub mod Instances
 pub mod Whole
+pub mod Received
