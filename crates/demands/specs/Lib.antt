@@ -4,3 +4,4 @@ pub mod ToldApart
 pub mod Instances
 pub mod Whole
 pub mod Received
+pub mod NamesTheDamage

@@ -7,21 +7,21 @@ use mathlib.Core.List.{List, [], _∷_}
 use Prim.Native.Nat.{ℕ, zero, suc, _+_, _*_, _/_, _%_, _≤_, _<_}
 use native.Mathlib.Omega.{arith}
 use lib.IntN.{ℤ}
-use lib.ListN.{length, take, drop, getD}
+use lib.ListN.{length, drop, getD, List·getD-append}
 use lib.Seq.{getD-take, getD-drop}
-use Rattle.lists.specs.Parts.{part, over}
+use Rattle.lists.specs.Parts.{part, over, part-left}
 use Rattle.lists.specs.Rows.{each, same-each}
-use Rattle.layout.specs.Layout.{multiframePairs, multiframeOctets, syncOctets, headerOctets, streamOctets, mostMultiframes, indexOctets, reportOctets, codebookNumbers, thresholdNumbers}
+use Rattle.layout.specs.Layout.{multiframePairs, multiframeOctets, syncOctets, headerOctets, streamOctets, mostMultiframes, indexOctets, reportOctets, codebookNumbers, thresholdNumbers, multiframeOf, firstPair}
 use Rattle.bits.specs.Bits.{value, bits}
 use Rattle.cutting.specs.Cutting.{Cutting, whole, cutting, syncFirst, syncSecond}
 use Rattle.cutting.specs.Laws.{every, every-length, every-at, whole-image}
 use Rattle.header.specs.Reading as H
-use Rattle.header.specs.declared.Header.{Header}
-use Rattle.settling.specs.Settling.{headerWord, readings, settling}
+use Rattle.header.specs.declared.Header.the-variants.{Lost}
+use Rattle.settling.specs.Settling.{headerWord, readings, settling, headerNote}
 use Rattle.pairs.specs.Pairs.{streamAt, packetAt, pairCount, pairNotes}
 use Rattle.judging.specs.Judging.{badPairs}
 use Rattle.reader.specs.Reading.{indexPart, reportPart, summary, verdict, finished, Outcome, outcome, reading}
-use Rattle.reader.specs.ReadingLaws.{Fitting, Accepted, accepting}
+use Rattle.reader.specs.ReadingLaws.{Fitting, Accepted, accepting, length-report, report-at}
 use Rattle.reader.specs.declared.Verdict.{Verdict}
 use Rattle.reader.specs.declared.Verdict.the-variants.{Accept}
 use Rattle.reader.specs.declared.Answer.the-variants.{Read}
@@ -92,3 +92,39 @@ module _ (s : List ℕ) (m : ℕ) (few : m ≤ mostMultiframes) (size : length s
       } in
       ap₂ (λ (ps : List ℕ) (v : Verdict). finished s codebook thresholds index report ps v) pl
       (accepting s codebook thresholds (length index) (length report) c a)
+
+-- ---- the report: 13 octets a multiframe, its header note and then its twelve pair notes
+abbrev pub headerNoteIn : List ℕ → ℕ → ℕ
+headerNoteIn report k = getD report (reportOctets * k) 0
+
+abbrev pub pairNoteIn : List ℕ → ℕ → ℕ
+pairNoteIn report q = getD report (reportOctets * multiframeOf q + 1 + q % multiframePairs) 0
+
+-- what is laid over a buffer's front stands there
+pub front-at : (l f : List ℕ) (w i : ℕ) → i < length f → getD (over l 0 w f) i 0 ≡ getD f i 0
+front-at l f w i h = List·getD-append f (drop (0 + w) l) 0 i h
+
+pub front-part : (l f : List ℕ) (w a v : ℕ) → a + v ≤ length f → part a v (over l 0 w f) ≡ part a v f
+front-part l f w a v h = part-left f (drop (0 + w) l) a v h
+
+module _ (s places ns report : List ℕ) (c w : ℕ) (notes-size : length ns ≡ pairCount places) where
+  report-octet : (k j : ℕ) → k < length places → j < reportOctets
+      → getD (over report 0 w (reportPart s places ns c)) (reportOctets * k + j) 0 ≡ getD (headerNote c k (getD (readings s places) k Lost) ∷ part (firstPair k) multiframePairs ns) j 0
+  report-octet k j h l =
+      let r = reportPart s places ns c in
+      front-at report r w (13 * k + j) (omega (arith, length-report s places ns c notes-size))
+      ∙ sym (getD-take 13 (drop (13 * k) r) j 0 l ∙ getD-drop (13 * k) r j 0) ∙ ap (λ (x : List ℕ). getD x j 0) (report-at s places ns c k notes-size h)
+
+  pub header-note-is : (k : ℕ) → k < length places → headerNoteIn (over report 0 w (reportPart s places ns c)) k ≡ headerNote c k (getD (readings s places) k Lost)
+  header-note-is k h =
+      let z : 13 * k ≡ 13 * k + 0 = omega arith in
+      ap (λ (i : ℕ). getD (over report 0 w (reportPart s places ns c)) i 0) z ∙ report-octet k 0 h (omega arith)
+
+  pub pair-note-is : (q : ℕ) → q < pairCount places → pairNoteIn (over report 0 w (reportPart s places ns c)) q ≡ getD ns q 0
+  pair-note-is q h =
+      let k = q / 12 in
+      let j = q % 12 in
+      let z : 13 * k + 1 + j ≡ 13 * k + suc j = omega arith in
+      let e : 12 * k + j ≡ q = omega arith in
+      ap (λ (i : ℕ). getD (over report 0 w (reportPart s places ns c)) i 0) z ∙ report-octet k (suc j) (omega arith) (omega arith)
+      ∙ getD-take 12 (drop (12 * k) ns) j 0 (omega arith) ∙ getD-drop (12 * k) ns j 0 ∙ ap (λ (i : ℕ). getD ns i 0) e
