@@ -5,3 +5,4 @@ pub mod Instances
 pub mod Whole
 pub mod Received
 pub mod NamesTheDamage
+pub mod ReadsBack

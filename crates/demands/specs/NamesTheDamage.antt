@@ -3,27 +3,25 @@
 -- is 1; a pair that is not damaged has a note other than 0 exactly if 01's consistency rule makes it bad; each header note is the number of bits
 -- flipped there; and each frame of the pairs with note 0 stands at its place in the index buffer as it was written, zeros where it was padding."
 -- Assumes nothing.
-use mathlib.Core.Path.{_≡_, refl, sym, ap, _∙_, subst}
-use mathlib.Core.Bool.{Bool, true, false}
-use mathlib.Core.List.{List, [], _∷_, _++_}
+use mathlib.Core.Path.{_≡_, sym, ap, _∙_, subst}
+use mathlib.Core.List.{List, _++_}
 use mathlib.Core.Logic.{_⊎_, _↔_}
-use Prim.Native.Nat.{ℕ, _+_, _*_, _/_, _%_, _≤_, _<_}
+use Prim.Native.Nat.{ℕ, _+_, _*_, _/_, _≤_, _<_}
 use native.Mathlib.Decide.{ℕ-discrete}
 use native.Mathlib.Omega.{arith}
 use lib.Dec.{eqb}
 use lib.IntN.{ℤ}
-use lib.ListN.{length, take, drop, getD, replicate}
-use lib.Seq.{take-at, drop-at, take-all}
-use borrow.Author.Tests.{eq-eqb, eqb-true}
+use lib.ListN.{length, getD, replicate}
+use lib.Seq.{take-at, take-all}
+use borrow.Author.Tests.{eqb-true}
 use Rattle.lists.specs.Tests.{true-false, not-false}
-use Rattle.lists.specs.Parts.{part, over, part-left, part-right}
-use Rattle.layout.specs.Layout.{frameIndices, pairFrames, multiframeFrames, multiframePairs, multiframeOctets, indexOctets, reportOctets, mostMultiframes, pairOf, firstFrame, secondFrame}
+use Rattle.lists.specs.Parts.{part, over, part-right}
+use Rattle.layout.specs.Layout.{frameIndices, multiframeFrames, multiframeOctets, indexOctets, reportOctets, pairOf, firstFrame, secondFrame}
 use Rattle.packet.specs.Packet.{frameAt}
 use Rattle.packet.specs.Laws.{length-row, row-inside, row-past}
 use Rattle.cutting.specs.Laws.{every-length}
-use Rattle.header.specs.Message.{rateOf, expOf}
 use Rattle.settling.specs.Settling.{readings, settling}
-use Rattle.pairs.specs.Pairs.{pairCount, framesOf, allFrames, pairNotes}
+use Rattle.pairs.specs.Pairs.{pairCount, allFrames, pairNotes}
 use Rattle.pairs.specs.Laws.{length-notes, length-all, frames-at}
 use Rattle.judging.specs.Judging.{bad, badPairs}
 use Rattle.judging.specs.Laws.{Good, none-good}
@@ -142,7 +140,7 @@ module _ (u : Utterance) (s : List ℕ) (codebook thresholds : List ℤ) (index 
     not-hit q h z t = let e : _≡_ {A = ℕ} 0 1 = sym z ∙ touched-note u s d codebook thresholds q h t in omega arith
 
     -- its frames, before replacing
-    frame-in-pair : (q : ℕ) → q < pairsOf u → getD ns q 0 ≡ 0
+    pub frame-in-pair : (q : ℕ) → q < pairsOf u → getD ns q 0 ≡ 0
         → (part (frameIndices * firstFrame q) frameIndices (allFrames s (rowOf m)) ≡ frameAt (u .indices) (firstFrame q))
         × (part (frameIndices * secondFrame q) frameIndices (allFrames s (rowOf m)) ≡ frameAt (u .indices) (secondFrame q))
     frame-in-pair q h z =

@@ -5,20 +5,19 @@ use mathlib.Core.Path.{_≡_, refl, sym, ap, ap₂, _∙_, subst}
 use mathlib.Core.Bool.{Bool, true, false, not}
 use mathlib.Core.List.{List, [], _∷_, _++_}
 use mathlib.Core.Logic.{_⊎_, inl, inr, ⊎-elim}
-use Prim.Native.Nat.{ℕ, zero, suc, _+_, _*_, _/_, _%_, _≤_, _<_}
+use Prim.Native.Nat.{ℕ, zero, suc, _+_, _*_, _%_, _≤_, _<_}
 use native.Mathlib.Nat.{mod-eq-of-lt}
-use native.Mathlib.Decide.{decLt, ℕ-discrete}
+use native.Mathlib.Decide.{decLt}
 use native.Mathlib.Omega.{arith}
-use lib.Dec.{eqb}
 use lib.IntN.{ℤ}
 use lib.ListN.{length, take, drop, getD, List·getD-eq-default}
 use lib.Seq.{take-at, drop-at}
 use borrow.Author.Tests.{eq-eqb}
-use Rattle.lists.specs.Tests.{when, true-false}
+use Rattle.lists.specs.Tests.{true-false}
 use Rattle.lists.specs.Rows.{each, length-each, each-at, same-each}
-use Rattle.layout.specs.Layout.{widths, frameIndices, pairFrames, dataBits, multiframePairs, firstFrame, secondFrame}
+use Rattle.layout.specs.Layout.{widths, frameIndices, dataBits, multiframePairs, firstFrame, secondFrame}
 use Rattle.crc.specs.Crc.{right}
-use Rattle.packet.specs.Packet.{apart, frameAt, packetOf}
+use Rattle.packet.specs.Packet.{apart, frameAt}
 use Rattle.packet.specs.Laws.{length-row, packetOf-back}
 use Rattle.consistency.specs.Consistency.{inconsistent}
 use Rattle.cutting.specs.Laws.{every-length}
@@ -31,7 +30,7 @@ use Rattle.settling.specs.Settling.{readings, settling, headerNote}
 use Rattle.settling.specs.Laws.{AllHave, all-agree, only-clean}
 use Rattle.settling.specs.declared.Settings.the-variants.{Settled}
 use Rattle.pairs.specs.Pairs.{packetAt, pairCount, pairFails, framesOf, pairOdd, pairNotes}
-use Rattle.judging.specs.Judging.{bad, noteBy, notesFrom, notes}
+use Rattle.judging.specs.Judging.{bad, noteBy, notes}
 use Rattle.judging.specs.Laws.{badBefore, note-at, failed-is-1}
 use Rattle.writer.specs.Made.{wordIn, packetIn}
 use Rattle.writer.specs.Image.{Utterance, multiframesOf, pairsOf, imageOf, rate-small, kind-small, fits-each-frame}

@@ -1,10 +1,9 @@
 -- Octets of m whole multiframes and nothing else, as the reader meets them: where it finds each header word and each packet, and what it gives
 -- once the settings are settled, a pair is good and there is room.
 -- Assumes nothing.
-use mathlib.Core.Path.{_≡_, refl, sym, ap, ap₂, _∙_, subst}
-use mathlib.Core.Bool.{Bool, true, false}
+use mathlib.Core.Path.{_≡_, sym, ap, ap₂, _∙_, subst}
 use mathlib.Core.List.{List, [], _∷_}
-use Prim.Native.Nat.{ℕ, zero, suc, _+_, _*_, _/_, _%_, _≤_, _<_}
+use Prim.Native.Nat.{ℕ, suc, _+_, _*_, _/_, _%_, _≤_, _<_}
 use native.Mathlib.Omega.{arith}
 use lib.IntN.{ℤ}
 use lib.ListN.{length, drop, getD, List·getD-append}
@@ -12,7 +11,7 @@ use lib.Seq.{getD-take, getD-drop}
 use Rattle.lists.specs.Parts.{part, over, part-left}
 use Rattle.lists.specs.Rows.{each, same-each}
 use Rattle.layout.specs.Layout.{multiframePairs, multiframeOctets, syncOctets, headerOctets, streamOctets, mostMultiframes, indexOctets, reportOctets, codebookNumbers, thresholdNumbers, multiframeOf, firstPair}
-use Rattle.bits.specs.Bits.{value, bits}
+use Rattle.bits.specs.Bits.{bits}
 use Rattle.cutting.specs.Cutting.{Cutting, whole, cutting, syncFirst, syncSecond}
 use Rattle.cutting.specs.Laws.{every, every-length, every-at, whole-image}
 use Rattle.header.specs.Reading as H
@@ -20,10 +19,9 @@ use Rattle.header.specs.declared.Header.the-variants.{Lost}
 use Rattle.settling.specs.Settling.{headerWord, readings, settling, headerNote}
 use Rattle.pairs.specs.Pairs.{streamAt, packetAt, pairCount, pairNotes}
 use Rattle.judging.specs.Judging.{badPairs}
-use Rattle.reader.specs.Reading.{indexPart, reportPart, summary, verdict, finished, Outcome, outcome, reading}
+use Rattle.reader.specs.Reading.{indexPart, reportPart, summary, finished, outcome, reading}
 use Rattle.reader.specs.ReadingLaws.{Fitting, Accepted, accepting, length-report, report-at}
 use Rattle.reader.specs.declared.Verdict.{Verdict}
-use Rattle.reader.specs.declared.Verdict.the-variants.{Accept}
 use Rattle.reader.specs.declared.Answer.the-variants.{Read}
 use Rattle.writer.specs.Made.{syncIn, wordIn, packetIn, streamIn}
 
