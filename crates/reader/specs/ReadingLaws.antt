@@ -90,30 +90,47 @@ module _ (octets : List ℕ) (codebook thresholds : List ℤ) (index report : �
     pub some : length places ≡ 0 → ⊥
     pub fitting : Fitting (length places) (badPairs (pairNotes octets places codebook thresholds)) (pairCount places) index report (settling (readings octets places)) c
 
+  -- the same of octets that are cut up at places
+  abbrev WholeSays : List ℕ → Verdict → Type 0
+  WholeSays ps (Refuse r) = Unit
+  WholeSays ps (Accept c) =
+      (length ps ≡ 0 → ⊥) × Fitting (length ps) (badPairs (pairNotes octets ps codebook thresholds)) (pairCount ps) index report (settling (readings octets ps)) c
+
+  whole-says : (ps : List ℕ) → WholeSays ps (wholeVerdict octets codebook thresholds index report ps)
+  unfolding wholeVerdict
+  whole-says ps =
+      by-test (WholeSays ps) (eqb (length ps) 0) (λ h. tt) (λ h.
+      lift (settledVerdict (length ps) (badPairs (pairNotes octets ps codebook thresholds)) (pairCount ps) index report (settling (readings octets ps))) (eqb-false (length ps) 0 h)
+      (settled-says (length ps) (badPairs (pairNotes octets ps codebook thresholds)) (pairCount ps) index report (settling (readings octets ps))))
+    where
+      lift : (v : Verdict) → (length ps ≡ 0 → ⊥)
+          → SettledSays (length ps) (badPairs (pairNotes octets ps codebook thresholds)) (pairCount ps) index report (settling (readings octets ps)) v → WholeSays ps v
+      lift (Refuse r) n h = tt
+      lift (Accept c) n h = (n, h)
+
+  pub whole-accepted : (ps : List ℕ) (c : ℕ) → wholeVerdict octets codebook thresholds index report ps ≡ Accept c
+      → (length ps ≡ 0 → ⊥) × Fitting (length ps) (badPairs (pairNotes octets ps codebook thresholds)) (pairCount ps) index report (settling (readings octets ps)) c
+  whole-accepted ps c e = rw e at (whole-says ps)
+
   abbrev AcceptedBy : Verdict → Type 0
   AcceptedBy (Refuse r) = Unit
   AcceptedBy (Accept c) = Accepted c
 
   accepted-by : AcceptedBy (verdict octets codebook thresholds index report)
-  unfolding verdict wholeVerdict
+  unfolding verdict
   accepted-by =
       by-test AcceptedBy (eqb (length codebook) codebookNumbers) (λ hc.
       by-test AcceptedBy (eqb (length thresholds) thresholdNumbers) (λ ht.
       ended (cutting octets .ending) refl (eqb-true (length codebook) codebookNumbers hc) (eqb-true (length thresholds) thresholdNumbers ht)) (λ h. tt)) (λ h. tt)
     where
-      fit : (v : Verdict) → length codebook ≡ codebookNumbers → length thresholds ≡ thresholdNumbers → cutting octets .ending ≡ whole → (length places ≡ 0 → ⊥)
-          → SettledSays (length places) (badPairs (pairNotes octets places codebook thresholds)) (pairCount places) index report (settling (readings octets places)) v → AcceptedBy v
-      fit (Refuse r) a b e n h = tt
-      fit (Accept c) a b e n h = record { codebook-size = a; thresholds-size = b; uncut = e; some = n; fitting = h }
+      fit : (v : Verdict) → length codebook ≡ codebookNumbers → length thresholds ≡ thresholdNumbers → cutting octets .ending ≡ whole → WholeSays places v → AcceptedBy v
+      fit (Refuse r) a b e h = tt
+      fit (Accept c) a b e h = record { codebook-size = a; thresholds-size = b; uncut = e; some = h .0; fitting = h .1 }
 
       ended : (e : Ending) → cutting octets .ending ≡ e → length codebook ≡ codebookNumbers → length thresholds ≡ thresholdNumbers
           → AcceptedBy (endVerdict octets codebook thresholds index report places e)
       ended (refused n p) e a b = tt
-      ended whole e a b =
-          by-test AcceptedBy (eqb (length places) 0) (λ h. tt) (λ hm.
-          fit (settledVerdict (length places) (badPairs (pairNotes octets places codebook thresholds)) (pairCount places) index report (settling (readings octets places)))
-          a b e (eqb-false (length places) 0 hm)
-          (settled-says (length places) (badPairs (pairNotes octets places codebook thresholds)) (pairCount places) index report (settling (readings octets places))))
+      ended whole e a b = fit (wholeVerdict octets codebook thresholds index report places) a b e (whole-says places)
 
   -- what acceptance says
   pub accepted : (c : ℕ) → verdict octets codebook thresholds index report ≡ Accept c → Accepted c

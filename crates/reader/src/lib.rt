@@ -1,4 +1,24 @@
-// The answer of a reading: what 01's success gives, or the refusal.
+// The reader: received octets become indices and a report, or a refusal that changes nothing.
+// `reading` in specs/ says what it answers and leaves in both buffers, for every input.
+use cutting::Cut;
+use layout::MultiframeLayout;
+use layout::ReadingLayout;
+use layout::UtteranceLayout;
+use settling::Settings;
+ghost use mathlib.Core.Path.{_≡_};
+ghost use Prim.Native.Nat.{_+_, _*_, _≤_, _<_};
+ghost use lib.ListN.{length, getD};
+ghost use Rattle.lists.specs.Parts.{part, over};
+ghost use Rattle.layout.specs.Layout.{multiframePairs, mostMultiframes, indexOctets, reportOctets, codebookNumbers, thresholdNumbers};
+ghost use Rattle.cutting.specs.Laws.{Placed};
+ghost use Rattle.settling.specs.Stored.{packAll, Mended, opened};
+ghost use Rattle.pairs.specs.Pairs.{pairCount, pairNotes};
+ghost use Rattle.judging.specs.Judging.{badPairs};
+ghost use Rattle.judging.specs.Laws.{Good};
+ghost use Rattle.reader.specs.Reading.{indexPart, reportPart, summary, cutRefusal, wholeVerdict, settledVerdict, outcome, finished, reading};
+ghost use Rattle.reader.specs.Steps.{earlyVerdict, Kept, section, sections};
+ghost use Rattle.settling.specs.declared.Settings.the-variants.{Settled};
+
 // Success: the settings (sample rate code and front-end type), the number of multiframes, speech, the number of bad pairs, and end.
 pub struct Summary {
     pub rate: u8,
@@ -32,4 +52,305 @@ pub enum Verdict {
 pub enum Answer {
     Read(Summary),
     Refused(Refusal),
+}
+
+// Places and headers for as many multiframes, and notes for as many pairs, as an utterance may have: the arrays of a reading.
+const MULTIFRAMES: usize = UtteranceLayout::MULTIFRAMES;
+
+const NOTES: usize = MultiframeLayout::PAIRS * MULTIFRAMES;
+
+// A sample rate code that is not defined.
+const UNDEFINED_RATE: u8 = 2;
+
+// 01's numbers for what cutting meets.
+const UNKNOWN: u8 = 12;
+
+const CUT_SHORT: u8 = 13;
+
+fn cut_refusal(number: u8, place: usize) -> Refusal
+    ensures { λ r. ⌜ r ≡ cutRefusal number place ⌝ }
+{
+    if number == UNKNOWN {
+        return Refusal::Unknown { place };
+    }
+    if number == CUT_SHORT {
+        return Refusal::CutShort { place };
+    }
+    Refusal::TooMany { place }
+}
+
+// 17, 18 and 19: what can be refused of settled common bits before any pair is judged.
+fn early(common: u16, m: usize, index: usize, report: usize) -> Verdict
+    requires { ⌜ m ≤ mostMultiframes ⌝ }
+    ensures { λ r. ⌜ r ≡ earlyVerdict m index report common ⌝ }
+{
+    let fields = header::fields_of(common);
+    if fields.rate == UNDEFINED_RATE {
+        return Verdict::Refuse(Refusal::Unfit);
+    }
+    if fields.exp != 0 {
+        return Verdict::Refuse(Refusal::Unfit);
+    }
+    if index < ReadingLayout::INDEX * m {
+        return Verdict::Refuse(Refusal::IndexShort {
+            needed: ReadingLayout::INDEX * m,
+        });
+    }
+    if report < ReadingLayout::REPORT * m {
+        return Verdict::Refuse(Refusal::ReportShort {
+            needed: ReadingLayout::REPORT * m,
+        });
+    }
+    Verdict::Accept { common }
+}
+
+// Every pair's note goes into notes; the answer is how many are bad.
+fn judge_all(
+    octets: &[u8],
+    places: &[usize],
+    codebook: &[i32],
+    thresholds: &[i32],
+    notes: &mut [u8],
+) -> usize
+    requires { ⌜ Placed (now octets) (now places) × (length (now notes) ≡ pairCount (now places)) ⌝ }
+    requires { ⌜ (length (now codebook) ≡ codebookNumbers) × (length (now thresholds) ≡ thresholdNumbers) ⌝ }
+    ensures count { λ r. ⌜ r ≡ badPairs (pairNotes (now (octets .entry)) (now (places .entry)) (now (codebook .entry)) (now (thresholds .entry))) ⌝ }
+    ensures notes { λ _. ⌜ now (notes .exit) ≡ pairNotes (now (octets .entry)) (now (places .entry)) (now (codebook .entry)) (now (thresholds .entry)) ⌝ }
+{
+    pairs::note_crcs(octets, places, notes);
+    pairs::judge(octets, places, codebook, thresholds, notes);
+    judging::bad_pairs(notes)
+}
+
+// 17 to 20, of settled common bits. An accepted reading has its notes in notes.
+fn decide_pairs(
+    octets: &[u8],
+    places: &[usize],
+    codebook: &[i32],
+    thresholds: &[i32],
+    common: u16,
+    index: usize,
+    report: usize,
+    notes: &mut [u8],
+) -> Verdict
+    requires { ⌜ Placed (now octets) (now places) × (length (now notes) ≡ pairCount (now places)) × (length (now places) ≤ mostMultiframes) ⌝ }
+    requires { ⌜ (length (now codebook) ≡ codebookNumbers) × (length (now thresholds) ≡ thresholdNumbers) ⌝ }
+    ensures answer { λ r. ⌜ r ≡ settledVerdict (length (now (places .entry))) (badPairs (pairNotes (now (octets .entry)) (now (places .entry)) (now (codebook .entry)) (now (thresholds .entry)))) (pairCount (now (places .entry))) index report (Settled common) ⌝ }
+    ensures notes { λ r. ⌜ Kept (pairNotes (now (octets .entry)) (now (places .entry)) (now (codebook .entry)) (now (thresholds .entry))) (now (notes .exit)) r ⌝ }
+{
+    match early(common, places.len(), index, report) {
+        Verdict::Refuse(r) => Verdict::Refuse(r),
+        Verdict::Accept { common: _ } => {
+            if judge_all(octets, places, codebook, thresholds, notes) == notes.len() {
+                return Verdict::Refuse(Refusal::AllBad);
+            }
+            Verdict::Accept { common }
+        }
+    }
+}
+
+// 14 and 16 to 20, of octets that are cut up. Nothing that the caller of read lent can be written here. An accepted reading has its
+// headers and notes in headers and notes.
+fn decide(
+    octets: &[u8],
+    places: &[usize],
+    codebook: &[i32],
+    thresholds: &[i32],
+    index: usize,
+    report: usize,
+    headers: &mut [u32],
+    notes: &mut [u8],
+) -> Verdict
+    requires { ⌜ Placed (now octets) (now places) × (length (now notes) ≡ pairCount (now places)) × (length (now places) ≤ mostMultiframes) × (length (now headers) ≡ length (now places)) ⌝ }
+    requires { ⌜ (length (now codebook) ≡ codebookNumbers) × (length (now thresholds) ≡ thresholdNumbers) ⌝ }
+    ensures answer { λ r. ⌜ r ≡ wholeVerdict (now (octets .entry)) (now (codebook .entry)) (now (thresholds .entry)) index report (now (places .entry)) ⌝ }
+    ensures headers { λ r. ⌜ Kept (packAll (now (octets .entry)) (now (places .entry)) (length (now (places .entry)))) (now (headers .exit)) r ⌝ }
+    ensures notes { λ r. ⌜ Kept (pairNotes (now (octets .entry)) (now (places .entry)) (now (codebook .entry)) (now (thresholds .entry))) (now (notes .exit)) r ⌝ }
+{
+    if places.len() == 0 {
+        return Verdict::Refuse(Refusal::Empty {
+            octets: octets.len(),
+        });
+    }
+    settling::read_headers(octets, places, headers);
+    match settling::settle(headers) {
+        Settings::Unsettled => Verdict::Refuse(Refusal::Unsettled),
+        Settings::Settled { common } => decide_pairs(
+            octets,
+            places,
+            codebook,
+            thresholds,
+            common,
+            index,
+            report,
+            notes,
+        ),
+    }
+}
+
+// Twelve notes from place from on go to place to of the report.
+fn put_notes(notes: &[u8], from: usize, report: &mut [u8], to: usize)
+    requires { ⌜ (from + multiframePairs ≤ length (now notes)) × (to + multiframePairs ≤ length (now report)) ⌝ }
+    ensures { λ _. ⌜ now (report .exit) ≡ over (now (report .entry)) to multiframePairs (part from multiframePairs (now (notes .entry))) ⌝ }
+{
+    let mut j = 0;
+    while j < MultiframeLayout::PAIRS {
+        report[to + j] = notes[from + j];
+        j += 1;
+    }
+}
+
+// Multiframe k's thirteen octets go to the report.
+fn put_section(headers: &[u32], notes: &[u8], common: u16, report: &mut [u8], k: usize)
+    requires { ⌜ (k < length (now headers)) × (length (now headers) ≤ mostMultiframes) × (length (now notes) ≡ multiframePairs * length (now headers)) × (reportOctets * length (now headers) ≤ length (now report)) ⌝ }
+    requires { ⌜ Mended (opened (getD (now headers) k 0)) ⌝ }
+    ensures { λ _. ⌜ now (report .exit) ≡ over (now (report .entry)) (reportOctets * k) reportOctets (section (now (headers .entry)) (now (notes .entry)) common k) ⌝ }
+{
+    let at = ReadingLayout::REPORT * k;
+    report[at] = settling::note_at(headers, k, common);
+    put_notes(notes, MultiframeLayout::PAIRS * k, report, at + 1);
+}
+
+// The report's part goes to the front of report; the rest of it stays. It asks for headers as read_headers stores them.
+fn put_report(headers: &[u32], notes: &[u8], common: u16, report: &mut [u8])
+    requires { ⌜ (length (now headers) ≤ mostMultiframes) × (length (now notes) ≡ multiframePairs * length (now headers)) × (reportOctets * length (now headers) ≤ length (now report)) ⌝ }
+    requires { ⌜ ((k : Prim.Native.Nat.ℕ) → k < length (now headers) → Mended (opened (getD (now headers) k 0))) ⌝ }
+    ensures { λ _. ⌜ now (report .exit) ≡ over (now (report .entry)) 0 (reportOctets * length (now (headers .entry))) (sections (now (headers .entry)) (now (notes .entry)) common (length (now (headers .entry)))) ⌝ }
+{
+    let mut k = 0;
+    while k < headers.len() {
+        put_section(headers, notes, common, report, k);
+        k += 1;
+    }
+}
+
+// An accepted reading is written: the index buffer's part and the report's part to their fronts, the rest of both stays.
+fn write(
+    octets: &[u8],
+    places: &[usize],
+    headers: &[u32],
+    notes: &[u8],
+    common: u16,
+    index: &mut [u8],
+    report: &mut [u8],
+) -> Summary
+    requires { ⌜ Placed (now octets) (now places) × (1 ≤ length (now places)) × (length (now places) ≤ mostMultiframes) ⌝ }
+    requires { ⌜ (now headers ≡ packAll (now octets) (now places) (length (now places))) × (length (now notes) ≡ pairCount (now places)) × Good (now notes) ⌝ }
+    requires { ⌜ (indexOctets * length (now places) ≤ length (now index)) × (reportOctets * length (now places) ≤ length (now report)) ⌝ }
+    ensures answer { λ r. ⌜ r ≡ summary (now (octets .entry)) (now (places .entry)) (now (notes .entry)) common ⌝ }
+    ensures index { λ _. ⌜ now (index .exit) ≡ over (now (index .entry)) 0 (indexOctets * length (now (places .entry))) (indexPart (now (octets .entry)) (now (places .entry)) (now (notes .entry))) ⌝ }
+    ensures report { λ _. ⌜ now (report .exit) ≡ over (now (report .entry)) 0 (reportOctets * length (now (places .entry))) (reportPart (now (octets .entry)) (now (places .entry)) (now (notes .entry)) common) ⌝ }
+{
+    pairs::take_all_apart(octets, places, index);
+    replacing::replace(notes, index);
+    put_report(headers, notes, common, report);
+    let m = places.len();
+    let fields = header::fields_of(common);
+    Summary {
+        rate: fields.rate,
+        kind: fields.kind,
+        multiframes: m,
+        speech: replacing::speech_of(index, m),
+        bad: judging::bad_pairs(notes),
+        end: replacing::end_of(index, m),
+    }
+}
+
+// The reading of octets that are cut up, with room of its own for headers and notes: decided first, and written only if it is accepted.
+fn read_with(
+    octets: &[u8],
+    places: &[usize],
+    codebook: &[i32],
+    thresholds: &[i32],
+    headers: &mut [u32],
+    notes: &mut [u8],
+    index: &mut [u8],
+    report: &mut [u8],
+) -> Answer
+    requires { ⌜ Placed (now octets) (now places) × (length (now notes) ≡ pairCount (now places)) × (length (now places) ≤ mostMultiframes) × (length (now headers) ≡ length (now places)) ⌝ }
+    requires { ⌜ (length (now codebook) ≡ codebookNumbers) × (length (now thresholds) ≡ thresholdNumbers) ⌝ }
+    ensures { λ r. ⌜ outcome r (now (index .exit)) (now (report .exit)) ≡ finished (now (octets .entry)) (now (codebook .entry)) (now (thresholds .entry)) (now (index .entry)) (now (report .entry)) (now (places .entry)) (wholeVerdict (now (octets .entry)) (now (codebook .entry)) (now (thresholds .entry)) (length (now (index .entry))) (length (now (report .entry))) (now (places .entry))) ⌝ }
+{
+    match decide(
+        octets,
+        places,
+        codebook,
+        thresholds,
+        index.len(),
+        report.len(),
+        headers,
+        notes,
+    ) {
+        Verdict::Refuse(r) => Answer::Refused(r),
+        Verdict::Accept { common } => Answer::Read(write(
+            octets,
+            places,
+            headers,
+            notes,
+            common,
+            index,
+            report,
+        )),
+    }
+}
+
+// The same: the room is for as many multiframes as an utterance may have.
+fn read_whole(
+    octets: &[u8],
+    places: &[usize],
+    codebook: &[i32],
+    thresholds: &[i32],
+    index: &mut [u8],
+    report: &mut [u8],
+) -> Answer
+    requires { ⌜ Placed (now octets) (now places) × (length (now places) ≤ mostMultiframes) ⌝ }
+    requires { ⌜ (length (now codebook) ≡ codebookNumbers) × (length (now thresholds) ≡ thresholdNumbers) ⌝ }
+    ensures { λ r. ⌜ outcome r (now (index .exit)) (now (report .exit)) ≡ finished (now (octets .entry)) (now (codebook .entry)) (now (thresholds .entry)) (now (index .entry)) (now (report .entry)) (now (places .entry)) (wholeVerdict (now (octets .entry)) (now (codebook .entry)) (now (thresholds .entry)) (length (now (index .entry))) (length (now (report .entry))) (now (places .entry))) ⌝ }
+{
+    let m = places.len();
+    let pairs = MultiframeLayout::PAIRS * m;
+    let mut headers = [0u32; MULTIFRAMES];
+    let mut notes = [0u8; NOTES];
+    read_with(
+        octets,
+        places,
+        codebook,
+        thresholds,
+        &mut headers[..m],
+        &mut notes[..pairs],
+        index,
+        report,
+    )
+}
+
+// read turns received octets into the indices of all frames and a report, or refuses and leaves both buffers as they came.
+// Nothing is asked of the caller: codebook, 1,280 numbers; 14 thresholds; an index buffer of 168 and a report buffer of 13 octets for each
+// multiframe; else 01's refusals.
+pub fn read(
+    octets: &[u8],
+    codebook: &[i32],
+    thresholds: &[i32],
+    index: &mut [u8],
+    report: &mut [u8],
+) -> Answer
+    ensures { λ r. ⌜ outcome r (now (index .exit)) (now (report .exit)) ≡ reading (now (octets .entry)) (now (codebook .entry)) (now (thresholds .entry)) (now (index .entry)) (now (report .entry)) ⌝ }
+{
+    if codebook.len() != ReadingLayout::CODEBOOK {
+        return Answer::Refused(Refusal::WrongTables);
+    }
+    if thresholds.len() != ReadingLayout::THRESHOLDS {
+        return Answer::Refused(Refusal::WrongTables);
+    }
+    let mut places = [0usize; MULTIFRAMES];
+    match cutting::cut_into(octets, &mut places) {
+        Cut::Whole { count } => read_whole(
+            octets,
+            &places[..count],
+            codebook,
+            thresholds,
+            index,
+            report,
+        ),
+        Cut::Refused { number, place } => Answer::Refused(cut_refusal(number, place)),
+    }
 }

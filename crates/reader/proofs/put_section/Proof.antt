@@ -1,0 +1,55 @@
+-- `put_section` meets its contract: a header note, and twelve notes behind it. Assumes nothing.
+use mathlib.Core.Path.{_∙_}
+use native.Mathlib.Omega.{arith}
+use lib.ListN.{length-set}
+use Rattle.reader.specs.Steps.{section-is}
+use borrow.Author.Needs.{needs}
+use Rattle.reader.proofs.put_section.Statement.{statement}
+use Rattle.reader.proofs.put_section.Tie as tie
+
+mul-at : tie.Need-mul-at
+mul-at c = search needs
+
+note-at-requires : tie.Need-note-at-requires
+note-at-requires c κs = search needs
+
+slice-write-report : tie.Need-slice-write-report
+slice-write-report c = search needs
+
+mul-put-notes : tie.Need-mul-put-notes
+mul-put-notes c = search needs
+
+add-put-notes : tie.Need-add-put-notes
+add-put-notes c = search needs
+
+put-notes-requires : tie.Need-put-notes-requires
+put-notes-requires c κs =
+    let st = c .before .before .before .before .before in
+    let p = st .pre .0 in
+    (omega (arith, p .0, p .2), rw length-set (omega (arith, p .0, p .3)))
+
+same-length : tie.Need-same-length
+same-length c =
+    let n = c .before .before in
+    n .put-notes .kept .1 .1 .0 ∙ rw length-set
+
+returns : tie.Need-returns
+returns c =
+    let n = c .before .before in
+    let h = n .before .before in
+    let st = h .before .before .before .before in
+    let p = st .pre .0 in
+    section-is (st .args .headers .now) (st .args .notes .now) (st .args .report .now) (n .put-notes .last .1 .1 .0) (st .args .common) (st .args .k) (h .note-at .result) (omega (arith, p .0, p .3)) (h .note-at .ensures) (n .put-notes .ensures)
+
+pub put-section-spec : {M : Type 1} → statement M
+put-section-spec =
+    tie.close
+    (tie.spec
+    mul-at
+    note-at-requires
+    slice-write-report
+    mul-put-notes
+    add-put-notes
+    put-notes-requires
+    same-length
+    returns)

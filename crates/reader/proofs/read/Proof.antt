@@ -1,0 +1,119 @@
+-- `read` meets its contract: the tables' sizes, cutting, and then the reading of the multiframes that were cut. Assumes nothing.
+use Prim.Native.Nat.{ℕ, _≤_}
+use mathlib.Core.Path.{_≡_, sym, ap, _∙_, subst}
+use mathlib.Core.List.{List}
+use native.Mathlib.Omega.{arith}
+use lib.ListN.{length, take, replicate}
+use Rattle.cutting.specs.Cutting.{whole, cutting}
+use Rattle.cutting.specs.Laws.{Placed, places-placed, at-most-255}
+use Rattle.reader.specs.Steps.{cut-whole, cut-refused, front-places, wrong-codebook, wrong-thresholds, not-cut, whole-reading}
+use borrow.Author.Needs.{needs}
+use Rattle.reader.proofs.read.Statement.{statement}
+use Rattle.reader.proofs.read.Tie as tie
+
+-- cutting met nothing that it refuses, and counted the places
+counted : (c : tie.After-count)
+    → (cutting (c .before .before .before .before .before .before .before .before .before .before .args .octets .now) .ending ≡ whole)
+    × (c .count .given .0 .0 ≡ length (cutting (c .before .before .before .before .before .before .before .before .before .before .args .octets .now) .places))
+counted c =
+    let u = c .before .before .before in
+    cut-whole (cutting (u .before .before .before .before .before .before .before .args .octets .now)) (c .count .given .0 .0) (sym (u .cut-into .ensures .0) ∙ c .count .given .1)
+
+-- so many at the front of the array are the places
+lent : (c : tie.After-count)
+    → take (c .count .given .0 .0) (c .before .before .before .cut-into .last .1 .0) ≡ cutting (c .before .before .before .before .before .before .before .before .before .before .args .octets .now) .places
+lent c =
+    let u = c .before .before .before in
+    front-places (cutting (u .before .before .before .before .before .before .before .args .octets .now) .places) (replicate 255 0) (u .cut-into .last .1 .0) (c .count .given .0 .0) (u .cut-into .ensures .1) (counted c .1)
+
+returns : tie.Need-returns
+returns c =
+    let st = c .before .before .before .before in
+    let a = st .args in
+    wrong-codebook (a .octets .now) (a .codebook .now) (a .thresholds .now) (a .index .now) (a .report .now) (c .if1 .taken)
+
+returns-2 : tie.Need-returns-2
+returns-2 c =
+    let st = c .before .before .before .before .before in
+    let a = st .args in
+    wrong-thresholds (a .octets .now) (a .codebook .now) (a .thresholds .now) (a .index .now) (a .report .now) (c .before .if1 .left) (c .if2 .taken)
+
+slice-aggregate-cut-into : tie.Need-slice-aggregate-cut-into
+slice-aggregate-cut-into c = search needs
+
+cut-into-requires : tie.Need-cut-into-requires
+cut-into-requires c κs = search needs
+
+enum-known-count : tie.Need-enum-known-count
+enum-known-count c = search needs
+
+array-share-prefix-places : tie.Need-array-share-prefix-places
+array-share-prefix-places c =
+    let k = c .before in
+    let u = k .before .before .before in
+    let st = u .before .before .before .before .before .before .before in
+    let size : length (u .cut-into .last .1 .0) ≡ 255 = u .cut-into .kept .1 .0 in
+    omega (arith, size, counted k .1, at-most-255 (st .args .octets .now))
+
+slice-aggregate-read-whole : tie.Need-slice-aggregate-read-whole
+slice-aggregate-read-whole c =
+    let k = c .before .before in
+    counted k .1 ∙ sym (ap length (lent k))
+
+read-whole-requires : tie.Need-read-whole-requires
+read-whole-requires c κs =
+    let k = c .before .before .before .before in
+    let i = k .before .before .before .before .before in
+    let st = i .before .before .before .before .before in
+    let a = st .args in
+    ((subst (Placed (a .octets .now)) (sym (lent k)) (places-placed (a .octets .now)), subst (λ (l : List ℕ). length l ≤ 255) (sym (lent k)) (at-most-255 (a .octets .now))), (i .before .if1 .left, i .if2 .left))
+
+enum-known-number : tie.Need-enum-known-number
+enum-known-number c = search needs
+
+cut-refusal-requires : tie.Need-cut-refusal-requires
+cut-refusal-requires c κs = search needs
+
+same-length : tie.Need-same-length
+same-length c = search needs
+
+same-length-2 : tie.Need-same-length-2
+same-length-2 c = search needs
+
+returns-3 : tie.Need-returns-3
+returns-3 c =
+    let w = c .before .before .before .before in
+    let k = w .before .before .before .before .before in
+    let i = k .before .before .before .before .before in
+    let st = i .before .before .before .before .before in
+    let a = st .args in
+    whole-reading (a .octets .now) (a .codebook .now) (a .thresholds .now) (a .index .now) (a .report .now) (i .before .if1 .left) (i .if2 .left) _ _ (counted k .0) (lent k) (w .read-whole .ensures)
+
+returns-4 : tie.Need-returns-4
+returns-4 c =
+    let n = c .before .before in
+    let u = n .before .before .before in
+    let i = u .before .before in
+    let st = i .before .before .before .before .before in
+    let a = st .args in
+    not-cut (a .octets .now) (a .codebook .now) (a .thresholds .now) (a .index .now) (a .report .now) (i .before .if1 .left) (i .if2 .left) _ _ (c .cut-refusal .result)
+    (cut-refused (cutting (a .octets .now)) _ _ (sym (u .cut-into .ensures .0) ∙ n .number .given .1)) (c .cut-refusal .ensures)
+
+pub read-spec : {M : Type 1} → statement M
+read-spec =
+    tie.close
+    (tie.spec
+    returns
+    returns-2
+    slice-aggregate-cut-into
+    cut-into-requires
+    enum-known-count
+    array-share-prefix-places
+    slice-aggregate-read-whole
+    read-whole-requires
+    enum-known-number
+    cut-refusal-requires
+    same-length
+    same-length-2
+    returns-3
+    returns-4)
