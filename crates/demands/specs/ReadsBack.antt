@@ -43,7 +43,7 @@ use Rattle.writer.specs.declared.Answer.the-variants.{Written}
 use Rattle.writer.specs.Made.{wordIn}
 use Rattle.writer.specs.Image.{Nonzero, last-speaks, Utterance, multiframesOf, imageOf, is-accepted, whole-frames, writes}
 use Rattle.demands.specs.Damage.{headerFlips, unharmed}
-use Rattle.demands.specs.Whole.{rowOf, Lent}
+use Rattle.demands.specs.Whole.{rowOf, Lent, nothing-replaced, all-zero-at}
 use Rattle.demands.specs.Received.{BadBefore, BadPair, Tells, is-so, not-so, tells-bad, sentCommon, rate-sent, kind-sent, note-of-header}
 use Rattle.demands.specs.NamesTheDamage as N
 
@@ -67,15 +67,6 @@ zero-rows : (w m : ℕ) → joined {A = ℕ} (λ k. replicate w 0) m ≡ replica
 zero-rows w zero = ap (λ (n : ℕ). replicate n 0) (sym (mul-zero w))
 zero-rows w (suc m) =
     ap (λ (l : List ℕ). l ++ replicate w 0) (zero-rows w m) ∙ replicate-append-replicate (w * m) w 0 ∙ ap (λ (n : ℕ). replicate n 0) (sym (mul-suc w m))
-
-all-zero-at : (l : List ℕ) (j : ℕ) → allZero l ≡ true → getD l j 0 ≡ 0
-all-zero-at [] j e = refl
-all-zero-at (x ∷ l) j e = by (eqb x 0) refl e j (λ i z. all-zero-at l i z)
-  where
-    by : (t : Bool) → eqb x 0 ≡ t → when t (allZero l) false ≡ true → (j : ℕ) → ((i : ℕ) → allZero l ≡ true → getD l i 0 ≡ 0) → getD (x ∷ l) j 0 ≡ 0
-    by true z e zero f = eqb-true x 0 z
-    by true z e (suc j) f = f j e
-    by false z e j f = absurd (true-false (sym e))
 
 no-more : (k i : ℕ) → getD {A = ℕ} (replicate k 0) i 0 ≡ 0
 no-more zero i = refl
@@ -216,13 +207,7 @@ module _ (u : Utterance) (codebook thresholds : List ℤ) (index report : List �
 
   -- nothing is replaced
   kept : replaced ns (allFrames s places) ≡ allFrames s places
-  kept =
-      let all = allFrames s places in
-      let lr = replaced-length ns all in
-      ext-getD 0 (replaced ns all) all (lr ∙ omega (arith, notes-size, length-all s places)) (λ t h.
-      let e : source ns (t / 7) ≡ t / 7 = good-stays ns (t / 7) (pair-notes (pairOf (t / 7)) (omega (arith, lr))) in
-      let z : 7 * (t / 7) + t % 7 ≡ t = omega arith in
-      replaced-at ns all t (omega (arith, lr)) ∙ ap (λ (k : ℕ). getD all (7 * k + t % 7) 0) e ∙ ap (λ (k : ℕ). getD all k 0) z)
+  kept = nothing-replaced ns (allFrames s places) pair-notes (length-all s places ∙ omega (arith, notes-size))
 
   -- and every frame is the one written
   frame-is : (k : ℕ) → k < multiframeFrames * multiframesOf u → part (frameIndices * k) frameIndices (allFrames s places) ≡ frameAt (u .indices) k

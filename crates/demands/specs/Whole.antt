@@ -1,16 +1,23 @@
 -- Octets of m whole multiframes and nothing else, as the reader meets them: where it finds each header word and each packet, and what it gives
 -- once the settings are settled, a pair is good and there is room.
 -- Assumes nothing.
-use mathlib.Core.Path.{_≡_, sym, ap, ap₂, _∙_, subst}
+use mathlib.Core.Path.{_≡_, refl, sym, ap, ap₂, _∙_, subst}
+use mathlib.Core.Bool.{Bool, true, false}
+use lib.Dec.{eqb}
+use borrow.Author.Tests.{eqb-true}
+use Rattle.lists.specs.Tests.{when, true-false}
+use Rattle.replacing.specs.Replacing.{source, pairsOctets, replaced}
+use Rattle.replacing.specs.Laws.{good-stays, replaced-length, replaced-at}
+use Rattle.replacing.specs.Speech.{allZero}
 use mathlib.Core.List.{List, [], _∷_}
-use Prim.Native.Nat.{ℕ, suc, _+_, _*_, _/_, _%_, _≤_, _<_}
+use Prim.Native.Nat.{ℕ, zero, suc, _+_, _*_, _/_, _%_, _≤_, _<_}
 use native.Mathlib.Omega.{arith}
 use lib.IntN.{ℤ}
 use lib.ListN.{length, drop, getD, List·getD-append}
-use lib.Seq.{getD-take, getD-drop}
+use lib.Seq.{ext-getD, getD-take, getD-drop}
 use Rattle.lists.specs.Parts.{part, over, part-left}
 use Rattle.lists.specs.Rows.{each, same-each}
-use Rattle.layout.specs.Layout.{multiframePairs, multiframeOctets, syncOctets, headerOctets, streamOctets, mostMultiframes, indexOctets, reportOctets, codebookNumbers, thresholdNumbers, multiframeOf, firstPair}
+use Rattle.layout.specs.Layout.{multiframePairs, multiframeOctets, syncOctets, headerOctets, streamOctets, mostMultiframes, indexOctets, reportOctets, codebookNumbers, thresholdNumbers, pairOf, multiframeOf, firstPair}
 use Rattle.bits.specs.Bits.{bits}
 use Rattle.cutting.specs.Cutting.{Cutting, whole, cutting, syncFirst, syncSecond}
 use Rattle.cutting.specs.Laws.{every, every-length, every-at, whole-image}
@@ -126,3 +133,22 @@ module _ (s places ns report : List ℕ) (c w : ℕ) (notes-size : length ns ≡
       let e : 12 * k + j ≡ q = omega arith in
       ap (λ (i : ℕ). getD (over report 0 w (reportPart s places ns c)) i 0) z ∙ report-octet k (suc j) (omega arith) (omega arith)
       ∙ getD-take 12 (drop (12 * k) ns) j 0 (omega arith) ∙ getD-drop (12 * k) ns j 0 ∙ ap (λ (i : ℕ). getD ns i 0) e
+
+-- ---- no bad pair: nothing is replaced
+pub nothing-replaced : (ns l : List ℕ) → ((q : ℕ) → q < length ns → getD ns q 0 ≡ 0) → length l ≡ pairsOctets (length ns) → replaced ns l ≡ l
+nothing-replaced ns l good size =
+    let lr = replaced-length ns l in
+    ext-getD 0 (replaced ns l) l (lr ∙ sym size) (λ t h.
+    let e : source ns (t / 7) ≡ t / 7 = good-stays ns (t / 7) (good (pairOf (t / 7)) (omega (arith, lr))) in
+    let z : 7 * (t / 7) + t % 7 ≡ t = omega arith in
+    replaced-at ns l t (omega (arith, lr)) ∙ ap (λ (k : ℕ). getD l (7 * k + t % 7) 0) e ∙ ap (λ (k : ℕ). getD l k 0) z)
+
+-- a zero frame is zero at each index
+pub all-zero-at : (l : List ℕ) (j : ℕ) → allZero l ≡ true → getD l j 0 ≡ 0
+all-zero-at [] j e = refl
+all-zero-at (x ∷ l) j e = by (eqb x 0) refl e j (λ i z. all-zero-at l i z)
+  where
+    by : (t : Bool) → eqb x 0 ≡ t → when t (allZero l) false ≡ true → (j : ℕ) → ((i : ℕ) → allZero l ≡ true → getD l i 0 ≡ 0) → getD (x ∷ l) j 0 ≡ 0
+    by true z e zero f = eqb-true x 0 z
+    by true z e (suc j) f = f j e
+    by false z e j f = absurd (true-false (sym e))

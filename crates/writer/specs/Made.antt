@@ -147,11 +147,11 @@ small-part a n s h i =
       | no d ↦ subst (λ (x : ℕ). x < 2 ^ 8) (sym (List·getD-eq-default (part a n s) 0 (omega (arith, length-take n (drop a s))))) (lit< tt)
     ]
 
--- octets in rows of w are their rows
-rows : (w m : ℕ) (s : List ℕ) → w * m ≤ length s → joined (λ k. part (w * k) w s) m ≡ take (w * m) s
-rows w zero s h = ap (λ (n : ℕ). take n s) (sym (mul-zero w))
-rows w (suc m) s h =
-    ap (λ (l : List ℕ). l ++ part (w * m) w s) (rows w m s (omega (arith, mul-suc w m))) ∙ sym (take-add (w * m) w s) ∙ ap (λ (n : ℕ). take n s) (sym (mul-suc w m))
+-- what stands in rows of w is its rows
+pub rows : {A : Type 0} (w m : ℕ) (s : List A) → w * m ≤ length s → joined (λ k. part (w * k) w s) m ≡ take (w * m) s
+rows {A} w zero s h = ap (λ (n : ℕ). take n s) (sym (mul-zero w))
+rows {A} w (suc m) s h =
+    ap (λ (l : List A). l ++ part (w * m) w s) (rows w m s (omega (arith, mul-suc w m))) ∙ sym (take-add (w * m) w s) ∙ ap (λ (n : ℕ). take n s) (sym (mul-suc w m))
 
 -- OCTETS THAT ARE CUT IN m MULTIFRAMES, each with its sync, are made of what stands in them
 module _ (s : List ℕ) (m : ℕ) (size : length s ≡ multiframeOctets * m) (small : Small s) (syncs : (k : ℕ) → k < m → syncIn s k ≡ 0x87 ∷ 0xB2 ∷ []) where
