@@ -15,7 +15,7 @@ use Rattle.layout.specs.Layout.{dataBits, packetBits, multiframePairs, streamOc
 use Rattle.crc.specs.Crc.{Damaged, right}
 use Rattle.packet.specs.Packet.{packetOf}
 use Rattle.packet.specs.Laws.{packetOf-good, packetOf-damaged}
-use Rattle.header_code.specs.Code.{codeword, flipsTo}
+use Rattle.header_code.specs.Code.{flipsTo}
 use Rattle.header.specs.Message.{message}
 use Rattle.header.specs.Message.Laws.{message-lt}
 use Rattle.header.specs.Reading.{reading}

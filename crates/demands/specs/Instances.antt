@@ -18,7 +18,7 @@ use Rattle.layout.specs.Layout.{widths, frameIndices, firstFrame, packetBits, s
 use Rattle.bits.specs.Bits.{field, laid}
 use Rattle.crc.specs.Crc.{crc, after, flip, Damaged}
 use Rattle.crc.specs.Damage.{length-flip, flips-burst}
-use Rattle.packet.specs.Packet.{frame, guarded, packet, row, packetOf, stream}
+use Rattle.packet.specs.Packet.{guarded, packet, row, packetOf, stream}
 use Rattle.packet.specs.Laws.{row-past, length-packetOf, length-stream, stream-part}
 use Rattle.header_code.specs.Code.{codeword, flipsTo}
 use Rattle.header_code.specs.Code.Distance.{codeword-lt}

@@ -2,17 +2,17 @@
 -- Assumes nothing.
 use Prim.Native.Nat.{ℕ, zero, suc, _+_, _-_, _*_, _≤_, _<_}
 use mathlib.Core.Path.{_≡_, refl, ap, ap₂, sym, subst, _∙_}
-use mathlib.Core.List.{List, [], _∷_, _++_, append-nil}
+use mathlib.Core.List.{List, [], _∷_, _++_}
 use mathlib.Core.Bool.{Bool, true, false}
 use native.Mathlib.Omega.{arith}
 use native.Mathlib.Numerals.{add-one}
-use lib.ListN.{length, getD, take, drop, set, length-append, length-drop, length-take}
+use lib.ListN.{length, getD, take, drop, set, length-drop}
 use lib.Seq.{take-suc, take-at, getD-drop}
 use lib.IntN.{ℤ}
 use lib.Dec.{ltb, eqb}
 use Rattle.lists.specs.Tests.{when}
-use Rattle.lists.specs.Parts.{part, over, length-part, set-over, behind, over-over, over-in, drop-over, part-left}
-use Rattle.lists.specs.Rows.{each, joined, each-at, length-each, length-joined, same-joined}
+use Rattle.lists.specs.Parts.{part, over, length-part, set-over, behind, over-in, drop-over, part-left}
+use Rattle.lists.specs.Rows.{joined, each-at, length-each, length-joined, same-joined}
 use Rattle.layout.specs.Layout.{frameIndices, pairFrames, multiframePairs, multiframeFrames, indexOctets, reportOctets, codebookNumbers, thresholdNumbers, firstPair}
 use Rattle.header.specs.Message.{rateOf, typeOf, expOf}
 use Rattle.header.specs.Reading.{reading as readHeader}
@@ -20,7 +20,7 @@ use Rattle.header.specs.declared.Header.{Header}
 use Rattle.header.specs.declared.Header.the-variants.{Lost}
 use Rattle.settling.specs.Settling.{headerWord, readings, settling, headerNote}
 use Rattle.settling.specs.declared.Settings.{Settings}
-use Rattle.settling.specs.Stored.{opened, openAll, packAll, packed, Mended, mended, opened-packed, open-at, stored-back, length-open}
+use Rattle.settling.specs.Stored.{opened, openAll, packAll, packed, Mended, mended, opened-packed, stored-back}
 use Rattle.settling.specs.declared.Settings.the-variants as S
 use Rattle.pairs.specs.Pairs.{pairCount, allFrames, pairNotes}
 use Rattle.pairs.specs.Laws.{length-all, length-notes, over-all}
@@ -30,7 +30,7 @@ use Rattle.judging.specs.Laws.{Good, some-good, few-bad}
 use Rattle.cutting.specs.Cutting.{Ending, whole, refused, Cutting, cutting, answeredBy, answered, laid}
 use Rattle.cutting.specs.declared.Cut.the-variants as C
 use Rattle.replacing.specs.Replacing.{pairsOctets, replaced}
-use Rattle.replacing.specs.Laws.{same-replaced, replaced-length}
+use Rattle.replacing.specs.Laws.{same-replaced}
 use Rattle.replacing.specs.Speech.{allZero, zeroFrame, lastNonzero, speechOf, endOf}
 use Rattle.reader.specs.Reading.{indexPart, reportPart, summary, cutRefusal, roomVerdict, settledVerdict, wholeVerdict, verdict, Outcome, outcome, finished, reading}
 use Rattle.reader.specs.ReadingLaws.{length-index, whole-accepted}

@@ -6,9 +6,9 @@ use mathlib.Core.Path.{_≡_, refl, ap, sym, _∙_}
 use mathlib.Core.List.{List, [], _∷_}
 use mathlib.Core.Bool.{Bool, true, false}
 use lib.Dec.{eqb}
-use lib.ListN.{length, getD, set, drop, length-set}
+use lib.ListN.{length, getD, set, drop}
 use lib.Seq.{drop-cons, drop-length}
-use native.Mathlib.Nat.{div-one, add-zero, mod-lt}
+use native.Mathlib.Nat.{div-one, mod-lt}
 use lib.Bits.{bitAnd, and-mask}
 use lib.Pow.{pow-pos}
 use native.Mathlib.Numerals.{add-one}

@@ -34,6 +34,13 @@ streamIn s k = part (multiframeOctets * k + syncOctets + headerOctets) streamOct
 abbrev pub packetIn : List ℕ → ℕ → List Bool
 packetIn s q = part (packetStart q) packetBits (bits (streamIn s (multiframeOf q)))
 
+-- a part of a part
+pub part-within : {A : Type 0} (l : List A) (b w a v : ℕ) → b + w ≤ length l → a + v ≤ w → part (b + a) v l ≡ part a v (part b w l)
+part-within l b w a v room h =
+    let d = drop b l in
+    let r : a + v ≤ length (take w d) = omega (arith, length-part l b w room) in
+    ap (take v) (sym (drop-drop a b l)) ∙ ap (part a v) (sym (take-append-drop w d)) ∙ part-left (take w d) (drop w d) a v r
+
 -- ---- multiframes of any header words and any streams of bits, one behind the other
 abbrev pub framed : ℕ → List Bool → List ℕ
 framed w x = (0x87 ∷ 0xB2 ∷ []) ++ (octets headerOctets (field 32 w) ++ octets streamOctets x)
@@ -76,11 +83,7 @@ module _ (w : ℕ → ℕ) (x : ℕ → List Bool) where
     -- a part of a multiframe is that part of the whole
     inside : (a v : ℕ) → a + v ≤ multiframeOctets → part (multiframeOctets * k + a) v (made w x m) ≡ part a v (framed (w k) (x k))
     inside a v l =
-        let s = made w x m in
-        let d = drop (multiframeOctets * k) s in
-        let r : a + v ≤ length (take multiframeOctets d) = omega (arith, length-part s (multiframeOctets * k) multiframeOctets (omega (arith, length-made m))) in
-        ap (take v) (sym (drop-drop a (multiframeOctets * k) s)) ∙ ap (part a v) (sym (take-append-drop multiframeOctets d))
-        ∙ part-left (take multiframeOctets d) (drop multiframeOctets d) a v r ∙ ap (part a v) (made-part m k h)
+        part-within (made w x m) (multiframeOctets * k) multiframeOctets a v (omega (arith, length-made m)) l ∙ ap (part a v) (made-part m k h)
 
     pub made-sync : syncIn (made w x m) k ≡ 0x87 ∷ 0xB2 ∷ []
     made-sync =
@@ -144,11 +147,11 @@ small-part a n s h i =
       | no d ↦ subst (λ (x : ℕ). x < 2 ^ 8) (sym (List·getD-eq-default (part a n s) 0 (omega (arith, length-take n (drop a s))))) (lit< tt)
     ]
 
--- octets in rows of w are their rows
-rows : (w m : ℕ) (s : List ℕ) → w * m ≤ length s → joined (λ k. part (w * k) w s) m ≡ take (w * m) s
-rows w zero s h = ap (λ (n : ℕ). take n s) (sym (mul-zero w))
-rows w (suc m) s h =
-    ap (λ (l : List ℕ). l ++ part (w * m) w s) (rows w m s (omega (arith, mul-suc w m))) ∙ sym (take-add (w * m) w s) ∙ ap (λ (n : ℕ). take n s) (sym (mul-suc w m))
+-- what stands in rows of w is its rows
+pub rows : {A : Type 0} (w m : ℕ) (s : List A) → w * m ≤ length s → joined (λ k. part (w * k) w s) m ≡ take (w * m) s
+rows {A} w zero s h = ap (λ (n : ℕ). take n s) (sym (mul-zero w))
+rows {A} w (suc m) s h =
+    ap (λ (l : List A). l ++ part (w * m) w s) (rows w m s (omega (arith, mul-suc w m))) ∙ sym (take-add (w * m) w s) ∙ ap (λ (n : ℕ). take n s) (sym (mul-suc w m))
 
 -- OCTETS THAT ARE CUT IN m MULTIFRAMES, each with its sync, are made of what stands in them
 module _ (s : List ℕ) (m : ℕ) (size : length s ≡ multiframeOctets * m) (small : Small s) (syncs : (k : ℕ) → k < m → syncIn s k ≡ 0x87 ∷ 0xB2 ∷ []) where

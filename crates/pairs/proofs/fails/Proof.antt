@@ -1,10 +1,5 @@
 -- `fails` meets its contract: its CRC is not right. Assumes nothing.
 use denote.Ref.{now}
-use Prim.Native.Nat.{_*_}
-use mathlib.Core.Path.{_≡_, ap, _∙_}
-use mathlib.Core.List.{List}
-use mathlib.Core.Bool.{Bool, not}
-use Rattle.pairs.specs.Pairs.{pairFails}
 use Rattle.pairs.specs.Laws.{stream-size, fails-is}
 use borrow.Author.Needs.{needs}
 use Rattle.pairs.proofs.fails.Statement.{statement}

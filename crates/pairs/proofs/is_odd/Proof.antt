@@ -1,6 +1,6 @@
 -- `is_odd` meets its contract: both frames, in fourteen octets of its own. Assumes nothing.
 use native.Mathlib.Omega.{arith}
-use mathlib.Core.Path.{_≡_, refl, sym, ap, _∙_}
+use mathlib.Core.Path.{_≡_, refl, ap, _∙_}
 use lib.ListN.{length, replicate}
 use Rattle.pairs.specs.Pairs.{framesOf}
 use Rattle.pairs.specs.Laws.{over-all, ranges, odd-is, length-frames}

@@ -1,5 +1,4 @@
 -- `is_odd_if` meets its contract. Assumes nothing.
-use mathlib.Core.Path.{sym}
 use borrow.Author.Needs.{needs}
 use Rattle.pairs.proofs.is_odd_if.Statement.{statement}
 use Rattle.pairs.proofs.is_odd_if.Tie as tie

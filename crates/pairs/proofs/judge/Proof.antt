@@ -1,11 +1,10 @@
 -- `judge` meets its contract: each turn judges one pair (`judged-on`). Assumes nothing.
-use Prim.Native.Nat.{ℕ, _-_}
-use mathlib.Core.Path.{_≡_, refl, sym, ap, _∙_, subst}
+use Prim.Native.Nat.{_-_}
+use mathlib.Core.Path.{sym, ap, _∙_}
 use mathlib.Core.Bool.{Bool, false}
 use native.Mathlib.Omega.{arith}
-use lib.ListN.{length, length-set}
+use lib.ListN.{length}
 use Rattle.lists.specs.Tests.{when}
-use Rattle.judging.specs.Judging.{bad}
 use Rattle.pairs.specs.Pairs.{pairCount, pairOdd, pairNotes}
 use Rattle.pairs.specs.Laws.{Judged, length-crcs, judging-begun, judged-on, judging-done}
 use borrow.Author.Needs.{needs}

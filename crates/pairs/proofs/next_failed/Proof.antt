@@ -1,5 +1,4 @@
 -- `next_failed` meets its contract: past the notes stands none. Assumes nothing.
-use Prim.Native.Nat.{_+_}
 use mathlib.Core.Path.{sym, ap}
 use lib.ListN.{List·getD-eq-default}
 use Rattle.judging.specs.Judging.{bad}

@@ -1,6 +1,5 @@
 -- `put_pair` meets its contract: the packet in the stream is taken apart. Assumes nothing.
 use denote.Ref.{now}
-use mathlib.Core.Path.{_≡_, ap, _∙_}
 use Rattle.pairs.specs.Laws.{stream-size, put-is}
 use borrow.Author.Needs.{needs}
 use Rattle.pairs.proofs.put_pair.Statement.{statement}

@@ -1,7 +1,6 @@
 -- `cut_refusal` meets its contract. Assumes nothing.
 use borrow.Author.Tests.{eq-eqb, ne-eqb}
 use Rattle.reader.specs.Reading.{cutRefusal}
-use borrow.Author.Needs.{needs}
 use Rattle.reader.proofs.cut_refusal.Statement.{statement}
 use Rattle.reader.proofs.cut_refusal.Tie as tie
 

@@ -1,6 +1,4 @@
 -- `decide` meets its contract: no multiframe, then what the headers settle, then `decide_pairs`. Assumes nothing.
-use mathlib.Core.Path.{_≡_, sym, _∙_}
-use lib.ListN.{length}
 use Rattle.reader.specs.Steps.{decided-empty, decided-unsettled, decided-settled, all-stored, kept}
 use borrow.Author.Needs.{needs}
 use Rattle.reader.proofs.decide.Statement.{statement}

@@ -1,5 +1,5 @@
 -- `decide_pairs` meets its contract: 17 to 19 first, and then whether every pair is bad. Assumes nothing.
-use mathlib.Core.Path.{_≡_, ap, sym, _∙_}
+use mathlib.Core.Path.{ap, _∙_}
 use lib.ListN.{length}
 use Rattle.pairs.specs.Pairs.{pairCount}
 use Rattle.pairs.specs.Laws.{length-notes}

@@ -1,6 +1,6 @@
 -- `early` meets its contract: the tests stand in the definition's order. Assumes nothing.
 use Prim.Native.Nat.{_*_}
-use mathlib.Core.Path.{_≡_, sym, _∙_}
+use mathlib.Core.Path.{sym, _∙_}
 use borrow.Author.Tests.{eq-eqb, ne-eqb, lt-ltb, le-ltb}
 use Rattle.header.specs.Message.{rateOf, expOf}
 use Rattle.reader.specs.Steps.{earlyVerdict}

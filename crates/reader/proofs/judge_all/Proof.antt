@@ -1,5 +1,5 @@
 -- `judge_all` meets its contract: the CRCs' notes, then the pairs' notes, then their count. Assumes nothing.
-use mathlib.Core.Path.{_≡_, ap, _∙_}
+use mathlib.Core.Path.{ap, _∙_}
 use Rattle.judging.specs.Judging.{badPairs}
 use borrow.Author.Needs.{needs}
 use Rattle.reader.proofs.judge_all.Statement.{statement}

@@ -1,8 +1,7 @@
 -- `put_section` meets its contract: a header note, and twelve notes behind it. Assumes nothing.
-use Prim.Native.Nat.{ℕ, _*_, _+_, _≤_}
-use mathlib.Core.Path.{_≡_, _∙_}
+use mathlib.Core.Path.{_∙_}
 use native.Mathlib.Omega.{arith}
-use lib.ListN.{length, length-set}
+use lib.ListN.{length-set}
 use Rattle.reader.specs.Steps.{section-is}
 use borrow.Author.Needs.{needs}
 use Rattle.reader.proofs.put_section.Statement.{statement}

@@ -1,9 +1,9 @@
 -- `read` meets its contract: the tables' sizes, cutting, and then the reading of the multiframes that were cut. Assumes nothing.
-use Prim.Native.Nat.{ℕ, _+_, _≤_, _<_}
-use mathlib.Core.Path.{_≡_, refl, sym, ap, _∙_, subst}
+use Prim.Native.Nat.{ℕ, _≤_}
+use mathlib.Core.Path.{_≡_, sym, ap, _∙_, subst}
 use mathlib.Core.List.{List}
 use native.Mathlib.Omega.{arith}
-use lib.ListN.{length, getD, take, replicate}
+use lib.ListN.{length, take, replicate}
 use Rattle.cutting.specs.Cutting.{whole, cutting}
 use Rattle.cutting.specs.Laws.{Placed, places-placed, at-most-255}
 use Rattle.reader.specs.Steps.{cut-whole, cut-refused, front-places, wrong-codebook, wrong-thresholds, not-cut, whole-reading}

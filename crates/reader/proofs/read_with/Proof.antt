@@ -1,11 +1,8 @@
 -- `read_with` meets its contract: what is accepted is ready to be written, and a refusal has written nothing. Assumes nothing.
-use mathlib.Core.Path.{_≡_, sym, ap, _∙_, subst}
+use mathlib.Core.Path.{sym, ap, _∙_, subst}
 use lib.ListN.{length}
 use Rattle.judging.specs.Laws.{Good}
-use Rattle.settling.specs.Stored.{packAll}
-use Rattle.pairs.specs.Pairs.{pairNotes}
 use Rattle.pairs.specs.Laws.{length-notes}
-use Rattle.reader.specs.declared.Verdict.{Verdict}
 use Rattle.reader.specs.Steps.{Kept, ready, finished-refused, finished-read}
 use borrow.Author.Needs.{needs}
 use Rattle.reader.proofs.read_with.Statement.{statement}

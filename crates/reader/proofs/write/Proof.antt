@@ -1,12 +1,11 @@
 -- `write` meets its contract: all pairs taken apart, the bad ones replaced, the report laid, and the rest read off. Assumes nothing.
-use Prim.Native.Nat.{ℕ, _*_, _≤_}
-use mathlib.Core.Path.{_≡_, sym, ap, ap₂, _∙_}
+use Prim.Native.Nat.{ℕ, _*_}
+use mathlib.Core.Path.{ap₂, _∙_}
 use mathlib.Core.List.{List}
 use native.Mathlib.Omega.{arith}
-use lib.ListN.{length}
 use Rattle.lists.specs.Parts.{over}
-use Rattle.layout.specs.Layout.{reportOctets, indexOctets}
-use Rattle.reader.specs.Steps.{sections, stored-size, stored-mended, sections-are, index-is, summary-is}
+use Rattle.layout.specs.Layout.{reportOctets}
+use Rattle.reader.specs.Steps.{stored-size, stored-mended, sections-are, index-is, summary-is}
 use borrow.Author.Needs.{needs}
 use Rattle.reader.proofs.write.Statement.{statement}
 use Rattle.reader.proofs.write.Tie as tie

@@ -1,5 +1,4 @@
 -- `agreed` meets its contract: a lost header settles nothing, a readable one what was seen before it. Assumes nothing.
-use native.Mathlib.Omega.{arith}
 use Rattle.settling.specs.Stored.{lost-settles-nothing, seen-settles, new-settles-nothing}
 use borrow.Author.Needs.{needs}
 use Rattle.settling.proofs.agreed.Statement.{statement}

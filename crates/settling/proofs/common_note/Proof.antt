@@ -1,7 +1,6 @@
 -- `common_note` meets its contract. Assumes nothing.
 use borrow.Author.Tests.{eq-eqb, ne-eqb}
 use Rattle.settling.specs.Stored.{commonNote}
-use borrow.Author.Needs.{needs}
 use Rattle.settling.proofs.common_note.Statement.{statement}
 use Rattle.settling.proofs.common_note.Tie as tie
 

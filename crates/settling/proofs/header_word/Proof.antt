@@ -1,5 +1,4 @@
 -- `header_word` meets its contract: the low half of the eight octets behind the sync. Assumes nothing.
-use native.Mathlib.Omega.{arith}
 use Rattle.settling.specs.Stored.{low-half, word-is}
 use borrow.Author.Needs.{needs}
 use Rattle.settling.proofs.header_word.Statement.{statement}

@@ -1,5 +1,5 @@
 -- `note_at` meets its contract: the reading found there has its note. Assumes nothing.
-use mathlib.Core.Path.{_≡_, sym, ap, _∙_, subst}
+use mathlib.Core.Path.{sym, ap, _∙_, subst}
 use Rattle.header.specs.declared.Header.{Header}
 use Rattle.settling.specs.Settling.{headerNote}
 use Rattle.settling.specs.Stored.{Mended}

@@ -1,9 +1,8 @@
 -- `note_of` meets its contract: a readable header's note is the sum of its flips, 4 and 8. Assumes nothing.
-use Prim.Native.Nat.{_≤_}
-use mathlib.Core.Path.{_≡_, subst, ap, _∙_}
+use Prim.Native.Nat.{ℕ}
+use mathlib.Core.Path.{subst, ap, _∙_}
 use native.Mathlib.Omega.{arith}
-use Rattle.header.specs.Message.{countOf}
-use Rattle.settling.specs.Stored.{Mended, stepNote, step-note-le, common-note-le, note-sum, note-lost}
+use Rattle.settling.specs.Stored.{Mended, stepNote, commonNote, step-note-le, common-note-le, note-sum, note-lost}
 use borrow.Author.Needs.{needs}
 use Rattle.settling.proofs.note_of.Statement.{statement}
 use Rattle.settling.proofs.note_of.Tie as tie
@@ -62,8 +61,8 @@ returns-2 c =
     let d = f .before .before in
     let st = d .before .before in
     note-sum (st .args .common) (st .args .k) _ _ _ _ _ (d .h .given .1)
-    (s .step-note .ensures ∙ ap (λ (n : Prim.Native.Nat.ℕ). stepNote n (st .args .k)) (f .fields-of .ensures .1 .1 .0))
-    (c .common-note .ensures ∙ ap (λ (n : Prim.Native.Nat.ℕ). Rattle.settling.specs.Stored.commonNote n (st .args .common)) (c .before .common-of .ensures))
+    (s .step-note .ensures ∙ ap (λ (n : ℕ). stepNote n (st .args .k)) (f .fields-of .ensures .1 .1 .0))
+    (c .common-note .ensures ∙ ap (λ (n : ℕ). commonNote n (st .args .common)) (c .before .common-of .ensures))
 
 pub note-of-spec : {M : Type 1} → statement M
 note-of-spec =

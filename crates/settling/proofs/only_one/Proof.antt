@@ -1,7 +1,5 @@
 -- `only_one` meets its contract. Assumes nothing.
-use mathlib.Core.Path.{_≡_, sym, _∙_}
-use native.Mathlib.Omega.{arith}
-use lib.ListN.{length}
+use mathlib.Core.Path.{sym, _∙_}
 use Rattle.settling.specs.Stored.{not-only, length-open, only-lost, only-clean, only-mended}
 use borrow.Author.Needs.{needs}
 use Rattle.settling.proofs.only_one.Statement.{statement}

@@ -1,7 +1,7 @@
 -- `pack_reading` meets its contract: at most two flips stand above sixteen bits of message. Assumes nothing.
-use mathlib.Core.Path.{sym, subst}
+use mathlib.Core.Path.{subst}
 use native.Mathlib.Omega.{arith}
-use Rattle.settling.specs.Stored.{packed, Mended}
+use Rattle.settling.specs.Stored.{Mended}
 use borrow.Author.Needs.{needs}
 use Rattle.settling.proofs.pack_reading.Statement.{statement}
 use Rattle.settling.proofs.pack_reading.Tie as tie

@@ -1,5 +1,5 @@
 -- `settle` meets its contract: an only header is asked if no two agree. Assumes nothing.
-use mathlib.Core.Path.{_≡_, sym, ap, _∙_}
+use mathlib.Core.Path.{sym, _∙_}
 use Rattle.settling.specs.Settling.{settling}
 use borrow.Author.Needs.{needs}
 use Rattle.settling.proofs.settle.Statement.{statement}

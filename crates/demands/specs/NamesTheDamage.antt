@@ -1,0 +1,201 @@
+-- NAMES THE DAMAGE (demand 3). "For every accepted utterance and every such damage, with two multiframes or more, or an only header that is
+-- untouched, and one pair not bad, with 01's tables and room: the reader succeeds, gives the settings sent and m; the note of every damaged pair
+-- is 1; a pair that is not damaged has a note other than 0 exactly if 01's consistency rule makes it bad; each header note is the number of bits
+-- flipped there; and each frame of the pairs with note 0 stands at its place in the index buffer as it was written, zeros where it was padding."
+-- Assumes nothing.
+use mathlib.Core.Path.{_≡_, sym, ap, _∙_, subst}
+use mathlib.Core.List.{List, _++_}
+use mathlib.Core.Logic.{_⊎_, _↔_}
+use Prim.Native.Nat.{ℕ, _+_, _*_, _/_, _≤_, _<_}
+use native.Mathlib.Decide.{ℕ-discrete}
+use native.Mathlib.Omega.{arith}
+use lib.Dec.{eqb}
+use lib.IntN.{ℤ}
+use lib.ListN.{length, getD, replicate}
+use lib.Seq.{take-at, take-all}
+use borrow.Author.Tests.{eqb-true}
+use Rattle.lists.specs.Tests.{true-false, not-false}
+use Rattle.lists.specs.Parts.{part, over, part-right}
+use Rattle.layout.specs.Layout.{frameIndices, multiframeFrames, multiframeOctets, indexOctets, reportOctets, pairOf, firstFrame, secondFrame}
+use Rattle.packet.specs.Packet.{frameAt}
+use Rattle.packet.specs.Laws.{length-row, row-inside, row-past}
+use Rattle.cutting.specs.Laws.{every-length}
+use Rattle.settling.specs.Settling.{readings, settling}
+use Rattle.pairs.specs.Pairs.{pairCount, allFrames, pairNotes}
+use Rattle.pairs.specs.Laws.{length-notes, length-all, frames-at}
+use Rattle.judging.specs.Judging.{bad, badPairs}
+use Rattle.judging.specs.Laws.{Good, none-good}
+use Rattle.replacing.specs.Laws.{good-kept}
+use Rattle.reader.specs.Reading.{indexPart, reportPart, summary, Outcome, outcome, reading}
+use Rattle.reader.specs.ReadingLaws.{Fitting, length-index}
+use Rattle.reader.specs.declared.Summary.{Summary}
+use Rattle.reader.specs.declared.Answer.the-variants.{Read}
+use Rattle.writer.specs.Writing.{frameCount}
+use Rattle.writer.specs.Laws.{few-multiframes, length-image}
+use Rattle.writer.specs.Made.{part-within}
+use Rattle.writer.specs.Image.{image-sync, Utterance, multiframesOf, pairsOf, imageOf, is-accepted, rate-not-2, whole-frames}
+use Rattle.demands.specs.Damage.{Damage, Touched, headerFlips}
+use Rattle.demands.specs.Whole.{rowOf, Lent, reads-as, headerNoteIn, pairNoteIn, header-note-is, pair-note-is, front-part}
+use Rattle.demands.specs.Received.{BadPair, ByRule, Tells, is-so, not-so, tells-rule, tells-bad, touched-note, frames-kept, settles, note-of-header, sentCommon, rate-sent, kind-sent, exp-sent}
+
+module _ (u : Utterance) (s : List ℕ) (codebook thresholds : List ℤ) (index report : List ℕ) where
+  pub record Premises : Type 0 where
+    -- "every such damage"
+    pub damage : Damage (multiframesOf u) (imageOf u) s
+    -- "with two multiframes or more, or an only header that is untouched"
+    pub headers : (2 ≤ multiframesOf u) ⊎ (headerFlips (imageOf u) s 0 ≡ 0)
+    -- "and one pair not bad"
+    pub pair : ℕ
+    pub within : pair < pairsOf u
+    pub not-bad : BadPair u s codebook thresholds pair → ⊥
+    -- "with 01's tables and room"
+    pub lent : Lent (multiframesOf u) codebook thresholds index report
+
+  abbrev pub result : Outcome
+  result = reading s codebook thresholds index report
+
+  pub record Named : Type 0 where
+    -- "the reader succeeds, gives the settings sent and m"
+    pub given : Summary
+    pub succeeds : result .answer ≡ Read given
+    pub rate : given .rate ≡ u .rate
+    pub kind : given .kind ≡ u .kind
+    pub multiframes : given .multiframes ≡ multiframesOf u
+    -- "the note of every damaged pair is 1"
+    pub damaged : (q : ℕ) → q < pairsOf u → Touched (imageOf u) s q → pairNoteIn (result .report) q ≡ 1
+    -- "a pair that is not damaged has a note other than 0 exactly if 01's consistency rule makes it bad"
+    pub others : (q : ℕ) → q < pairsOf u → (Touched (imageOf u) s q → ⊥) → (pairNoteIn (result .report) q ≡ 0 → ⊥) ↔ ByRule u s codebook thresholds q
+    -- "each header note is the number of bits flipped there"
+    pub flips : (k : ℕ) → k < multiframesOf u → headerNoteIn (result .report) k ≡ headerFlips (imageOf u) s k
+    -- "and each frame of the pairs with note 0 stands at its place in the index buffer as it was written"
+    pub frames : (k : ℕ) → k < frameCount (u .indices) → pairNoteIn (result .report) (pairOf k) ≡ 0
+        → part (frameIndices * k) frameIndices (result .index) ≡ part (frameIndices * k) frameIndices (u .indices)
+    -- "zeros where it was padding"
+    pub padding : (k : ℕ) → frameCount (u .indices) ≤ k → k < multiframeFrames * multiframesOf u → pairNoteIn (result .report) (pairOf k) ≡ 0
+        → part (frameIndices * k) frameIndices (result .index) ≡ replicate frameIndices 0
+
+  module _ (p : Premises) where
+    abbrev m : ℕ
+    m = multiframesOf u
+
+    abbrev d : Damage m (imageOf u) s
+    d = p .damage
+
+    abbrev ns : List ℕ
+    ns = pairNotes s (rowOf m) codebook thresholds
+
+    rows : length (rowOf m) ≡ m
+    rows = every-length 0 m
+
+    notes-size : length ns ≡ pairCount (rowOf m)
+    notes-size = length-notes s (rowOf m) codebook thresholds
+
+    -- the good pair's note is 0
+    good : Good ns
+    good = by (tells-bad u s d codebook thresholds (p .pair) (p .within))
+      where
+        by : Tells (BadPair u s codebook thresholds (p .pair)) (bad (getD ns (p .pair) 0)) → Good ns
+        by (is-so x e) = absurd (p .not-bad x)
+        by (not-so n e) =
+            record {
+              pair = p .pair;
+              within = omega (arith, notes-size, rows, p .within);
+              good = eqb-true (getD ns (p .pair) 0) 0 (not-false (eqb (getD ns (p .pair) 0) 0) e);
+            }
+
+    fits-in : Fitting (length (rowOf m)) (badPairs ns) (pairCount (rowOf m)) (length index) (length report) (settling (readings s (rowOf m))) (sentCommon u)
+    fits-in = record {
+      settles = settles u s d (p .headers);
+      usable = record { rate = λ e. rate-not-2 u (sym (rate-sent u) ∙ e); exp = exp-sent u };
+      roomy = record {
+        index-room = subst (λ (n : ℕ). indexOctets * n ≤ length index) (sym rows) (p .lent .index-room);
+        report-room = subst (λ (n : ℕ). reportOctets * n ≤ length report) (sym rows) (p .lent .report-room);
+        not-all = λ e. none-good ns (e ∙ sym notes-size) (good .pair) (good .within) (good .good);
+      };
+    }
+
+    size : length s ≡ multiframeOctets * m
+    size = d .size ∙ length-image (u .rate) (u .kind) (u .indices) m
+
+    pub read-is : result
+        ≡ outcome (Read (summary s (rowOf m) ns (sentCommon u))) (over index 0 (indexOctets * length (rowOf m)) (indexPart s (rowOf m) ns))
+        (over report 0 (reportOctets * length (rowOf m)) (reportPart s (rowOf m) ns (sentCommon u)))
+    read-is =
+        reads-as s m (few-multiframes (u .rate) (u .kind) (u .indices) (is-accepted u .sizes)) size
+        (λ k h. d .syncs k h ∙ image-sync (u .rate) (u .kind) (u .indices) m k h) codebook thresholds index report (sentCommon u) (omega arith) (p .lent) fits-in
+
+    -- the report's octets are the notes
+    pair-note : (q : ℕ) → q < pairsOf u → pairNoteIn (result .report) q ≡ getD ns q 0
+    pair-note q h =
+        ap (λ (o : Outcome). pairNoteIn (o .report) q) read-is
+        ∙ pair-note-is s (rowOf m) ns report (sentCommon u) (reportOctets * length (rowOf m)) notes-size q (omega (arith, rows))
+
+    header-note : (k : ℕ) → k < m → headerNoteIn (result .report) k ≡ headerFlips (imageOf u) s k
+    header-note k h =
+        ap (λ (o : Outcome). headerNoteIn (o .report) k) read-is
+        ∙ header-note-is s (rowOf m) ns report (sentCommon u) (reportOctets * length (rowOf m)) notes-size k (omega (arith, rows)) ∙ note-of-header u s d k h
+
+    -- a pair whose note is 0 is not damaged
+    not-hit : (q : ℕ) → q < pairsOf u → getD ns q 0 ≡ 0 → Touched (imageOf u) s q → ⊥
+    not-hit q h z t = let e : _≡_ {A = ℕ} 0 1 = sym z ∙ touched-note u s d codebook thresholds q h t in omega arith
+
+    -- its frames, before replacing
+    pub frame-in-pair : (q : ℕ) → q < pairsOf u → getD ns q 0 ≡ 0
+        → (part (frameIndices * firstFrame q) frameIndices (allFrames s (rowOf m)) ≡ frameAt (u .indices) (firstFrame q))
+        × (part (frameIndices * secondFrame q) frameIndices (allFrames s (rowOf m)) ≡ frameAt (u .indices) (secondFrame q))
+    frame-in-pair q h z =
+        let all = allFrames s (rowOf m) in
+        let f = frameAt (u .indices) (firstFrame q) in
+        let g = frameAt (u .indices) (secondFrame q) in
+        let lf : length f ≡ 7 = length-row (u .indices) (7 * (2 * q)) 7 in
+        let lg : length g ≡ 7 = length-row (u .indices) (7 * (2 * q + 1)) 7 in
+        let pair : part (14 * q) 14 all ≡ f ++ g = frames-at s (rowOf m) q (omega (arith, rows)) ∙ frames-kept u s d q h (not-hit q h z) in
+        let room : 14 * q + 14 ≤ length all = omega (arith, length-all s (rowOf m), rows) in
+        let a : 7 * (2 * q) ≡ 14 * q + 0 = omega arith in
+        let b : 7 * (2 * q + 1) ≡ 14 * q + 7 = omega arith in (
+          ap (λ (i : ℕ). part i 7 all) a ∙ part-within all (14 * q) 14 0 7 room (omega arith) ∙ ap (part 0 7) pair ∙ take-at f g 7 lf,
+          ap (λ (i : ℕ). part i 7 all) b ∙ part-within all (14 * q) 14 7 7 room (omega arith) ∙ ap (part 7 7) pair ∙ part-right f g 7 7 lf
+              ∙ take-all 7 g (omega arith),
+        )
+
+    frame-kept : (k : ℕ) → k < multiframeFrames * m → pairNoteIn (result .report) (pairOf k) ≡ 0 → part (frameIndices * k) frameIndices (result .index) ≡ frameAt (u .indices) k
+    frame-kept k h z =
+        let n : getD ns (pairOf k) 0 ≡ 0 = sym (pair-note (pairOf k) (omega arith)) ∙ z in
+        let all = allFrames s (rowOf m) in
+        let b = frame-in-pair (k / 2) (omega arith) n in
+        ap (λ (o : Outcome). part (7 * k) 7 (o .index)) read-is
+        ∙ front-part index (indexPart s (rowOf m) ns) (indexOctets * length (rowOf m)) (7 * k) 7 (omega (arith, length-index s (rowOf m) ns notes-size, rows))
+        ∙ good-kept ns good all k (omega (arith, notes-size, length-all s (rowOf m))) (omega (arith, notes-size, rows)) n
+        ∙ elim (ℕ-discrete (2 * (k / 2)) k) [
+          | yes e ↦ subst (λ (j : ℕ). part (7 * j) 7 all ≡ frameAt (u .indices) j) e (b .0)
+          | no x ↦ let e : 2 * (k / 2) + 1 ≡ k = omega arith in subst (λ (j : ℕ). part (7 * j) 7 all ≡ frameAt (u .indices) j) e (b .1)
+        ]
+
+    rule : (q : ℕ) → q < pairsOf u → (Touched (imageOf u) s q → ⊥) → (pairNoteIn (result .report) q ≡ 0 → ⊥) ↔ ByRule u s codebook thresholds q
+    rule q h n = by (tells-rule u s d codebook thresholds q h n)
+      where
+        by : Tells (ByRule u s codebook thresholds q) (bad (getD ns q 0)) → (pairNoteIn (result .report) q ≡ 0 → ⊥) ↔ ByRule u s codebook thresholds q
+        by (is-so r e) = ((λ z. r), (λ x z. true-false (sym e ∙ ap bad (sym (pair-note q h) ∙ z))))
+        by (not-so k e) = (
+          (λ z. absurd (z (pair-note q h ∙ eqb-true (getD ns q 0) 0 (not-false (eqb (getD ns q 0) 0) e)))),
+          (λ r. absurd (k r)),
+        )
+
+    proof : Named
+    proof = record {
+      given = summary s (rowOf m) ns (sentCommon u);
+      succeeds = ap (λ (o : Outcome). o .answer) read-is;
+      rate = rate-sent u;
+      kind = kind-sent u;
+      multiframes = rows;
+      damaged = λ q h t. pair-note q h ∙ touched-note u s d codebook thresholds q h t;
+      others = rule;
+      flips = header-note;
+      frames = λ k h z.
+          frame-kept k (omega arith) z ∙ row-inside (u .indices) (frameIndices * k) frameIndices (omega (arith, whole-frames u));
+      padding = λ k l h z. frame-kept k h z ∙ row-past (u .indices) (frameIndices * k) frameIndices (omega (arith, whole-frames u));
+    }
+
+pub names-the-damage : (u : Utterance) (s : List ℕ) (codebook thresholds : List ℤ) (index report : List ℕ)
+    → Premises u s codebook thresholds index report → Named u s codebook thresholds index report
+names-the-damage u s codebook thresholds index report p = proof u s codebook thresholds index report p

@@ -1,0 +1,305 @@
+-- READS BACK (demand 2). "For every accepted utterance, with 01's tables (any codebook of 1,280 and any 14 thresholds) and room: reading the
+-- written image succeeds with the same settings, m, speech equal to n, no bad pair, end 1, all notes 0, and the index buffer holds the frames as
+-- written and zeros after them." Octets beyond both parts stay.
+-- Assumes nothing.
+use mathlib.Core.Path.{_≡_, refl, sym, ap, ap₂, _∙_, subst}
+use mathlib.Core.Bool.{Bool, true, false}
+use mathlib.Core.List.{List, [], _∷_, _++_}
+use mathlib.Core.Logic.{inr, ⊎-elim}
+use Prim.Native.Nat.{ℕ, zero, suc, _+_, _-_, _*_, _/_, _%_, _≤_, _<_}
+use native.Mathlib.Nat.{mul-zero, mul-suc}
+use native.Mathlib.Decide.{ℕ-discrete, decLt}
+use native.Mathlib.Omega.{arith}
+use lib.Bits.{xor-self}
+use lib.Count.{ones, ones-le}
+use lib.Dec.{eqb, lit<}
+use lib.IntN.{ℤ}
+use lib.ListN.{length, take, drop, getD, replicate, length-replicate, getD-replicate, length-append, replicate-append-replicate, List·getD-append, List·getD-eq-default}
+use lib.Seq.{take-at, ext-getD, getD-take, getD-drop, getD-append-add}
+use borrow.Author.Tests.{eq-eqb, eqb-true}
+use Rattle.lists.specs.Tests.{when, true-false, not-false}
+use Rattle.lists.specs.Parts.{part, over, length-part}
+use Rattle.lists.specs.Rows.{joined, same-joined}
+use Rattle.layout.specs.Layout.{frameIndices, multiframeFrames, multiframePairs, indexOctets, reportOctets, firstPair, pairOf}
+use Rattle.packet.specs.Packet.{frameAt}
+use Rattle.packet.specs.Laws.{getD-row}
+use Rattle.cutting.specs.Laws.{every-length}
+use Rattle.header.specs.Message.{rateOf, typeOf}
+use Rattle.header.specs.declared.Header.the-variants.{Lost}
+use Rattle.settling.specs.Settling.{readings, headerNote}
+use Rattle.pairs.specs.Pairs.{pairCount, allFrames, pairNotes}
+use Rattle.pairs.specs.Laws.{length-notes, length-all}
+use Rattle.judging.specs.Judging.{bad, badPairs}
+use Rattle.replacing.specs.Replacing.{replaced, source}
+use Rattle.replacing.specs.Laws.{good-stays, replaced-length, replaced-at}
+use Rattle.replacing.specs.Speech.{allZero, zeroFrame, lastNonzero, speechOf, endOf, place-le, zero-behind, nonzero-at}
+use Rattle.reader.specs.Reading.{indexPart, reportPart, summary, Outcome, outcome, reading}
+use Rattle.reader.specs.declared.Summary.{Summary}
+use Rattle.reader.specs.declared.Answer.the-variants.{Read}
+use Rattle.writer.specs.Writing.{frameCount, needed, writing}
+use Rattle.writer.specs.Writing as W
+use Rattle.writer.specs.Laws.{length-image}
+use Rattle.writer.specs.declared.Answer.the-variants.{Written}
+use Rattle.writer.specs.Made.{wordIn}
+use Rattle.writer.specs.Image.{Nonzero, last-speaks, Utterance, multiframesOf, imageOf, is-accepted, whole-frames, writes}
+use Rattle.demands.specs.Damage.{headerFlips, unharmed}
+use Rattle.demands.specs.Whole.{rowOf, Lent, nothing-replaced, all-zero-at}
+use Rattle.demands.specs.Received.{BadBefore, BadPair, Tells, is-so, not-so, tells-bad, sentCommon, rate-sent, kind-sent, note-of-header}
+use Rattle.demands.specs.NamesTheDamage as N
+
+-- the success answer: the same settings, m, speech equal to n, no bad pair, end 1
+abbrev pub spoken : Utterance → Summary
+spoken u = record { rate = u .rate; kind = u .kind; multiframes = multiframesOf u; speech = frameCount (u .indices); bad = 0; end = 1 }
+
+-- the frames as written and zeros after them
+abbrev pub padded : Utterance → List ℕ
+padded u = u .indices ++ replicate (indexOctets * multiframesOf u - length (u .indices)) 0
+
+-- ---- lists of zeros
+zeros : (l : List ℕ) → ((i : ℕ) → i < length l → getD l i 0 ≡ 0) → l ≡ replicate (length l) 0
+zeros l h = ext-getD 0 l (replicate (length l) 0) (sym (length-replicate (length l) 0)) (λ i k. h i k ∙ sym (getD-replicate (length l) i 0 0 k))
+
+none-bad : (l : List ℕ) → ((i : ℕ) → i < length l → getD l i 0 ≡ 0) → badPairs l ≡ 0
+none-bad [] h = refl
+none-bad (x ∷ l) h = rw (eq-eqb x 0 (h 0 (omega arith))) (none-bad l (λ i k. h (suc i) (omega arith)))
+
+zero-rows : (w m : ℕ) → joined {A = ℕ} (λ k. replicate w 0) m ≡ replicate (w * m) 0
+zero-rows w zero = ap (λ (n : ℕ). replicate n 0) (sym (mul-zero w))
+zero-rows w (suc m) =
+    ap (λ (l : List ℕ). l ++ replicate w 0) (zero-rows w m) ∙ replicate-append-replicate (w * m) w 0 ∙ ap (λ (n : ℕ). replicate n 0) (sym (mul-suc w m))
+
+no-more : (k i : ℕ) → getD {A = ℕ} (replicate k 0) i 0 ≡ 0
+no-more zero i = refl
+no-more (suc k) zero = refl
+no-more (suc k) (suc i) = no-more k i
+
+-- ---- the index octets, from what stands at each place
+module _ (u : Utterance) where
+  abbrev m : ℕ
+  m = multiframesOf u
+
+  abbrev n : ℕ
+  n = frameCount (u .indices)
+
+  pub length-padded : length (padded u) ≡ indexOctets * m
+  length-padded =
+      length-append (u .indices) (replicate (168 * m - length (u .indices)) 0) ∙ ap (λ (k : ℕ). length (u .indices) + k) (length-replicate (168 * m - length (u .indices)) 0)
+      ∙ omega (arith, whole-frames u)
+
+  padded-at : (i : ℕ) → getD (padded u) i 0 ≡ getD (u .indices) i 0
+  padded-at i =
+      elim (decLt i (length (u .indices))) [
+        | yes h ↦ List·getD-append (u .indices) (replicate (168 * m - length (u .indices)) 0) 0 i h
+        | no d ↦
+            let e : i ≡ length (u .indices) + (i - length (u .indices)) = omega arith in
+            ap (λ (j : ℕ). getD (padded u) j 0) e
+            ∙ getD-append-add (u .indices) (replicate (168 * m - length (u .indices)) 0) (i - length (u .indices)) 0
+            ∙ no-more (168 * m - length (u .indices)) (i - length (u .indices)) ∙ sym (List·getD-eq-default (u .indices) 0 (omega arith))
+      ]
+
+  -- ---- speech and end
+  frame-octet : (k j : ℕ) → k < multiframeFrames * m → j < frameIndices → getD (part (frameIndices * k) frameIndices (padded u)) j 0 ≡ getD (u .indices) (frameIndices * k + j) 0
+  frame-octet k j h l = getD-take 7 (drop (7 * k) (padded u)) j 0 l ∙ getD-drop (7 * k) (padded u) j 0 ∙ padded-at (7 * k + j)
+
+  -- past the last frame stand zero frames
+  zero-past : (k : ℕ) → n ≤ k → k < multiframeFrames * m → zeroFrame (padded u) k ≡ true
+  unfolding zeroFrame
+  zero-past k h l =
+      let f = part (7 * k) 7 (padded u) in
+      let lf : length f ≡ 7 = length-part (padded u) (7 * k) 7 (omega (arith, length-padded)) in
+      ap allZero (zeros f (λ i j. frame-octet k i l (omega arith) ∙ List·getD-eq-default (u .indices) 0 (omega (arith, whole-frames u))) ∙ ap (λ (w : ℕ). replicate w 0) lf)
+
+  -- the last frame is none
+  last-is-not : (k : ℕ) → k + 1 ≡ n → zeroFrame (padded u) k ≡ false
+  unfolding zeroFrame
+  last-is-not k e = by (allZero (part (7 * k) 7 (padded u))) refl
+    where
+      x : Nonzero (u .indices) k
+      x = last-speaks (u .rate) (u .kind) (u .indices) (needed (u .indices)) (needed (u .indices)) (is-accepted u) k e
+
+      by : (t : Bool) → allZero (part (7 * k) 7 (padded u)) ≡ t → allZero (part (7 * k) 7 (padded u)) ≡ false
+      by true z = absurd (x .nonzero (sym (frame-octet k (x .place) (omega arith) (x .within)) ∙ all-zero-at (part (7 * k) 7 (padded u)) (x .place) z))
+      by false z = z
+
+  -- speech is n
+  speech-is-n : speechOf m (padded u) ≡ n
+  speech-is-n = by (lastNonzero (padded u) (multiframeFrames * (m - 1)) multiframeFrames) refl
+    where
+      by : (x : ℕ) → lastNonzero (padded u) (multiframeFrames * (m - 1)) multiframeFrames ≡ x → multiframeFrames * (m - 1) + x ≡ n
+      by x e = from (decLt n (24 * (m - 1) + x)) (decLt (24 * (m - 1) + x) n)
+        where
+          above : (x : ℕ) → lastNonzero (padded u) (multiframeFrames * (m - 1)) multiframeFrames ≡ x → n < 24 * (m - 1) + x → ⊥
+          above zero e h = omega arith
+          above (suc k) e h =
+              let l = place-le (padded u) (24 * (m - 1)) 24 in
+              true-false (sym (zero-past (24 * (m - 1) + k) (omega arith) (omega arith)) ∙ nonzero-at (padded u) (24 * (m - 1)) 24 k e)
+
+          below : 24 * (m - 1) + x < n → ⊥
+          below h =
+              let k = n - 1 - 24 * (m - 1) in
+              let z : 24 * (m - 1) + k ≡ n - 1 = omega arith in
+              true-false
+              (sym (zero-behind (padded u) (24 * (m - 1)) 24 k (omega arith) (omega arith)) ∙ ap (zeroFrame (padded u)) z ∙ last-is-not (n - 1) (omega arith))
+
+          from : Dec (n < 24 * (m - 1) + x) → Dec (24 * (m - 1) + x < n) → 24 * (m - 1) + x ≡ n
+          from (yes h) b = absurd (above x e h)
+          from (no a) (yes h) = absurd (below h)
+          from (no a) (no b) = omega arith
+
+  -- end is 1
+  end-is-1 : endOf m (padded u) ≡ 1
+  end-is-1 = rw (zero-past (24 * m - 1) (omega arith) (omega arith))
+
+-- ---- the image as the reader takes it: nothing is damaged in it
+module _ (u : Utterance) (codebook thresholds : List ℤ) (index report : List ℕ) (lent : Lent (multiframesOf u) codebook thresholds index report) where
+  abbrev s : List ℕ
+  s = imageOf u
+
+  abbrev places : List ℕ
+  places = rowOf (multiframesOf u)
+
+  abbrev ns : List ℕ
+  ns = pairNotes s places codebook thresholds
+
+  never-before : (q : ℕ) → BadBefore u s codebook thresholds q → ⊥
+  unfolding BadBefore
+  never-before zero b = b
+  never-before (suc q) b = ⊎-elim (λ t. t refl) (λ r. ⊎-elim (λ x. x .1 refl) (never-before q) (r .1)) b
+
+  never-bad : (q : ℕ) → BadPair u s codebook thresholds q → ⊥
+  unfolding BadBefore
+  never-bad q = never-before (suc q)
+
+  no-flips : (k : ℕ) → headerFlips s s k ≡ 0
+  no-flips k = ap ones (xor-self (wordIn s k)) ∙ omega (arith, ones-le 0 0 (lit< tt))
+
+  premises : N.Premises u s codebook thresholds index report
+  premises = record { damage = unharmed u; headers = inr (no-flips 0); pair = 0; within = omega arith; not-bad = never-bad 0; lent = lent }
+
+  rows : length places ≡ multiframesOf u
+  rows = every-length 0 (multiframesOf u)
+
+  notes-size : length ns ≡ pairCount places
+  notes-size = length-notes s places codebook thresholds
+
+  -- all notes are 0
+  pair-notes : (q : ℕ) → q < length ns → getD ns q 0 ≡ 0
+  pair-notes q h = by (tells-bad u s (unharmed u) codebook thresholds q (omega (arith, notes-size, rows)))
+    where
+      by : Tells (BadPair u s codebook thresholds q) (bad (getD ns q 0)) → getD ns q 0 ≡ 0
+      by (is-so x e) = absurd (never-bad q x)
+      by (not-so x e) = eqb-true (getD ns q 0) 0 (not-false (eqb (getD ns q 0) 0) e)
+
+  note-row : (k : ℕ) → k < length places
+      → headerNote (sentCommon u) k (getD (readings s places) k Lost) ∷ part (firstPair k) multiframePairs ns ≡ replicate reportOctets 0
+  note-row k h =
+      let p = part (12 * k) 12 ns in
+      let l : length p ≡ 12 = length-part ns (12 * k) 12 (omega (arith, notes-size)) in
+      ap₂ (λ (x : ℕ) (y : List ℕ). x ∷ y) (note-of-header u s (unharmed u) k (omega (arith, rows)) ∙ no-flips k)
+      (zeros p (λ i j. getD-take 12 (drop (12 * k) ns) i 0 (omega (arith, l)) ∙ getD-drop (12 * k) ns i 0 ∙ pair-notes (12 * k + i) (omega (arith, l, notes-size)))
+      ∙ ap (λ (w : ℕ). replicate w 0) l)
+
+  report-is : reportPart s places ns (sentCommon u) ≡ replicate (reportOctets * multiframesOf u) 0
+  unfolding reportPart
+  report-is =
+      same-joined (λ k. headerNote (sentCommon u) k (getD (readings s places) k Lost) ∷ part (firstPair k) multiframePairs ns) (λ k. replicate reportOctets 0) (length places) note-row
+      ∙ zero-rows reportOctets (length places) ∙ ap (λ (k : ℕ). replicate (reportOctets * k) 0) rows
+
+  -- nothing is replaced
+  kept : replaced ns (allFrames s places) ≡ allFrames s places
+  kept = nothing-replaced ns (allFrames s places) pair-notes (length-all s places ∙ omega (arith, notes-size))
+
+  -- and every frame is the one written
+  frame-is : (k : ℕ) → k < multiframeFrames * multiframesOf u → part (frameIndices * k) frameIndices (allFrames s places) ≡ frameAt (u .indices) k
+  frame-is k h =
+      let all = allFrames s places in
+      let b = N.frame-in-pair u s codebook thresholds index report premises (k / 2) (omega arith) (pair-notes (k / 2) (omega (arith, notes-size, rows))) in
+      elim (ℕ-discrete (2 * (k / 2)) k) [
+        | yes e ↦ subst (λ (j : ℕ). part (7 * j) 7 all ≡ frameAt (u .indices) j) e (b .0)
+        | no x ↦ let e : 2 * (k / 2) + 1 ≡ k = omega arith in subst (λ (j : ℕ). part (7 * j) 7 all ≡ frameAt (u .indices) j) e (b .1)
+      ]
+
+  index-is : indexPart s places ns ≡ padded u
+  index-is =
+      let all = allFrames s places in
+      let la : length all ≡ 168 * multiframesOf u = length-all s places ∙ omega (arith, rows) in
+      kept ∙ ext-getD 0 all (padded u) (la ∙ sym (length-padded u)) (λ i h.
+      let j : i % 7 < 7 = omega arith in
+      let z : 7 * (i / 7) + i % 7 ≡ i = omega arith in
+      ap (λ (t : ℕ). getD all t 0) (sym z) ∙ sym (getD-take 7 (drop (7 * (i / 7)) all) (i % 7) 0 j ∙ getD-drop (7 * (i / 7)) all (i % 7) 0)
+      ∙ ap (λ (f : List ℕ). getD f (i % 7) 0) (frame-is (i / 7) (omega (arith, la))) ∙ getD-row (u .indices) (7 * (i / 7)) 7 (i % 7) j
+      ∙ ap (λ (t : ℕ). getD (u .indices) t 0) z ∙ sym (padded-at u i))
+
+  make : ℕ → ℕ → ℕ → ℕ → ℕ → ℕ → Summary
+  make a b c d e f = record { rate = a; kind = b; multiframes = c; speech = d; bad = e; end = f }
+
+  answer-is : summary s places ns (sentCommon u) ≡ spoken u
+  unfolding make
+  answer-is =
+      let x : speechOf (length places) (indexPart s places ns) ≡ frameCount (u .indices) = ap₂ speechOf rows index-is ∙ speech-is-n u in
+      let y : endOf (length places) (indexPart s places ns) ≡ 1 = ap₂ endOf rows index-is ∙ end-is-1 u in
+      let z : badPairs ns ≡ 0 = none-bad ns pair-notes in
+      let p : make (rateOf (sentCommon u)) (typeOf (sentCommon u)) (length places) (speechOf (length places) (indexPart s places ns)) (badPairs ns) (endOf (length places) (indexPart s places ns))
+      ≡ make (u .rate) (u .kind) (multiframesOf u) (frameCount (u .indices)) 0 1 =
+      ap₂ (λ (a b : ℕ). make a b (length places) (speechOf (length places) (indexPart s places ns)) (badPairs ns) (endOf (length places) (indexPart s places ns))) (rate-sent u) (kind-sent u)
+      ∙ ap₂ (λ (a b : ℕ). make (u .rate) (u .kind) a b (badPairs ns) (endOf (length places) (indexPart s places ns))) rows x
+      ∙ ap₂ (λ (a b : ℕ). make (u .rate) (u .kind) (multiframesOf u) (frameCount (u .indices)) a b) z y in
+      p
+
+  proof : reading s codebook thresholds index report
+      ≡ outcome (Read (spoken u)) (over index 0 (indexOctets * multiframesOf u) (padded u)) (over report 0 (reportOctets * multiframesOf u) (replicate (reportOctets * multiframesOf u) 0))
+  proof =
+      N.read-is u s codebook thresholds index report premises
+      ∙ ap₂ (λ (a : Summary) (i : List ℕ). outcome (Read a) i (over report 0 (reportOctets * length places) (reportPart s places ns (sentCommon u)))) answer-is
+      (ap₂ (λ (k : ℕ) (l : List ℕ). over index 0 (indexOctets * k) l) rows index-is)
+      ∙ ap (outcome (Read (spoken u)) (over index 0 (indexOctets * multiframesOf u) (padded u))) (ap₂ (λ (k : ℕ) (l : List ℕ). over report 0 (reportOctets * k) l) rows report-is)
+
+-- ---- the theorem, over what the writer leaves in an output
+module _ (u : Utterance) (codebook thresholds : List ℤ) (output index report : List ℕ) where
+  pub record Premises : Type 0 where
+    -- "with 01's tables and room"
+    pub output-room : needed (u .indices) ≤ length output
+    pub lent : Lent (multiframesOf u) codebook thresholds index report
+
+  abbrev pub written : W.Outcome
+  written = writing (u .rate) (u .kind) (u .indices) output
+
+  -- "reading the written image"
+  abbrev pub result : Outcome
+  result = reading (take (needed (u .indices)) (written .output)) codebook thresholds index report
+
+  pub record Back : Type 0 where
+    pub accepted : written .answer ≡ Written (needed (u .indices))
+    -- "succeeds with the same settings, m, speech equal to n, no bad pair, end 1"
+    pub succeeds : result .answer ≡ Read (spoken u)
+    -- "all notes 0"
+    pub notes : result .report ≡ over report 0 (reportOctets * multiframesOf u) (replicate (reportOctets * multiframesOf u) 0)
+    -- "and the index buffer holds the frames as written and zeros after them"
+    pub frames : result .index ≡ over index 0 (indexOctets * multiframesOf u) (padded u)
+
+  image-back : needed (u .indices) ≤ length output → take (needed (u .indices)) (written .output) ≡ imageOf u
+  image-back room =
+      let n = needed (u .indices) in
+      ap (λ (o : W.Outcome). take n (o .output)) (writes u output room)
+      ∙ take-at (imageOf u) (drop (0 + n) output) n (length-image (u .rate) (u .kind) (u .indices) (multiframesOf u))
+
+  back : Premises → Back
+  back p =
+      let e : result ≡ outcome (Read (spoken u)) (over index 0 (indexOctets * multiframesOf u) (padded u)) (over report 0 (reportOctets * multiframesOf u) (replicate (reportOctets * multiframesOf u) 0)) =
+      ap (λ (i : List ℕ). reading i codebook thresholds index report) (image-back (p .output-room)) ∙ proof u codebook thresholds index report (p .lent) in
+      record {
+        accepted = ap (λ (o : W.Outcome). o .answer) (writes u output (p .output-room));
+        succeeds = ap (λ (o : Outcome). o .answer) e;
+        notes = ap (λ (o : Outcome). o .report) e;
+        frames = ap (λ (o : Outcome). o .index) e;
+      }
+
+pub reads-back : (u : Utterance) (codebook thresholds : List ℤ) (output index report : List ℕ) → Premises u codebook thresholds output index report
+    → Back u codebook thresholds output index report
+reads-back = back
+
+-- the same of the image itself, in one equation
+pub reads-image : (u : Utterance) (codebook thresholds : List ℤ) (index report : List ℕ) → Lent (multiframesOf u) codebook thresholds index report
+    → reading (imageOf u) codebook thresholds index report
+    ≡ outcome (Read (spoken u)) (over index 0 (indexOctets * multiframesOf u) (padded u)) (over report 0 (reportOctets * multiframesOf u) (replicate (reportOctets * multiframesOf u) 0))
+reads-image = proof

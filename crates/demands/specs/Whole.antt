@@ -1,0 +1,154 @@
+-- Octets of m whole multiframes and nothing else, as the reader meets them: where it finds each header word and each packet, and what it gives
+-- once the settings are settled, a pair is good and there is room.
+-- Assumes nothing.
+use mathlib.Core.Path.{_≡_, refl, sym, ap, ap₂, _∙_, subst}
+use mathlib.Core.Bool.{Bool, true, false}
+use lib.Dec.{eqb}
+use borrow.Author.Tests.{eqb-true}
+use Rattle.lists.specs.Tests.{when, true-false}
+use Rattle.replacing.specs.Replacing.{source, pairsOctets, replaced}
+use Rattle.replacing.specs.Laws.{good-stays, replaced-length, replaced-at}
+use Rattle.replacing.specs.Speech.{allZero}
+use mathlib.Core.List.{List, [], _∷_}
+use Prim.Native.Nat.{ℕ, zero, suc, _+_, _*_, _/_, _%_, _≤_, _<_}
+use native.Mathlib.Omega.{arith}
+use lib.IntN.{ℤ}
+use lib.ListN.{length, drop, getD, List·getD-append}
+use lib.Seq.{ext-getD, getD-take, getD-drop}
+use Rattle.lists.specs.Parts.{part, over, part-left}
+use Rattle.lists.specs.Rows.{each, same-each}
+use Rattle.layout.specs.Layout.{multiframePairs, multiframeOctets, syncOctets, headerOctets, streamOctets, mostMultiframes, indexOctets, reportOctets, codebookNumbers, thresholdNumbers, pairOf, multiframeOf, firstPair}
+use Rattle.bits.specs.Bits.{bits}
+use Rattle.cutting.specs.Cutting.{Cutting, whole, cutting, syncFirst, syncSecond}
+use Rattle.cutting.specs.Laws.{every, every-length, every-at, whole-image}
+use Rattle.header.specs.Reading as H
+use Rattle.header.specs.declared.Header.the-variants.{Lost}
+use Rattle.settling.specs.Settling.{headerWord, readings, settling, headerNote}
+use Rattle.pairs.specs.Pairs.{streamAt, packetAt, pairCount, pairNotes}
+use Rattle.judging.specs.Judging.{badPairs}
+use Rattle.reader.specs.Reading.{indexPart, reportPart, summary, finished, outcome, reading}
+use Rattle.reader.specs.ReadingLaws.{Fitting, Accepted, accepting, length-report, report-at}
+use Rattle.reader.specs.declared.Verdict.{Verdict}
+use Rattle.reader.specs.declared.Answer.the-variants.{Read}
+use Rattle.writer.specs.Made.{syncIn, wordIn, packetIn, streamIn}
+
+-- the places of m multiframes, one behind the other
+abbrev pub rowOf : ℕ → List ℕ
+rowOf m = every 0 m
+
+-- what 01's tables and room are: any codebook of 1,280 numbers and any 14 thresholds; 168m index octets and 13m report octets
+pub record Lent (m : ℕ) (codebook thresholds : List ℤ) (index report : List ℕ) : Type 0 where
+  pub codebook-size : length codebook ≡ codebookNumbers
+  pub thresholds-size : length thresholds ≡ thresholdNumbers
+  pub index-room : indexOctets * m ≤ length index
+  pub report-room : reportOctets * m ≤ length report
+
+module _ (s : List ℕ) (m : ℕ) (k : ℕ) (h : k < m) where
+  place-at : getD (rowOf m) k 0 ≡ multiframeOctets * k
+  place-at = every-at 0 m k h ∙ omega arith
+
+  pub word-at : headerWord s (getD (rowOf m) k 0) ≡ wordIn s k
+  word-at = ap (headerWord s) place-at
+
+  pub stream-at : streamAt s (rowOf m) k ≡ streamIn s k
+  stream-at = ap (λ (p : ℕ). part (p + syncOctets + headerOctets) streamOctets s) place-at
+
+pub packet-at : (s : List ℕ) (m q : ℕ) → q < multiframePairs * m → packetAt s (rowOf m) q ≡ packetIn s q
+packet-at s m q h = ap (λ (l : List ℕ). part (92 * (q % 12)) 92 (bits l)) (stream-at s m (q / 12) (omega arith))
+
+pub readings-are : (s : List ℕ) (m : ℕ) → readings s (rowOf m) ≡ each (λ k. H.reading (wordIn s k)) m
+unfolding readings
+readings-are s m =
+    ap (each (λ k. H.reading (headerWord s (getD (rowOf m) k 0)))) (every-length 0 m)
+    ∙ same-each (λ k. H.reading (headerWord s (getD (rowOf m) k 0))) (λ k. H.reading (wordIn s k)) m (λ k h. ap H.reading (word-at s m k h))
+
+module _ (s : List ℕ) (m : ℕ) (few : m ≤ mostMultiframes) (size : length s ≡ multiframeOctets * m)
+    (syncs : (k : ℕ) → k < m → syncIn s k ≡ syncFirst ∷ syncSecond ∷ []) where
+  in-sync : (k i : ℕ) → k < m → i < 2 → getD s (multiframeOctets * k + i) 0 ≡ getD (syncFirst ∷ syncSecond ∷ []) i 0
+  in-sync k i h l =
+      sym (getD-take 2 (drop (144 * k) s) i 0 l ∙ getD-drop (144 * k) s i 0) ∙ ap (λ (x : List ℕ). getD x i 0) (syncs k h)
+
+  -- it is cut there
+  pub cut-is : cutting s ≡ record { places = rowOf m; ending = whole }
+  cut-is =
+      whole-image s m few size (λ k h.
+      let z : 144 * k ≡ 144 * k + 0 = omega arith in
+      (ap (λ (i : ℕ). getD s i 0) z ∙ in-sync k 0 h (omega arith), in-sync k 1 h (omega arith)))
+
+  -- and read
+  pub reads-as : (codebook thresholds : List ℤ) (index report : List ℕ) (c : ℕ) → 0 < m → Lent m codebook thresholds index report
+      → Fitting (length (rowOf m)) (badPairs (pairNotes s (rowOf m) codebook thresholds)) (pairCount (rowOf m)) (length index) (length report) (settling (readings s (rowOf m))) c
+      → reading s codebook thresholds index report
+      ≡ outcome (Read (summary s (rowOf m) (pairNotes s (rowOf m) codebook thresholds) c))
+      (over index 0 (indexOctets * length (rowOf m)) (indexPart s (rowOf m) (pairNotes s (rowOf m) codebook thresholds)))
+      (over report 0 (reportOctets * length (rowOf m)) (reportPart s (rowOf m) (pairNotes s (rowOf m) codebook thresholds) c))
+  unfolding reading
+  reads-as codebook thresholds index report c some lent fit =
+      let pl : cutting s .places ≡ rowOf m = ap (λ (w : Cutting). w .places) cut-is in
+      let a : Accepted s codebook thresholds (length index) (length report) c =
+      record {
+        codebook-size = lent .codebook-size;
+        thresholds-size = lent .thresholds-size;
+        uncut = ap (λ (w : Cutting). w .ending) cut-is;
+        some = λ e. omega (arith, ap length pl, every-length 0 m);
+        fitting = subst
+            (λ (ps : List ℕ). Fitting (length ps) (badPairs (pairNotes s ps codebook thresholds)) (pairCount ps) (length index) (length report) (settling (readings s ps)) c)
+            (sym pl) fit;
+      } in
+      ap₂ (λ (ps : List ℕ) (v : Verdict). finished s codebook thresholds index report ps v) pl
+      (accepting s codebook thresholds (length index) (length report) c a)
+
+-- ---- the report: 13 octets a multiframe, its header note and then its twelve pair notes
+abbrev pub headerNoteIn : List ℕ → ℕ → ℕ
+headerNoteIn report k = getD report (reportOctets * k) 0
+
+abbrev pub pairNoteIn : List ℕ → ℕ → ℕ
+pairNoteIn report q = getD report (reportOctets * multiframeOf q + 1 + q % multiframePairs) 0
+
+-- what is laid over a buffer's front stands there
+pub front-at : (l f : List ℕ) (w i : ℕ) → i < length f → getD (over l 0 w f) i 0 ≡ getD f i 0
+front-at l f w i h = List·getD-append f (drop (0 + w) l) 0 i h
+
+pub front-part : (l f : List ℕ) (w a v : ℕ) → a + v ≤ length f → part a v (over l 0 w f) ≡ part a v f
+front-part l f w a v h = part-left f (drop (0 + w) l) a v h
+
+module _ (s places ns report : List ℕ) (c w : ℕ) (notes-size : length ns ≡ pairCount places) where
+  report-octet : (k j : ℕ) → k < length places → j < reportOctets
+      → getD (over report 0 w (reportPart s places ns c)) (reportOctets * k + j) 0 ≡ getD (headerNote c k (getD (readings s places) k Lost) ∷ part (firstPair k) multiframePairs ns) j 0
+  report-octet k j h l =
+      let r = reportPart s places ns c in
+      front-at report r w (13 * k + j) (omega (arith, length-report s places ns c notes-size))
+      ∙ sym (getD-take 13 (drop (13 * k) r) j 0 l ∙ getD-drop (13 * k) r j 0) ∙ ap (λ (x : List ℕ). getD x j 0) (report-at s places ns c k notes-size h)
+
+  pub header-note-is : (k : ℕ) → k < length places → headerNoteIn (over report 0 w (reportPart s places ns c)) k ≡ headerNote c k (getD (readings s places) k Lost)
+  header-note-is k h =
+      let z : 13 * k ≡ 13 * k + 0 = omega arith in
+      ap (λ (i : ℕ). getD (over report 0 w (reportPart s places ns c)) i 0) z ∙ report-octet k 0 h (omega arith)
+
+  pub pair-note-is : (q : ℕ) → q < pairCount places → pairNoteIn (over report 0 w (reportPart s places ns c)) q ≡ getD ns q 0
+  pair-note-is q h =
+      let k = q / 12 in
+      let j = q % 12 in
+      let z : 13 * k + 1 + j ≡ 13 * k + suc j = omega arith in
+      let e : 12 * k + j ≡ q = omega arith in
+      ap (λ (i : ℕ). getD (over report 0 w (reportPart s places ns c)) i 0) z ∙ report-octet k (suc j) (omega arith) (omega arith)
+      ∙ getD-take 12 (drop (12 * k) ns) j 0 (omega arith) ∙ getD-drop (12 * k) ns j 0 ∙ ap (λ (i : ℕ). getD ns i 0) e
+
+-- ---- no bad pair: nothing is replaced
+pub nothing-replaced : (ns l : List ℕ) → ((q : ℕ) → q < length ns → getD ns q 0 ≡ 0) → length l ≡ pairsOctets (length ns) → replaced ns l ≡ l
+nothing-replaced ns l good size =
+    let lr = replaced-length ns l in
+    ext-getD 0 (replaced ns l) l (lr ∙ sym size) (λ t h.
+    let e : source ns (t / 7) ≡ t / 7 = good-stays ns (t / 7) (good (pairOf (t / 7)) (omega (arith, lr))) in
+    let z : 7 * (t / 7) + t % 7 ≡ t = omega arith in
+    replaced-at ns l t (omega (arith, lr)) ∙ ap (λ (k : ℕ). getD l (7 * k + t % 7) 0) e ∙ ap (λ (k : ℕ). getD l k 0) z)
+
+-- a zero frame is zero at each index
+pub all-zero-at : (l : List ℕ) (j : ℕ) → allZero l ≡ true → getD l j 0 ≡ 0
+all-zero-at [] j e = refl
+all-zero-at (x ∷ l) j e = by (eqb x 0) refl e j (λ i z. all-zero-at l i z)
+  where
+    by : (t : Bool) → eqb x 0 ≡ t → when t (allZero l) false ≡ true → (j : ℕ) → ((i : ℕ) → allZero l ≡ true → getD l i 0 ≡ 0) → getD (x ∷ l) j 0 ≡ 0
+    by true z e zero f = eqb-true x 0 z
+    by true z e (suc j) f = f j e
+    by false z e j f = absurd (true-false (sym e))
