@@ -1,0 +1,43 @@
+// Writing and reading back in one call, for whoever checks a terminal before it leaves: the theorem "reads back" at work.
+use reader::Summary;
+ghost use mathlib.Core.Path.{_≡_};
+ghost use Prim.Native.Nat.{ℕ};
+ghost use lib.ListN.{length};
+ghost use Rattle.writer.specs.Writing.{multiframesFor, frameCount, verdict};
+ghost use Rattle.writer.specs.declared.Answer.the-variants.{Written};
+ghost use Rattle.demands.specs.Whole.{Lent};
+ghost use Rattle.roundtrip.specs.declared.Trip.the-variants.{Back};
+ghost use Rattle.roundtrip.specs.Trip.{made, trip, whole};
+
+// What became of an utterance: refused by the writer, refused by the reader, or back with the reader's summary.
+pub enum Trip {
+    NotWritten(writer::Refusal),
+    NotRead(reader::Refusal),
+    Back(Summary),
+}
+
+// write_and_read writes an utterance into the front of out and reads the octets written back into index and report. Whatever the writer
+// accepts comes back whole, with the same settings, if the tables are 01's and there is room.
+pub fn write_and_read(
+    rate: u8,
+    kind: u8,
+    indices: &[u8],
+    codebook: &[i32],
+    thresholds: &[i32],
+    out: &mut [u8],
+    index: &mut [u8],
+    report: &mut [u8],
+) -> Trip
+    ensures all { λ r. ⌜ made r (now (out .exit)) (now (index .exit)) (now (report .exit)) ≡ trip rate kind (now (indices .entry)) (now (codebook .entry)) (now (thresholds .entry)) (now (out .entry)) (now (index .entry)) (now (report .entry)) ⌝ }
+    ensures back { λ r. ⌜ ((n : ℕ) → verdict rate kind (now (indices .entry)) (length (now (out .entry))) ≡ Written n → Lent (multiframesFor (frameCount (now (indices .entry)))) (now (codebook .entry)) (now (thresholds .entry)) (now (index .entry)) (now (report .entry)) → r ≡ Back (whole rate kind (now (indices .entry)))) ⌝ }
+{
+    match writer::write(rate, kind, indices, out) {
+        writer::Answer::Written { octets } => {
+            match reader::read(&out[..octets], codebook, thresholds, index, report) {
+                reader::Answer::Read(s) => Trip::Back(s),
+                reader::Answer::Refused(r) => Trip::NotRead(r),
+            }
+        }
+        writer::Answer::Refused(r) => Trip::NotWritten(r),
+    }
+}
