@@ -6,3 +6,5 @@ pub mod Whole
 pub mod Received
 pub mod NamesTheDamage
 pub mod ReadsBack
+pub mod Noteless
+pub mod WritesAgain
