@@ -8,3 +8,4 @@ pub mod NamesTheDamage
 pub mod ReadsBack
 pub mod Noteless
 pub mod WritesAgain
+pub mod Met

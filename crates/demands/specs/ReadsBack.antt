@@ -67,7 +67,7 @@ zero-rows w zero = ap (λ (n : ℕ). replicate n 0) (sym (mul-zero w))
 zero-rows w (suc m) =
     ap (λ (l : List ℕ). l ++ replicate w 0) (zero-rows w m) ∙ replicate-append-replicate (w * m) w 0 ∙ ap (λ (n : ℕ). replicate n 0) (sym (mul-suc w m))
 
-no-more : (k i : ℕ) → getD {A = ℕ} (replicate k 0) i 0 ≡ 0
+pub no-more : (k i : ℕ) → getD {A = ℕ} (replicate k 0) i 0 ≡ 0
 no-more zero i = refl
 no-more (suc k) zero = refl
 no-more (suc k) (suc i) = no-more k i
