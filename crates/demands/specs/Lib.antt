@@ -9,3 +9,4 @@ pub mod ReadsBack
 pub mod Noteless
 pub mod WritesAgain
 pub mod Met
+pub mod Needed
