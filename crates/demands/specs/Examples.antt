@@ -1,8 +1,9 @@
 -- The worked examples of 01, "Examples at the edges", that are marked (P): one table, one line each, proved together.
--- The header code is shut here: its examples come from its own laws.
+-- The header code is shut here: its examples come from its own laws. Those of the CRC and of replacing stand beside their definitions.
 -- Assumes nothing.
 use mathlib.Core.Path.{_≡_, refl, ap, _∙_}
-use mathlib.Core.List.{List, [], _∷_}
+use mathlib.Core.Bool.{Bool, true, false, xor}
+use mathlib.Core.List.{List, [], _∷_, _++_}
 use Prim.Native.Nat.{ℕ}
 use lib.Count.{ones}
 use Rattle.header_code.specs.Code.{codeword, flipsTo}
@@ -13,6 +14,13 @@ use Rattle.header.specs.Reading.{reading}
 use Rattle.header.specs.Reading.Laws.{lost-at-three}
 use Rattle.header.specs.declared.Header.the-variants.{Codeword, Lost}
 use lib.Dec.{lit<}
+use lib.ListN.{length, replicate}
+use Rattle.layout.specs.Layout.{widths, dataBits, packetBits}
+use Rattle.bits.specs.Bits.{field, laid}
+use Rattle.crc.specs.Crc.{rem, crc, after, Right, flip}
+use Rattle.packet.specs.Packet.{frame, guarded, packet}
+use Rattle.packet.specs.Examples.{oneFrame, zeroFrame, crc-is-x, bit-90, flips-0-15, flips-0-14}
+use Rattle.replacing.specs.Examples.{standIns, one-bad, two-bad}
 
 -- the header of 8 kHz, type 0 and this count, in sending order
 abbrev pub header8 : ℕ → List ℕ
@@ -21,6 +29,10 @@ header8 count = octets (codeword (message 0 0 count 0))
 -- 01 00 01 01 as a word
 abbrev pub halfway : ℕ
 halfway = 0x01010001
+
+-- 16 is bit 4 of the first index
+abbrev pub sixteenFrame : List ℕ
+sixteenFrame = 16 ∷ 0 ∷ 0 ∷ 0 ∷ 0 ∷ 0 ∷ 0 ∷ []
 
 pub record Table : Type 0 where
   -- "Header 8 kHz, type 0, count 1: 08 00 0E EE. Count 2: 10 00 1D 0D. Count 3: 18 00 13 E3."
@@ -37,6 +49,23 @@ pub record Table : Type 0 where
   pub halfway-lost : reading halfway ≡ Lost
   -- "EXP9 alone: 00 80 80 E8."
   pub exp-9-alone : octets (codeword (message 0 0 0 256)) ≡ 0x00 ∷ 0x80 ∷ 0x80 ∷ 0xE8 ∷ []
+  -- "Frame 1,0,0,0,0,0,0 with a zero frame: the CRC is the single term X, stream bit 90."
+  pub single-term : crc (frame widths oneFrame ++ frame widths zeroFrame) ≡ rem false false true false
+  pub stream-bit-90 : packet widths oneFrame zeroFrame ≡ true ∷ (replicate 89 false ++ (true ∷ false ∷ []))
+  -- not of 01: the frame 16,0,0,0,0,0,0 with a zero frame sets packet bits 4, 88, 89, 90 and 91 and no other. The examples above hold for the
+  -- reciprocal generator 1 + X^3 + X^4 too; this one does not
+  pub not-reciprocal : packet widths sixteenFrame zeroFrame ≡ replicate 4 false ++ (true ∷ (replicate 83 false ++ replicate 4 true))
+  -- "Flipping packet bits 0 and 15 leaves the CRC right; 0 and 14 does not."
+  pub bits-0-and-15 : (p : List Bool) → length p ≡ packetBits → Right dataBits p → Right dataBits (flip (flip p 0) 15)
+  pub bits-0-and-14 : (p : List Bool) → length p ≡ packetBits → Right dataBits p → Right dataBits (flip (flip p 0) 14) → ⊥
+  -- "One bad pair, frames 3 and 4: 3 becomes 2, 4 becomes 5."
+  pub one-bad-pair : standIns (0 ∷ 1 ∷ 0 ∷ []) (3 ∷ 4 ∷ []) ≡ 2 ∷ 5 ∷ []
+  -- "Two, frames 3 to 6: 3 and 4 become 2, 5 and 6 become 7."
+  pub two-bad-pairs : standIns (0 ∷ 1 ∷ 2 ∷ 0 ∷ []) (3 ∷ 4 ∷ 5 ∷ 6 ∷ []) ≡ 2 ∷ 2 ∷ 7 ∷ 7 ∷ []
+
+sixteen : packet widths sixteenFrame zeroFrame ≡ replicate 4 false ++ (true ∷ (replicate 83 false ++ replicate 4 true))
+unfolding packet guarded crc after laid field xor
+sixteen = refl
 
 pub table : Table
 -- nothing of the header code unfolds here
@@ -52,4 +81,11 @@ table =
       three-from-nothing = ap (flipsTo halfway) message-nothing ∙ three-from-zero;
       halfway-lost = lost-at-three halfway 0 (lit< tt) three-from-zero;
       exp-9-alone = ap (λ (m : ℕ). octets (codeword m)) message-exp-9 ∙ exp-9;
+      single-term = crc-is-x;
+      stream-bit-90 = bit-90;
+      not-reciprocal = sixteen;
+      bits-0-and-15 = flips-0-15;
+      bits-0-and-14 = flips-0-14;
+      one-bad-pair = one-bad;
+      two-bad-pairs = two-bad;
     }

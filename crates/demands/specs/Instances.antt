@@ -130,7 +130,7 @@ same-packet : from1 ≡ from2
 same-packet = ap (λ (p : List Bool). flip (flip p 0) 1) sent1 ∙ sym (ap (λ (p : List Bool). flip (flip p 90) 91) sent2)
 
 -- past its frames every utterance has the same packets
-past-packet : (idx other : List ℕ) (q : ℕ) → length idx ≤ frameIndices * firstFrame q → length other ≤ frameIndices * firstFrame q → packetOf idx q ≡ packetOf other q
+pub past-packet : (idx other : List ℕ) (q : ℕ) → length idx ≤ frameIndices * firstFrame q → length other ≤ frameIndices * firstFrame q → packetOf idx q ≡ packetOf other q
 unfolding packetOf
 past-packet idx other q h k =
     ap₂ (packet widths) (row-past idx (7 * (2 * q)) 7 h ∙ sym (row-past other (7 * (2 * q)) 7 k))

@@ -6,3 +6,7 @@ pub mod Whole
 pub mod Received
 pub mod NamesTheDamage
 pub mod ReadsBack
+pub mod Noteless
+pub mod WritesAgain
+pub mod Met
+pub mod Needed

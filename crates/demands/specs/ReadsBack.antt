@@ -17,10 +17,10 @@ use lib.IntN.{ℤ}
 use lib.ListN.{length, take, drop, getD, replicate, length-replicate, getD-replicate, length-append, replicate-append-replicate, List·getD-append, List·getD-eq-default}
 use lib.Seq.{take-at, ext-getD, getD-take, getD-drop, getD-append-add}
 use borrow.Author.Tests.{eq-eqb, eqb-true}
-use Rattle.lists.specs.Tests.{when, true-false, not-false}
+use Rattle.lists.specs.Tests.{true-false, not-false}
 use Rattle.lists.specs.Parts.{part, over, length-part}
 use Rattle.lists.specs.Rows.{joined, same-joined}
-use Rattle.layout.specs.Layout.{frameIndices, multiframeFrames, multiframePairs, indexOctets, reportOctets, firstPair, pairOf}
+use Rattle.layout.specs.Layout.{frameIndices, multiframeFrames, multiframePairs, indexOctets, reportOctets, firstPair}
 use Rattle.packet.specs.Packet.{frameAt}
 use Rattle.packet.specs.Laws.{getD-row}
 use Rattle.cutting.specs.Laws.{every-length}
@@ -30,8 +30,7 @@ use Rattle.settling.specs.Settling.{readings, headerNote}
 use Rattle.pairs.specs.Pairs.{pairCount, allFrames, pairNotes}
 use Rattle.pairs.specs.Laws.{length-notes, length-all}
 use Rattle.judging.specs.Judging.{bad, badPairs}
-use Rattle.replacing.specs.Replacing.{replaced, source}
-use Rattle.replacing.specs.Laws.{good-stays, replaced-length, replaced-at}
+use Rattle.replacing.specs.Replacing.{replaced}
 use Rattle.replacing.specs.Speech.{allZero, zeroFrame, lastNonzero, speechOf, endOf, place-le, zero-behind, nonzero-at}
 use Rattle.reader.specs.Reading.{indexPart, reportPart, summary, Outcome, outcome, reading}
 use Rattle.reader.specs.declared.Summary.{Summary}
@@ -68,7 +67,7 @@ zero-rows w zero = ap (λ (n : ℕ). replicate n 0) (sym (mul-zero w))
 zero-rows w (suc m) =
     ap (λ (l : List ℕ). l ++ replicate w 0) (zero-rows w m) ∙ replicate-append-replicate (w * m) w 0 ∙ ap (λ (n : ℕ). replicate n 0) (sym (mul-suc w m))
 
-no-more : (k i : ℕ) → getD {A = ℕ} (replicate k 0) i 0 ≡ 0
+pub no-more : (k i : ℕ) → getD {A = ℕ} (replicate k 0) i 0 ≡ 0
 no-more zero i = refl
 no-more (suc k) zero = refl
 no-more (suc k) (suc i) = no-more k i

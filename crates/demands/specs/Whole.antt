@@ -4,7 +4,7 @@
 use mathlib.Core.Path.{_≡_, refl, sym, ap, ap₂, _∙_, subst}
 use mathlib.Core.Bool.{Bool, true, false}
 use lib.Dec.{eqb}
-use borrow.Author.Tests.{eqb-true}
+use borrow.Author.Tests.{eq-eqb, ne-eqb, le-ltb, eqb-true}
 use Rattle.lists.specs.Tests.{when, true-false}
 use Rattle.replacing.specs.Replacing.{source, pairsOctets, replaced}
 use Rattle.replacing.specs.Laws.{good-stays, replaced-length, replaced-at}
@@ -23,13 +23,16 @@ use Rattle.cutting.specs.Cutting.{Cutting, whole, cutting, syncFirst, syncSecon
 use Rattle.cutting.specs.Laws.{every, every-length, every-at, whole-image}
 use Rattle.header.specs.Reading as H
 use Rattle.header.specs.declared.Header.the-variants.{Lost}
+use Rattle.header.specs.Message.{rateOf, expOf}
+use Rattle.settling.specs.declared.Settings.the-variants as S
 use Rattle.settling.specs.Settling.{headerWord, readings, settling, headerNote}
 use Rattle.pairs.specs.Pairs.{streamAt, packetAt, pairCount, pairNotes}
 use Rattle.judging.specs.Judging.{badPairs}
-use Rattle.reader.specs.Reading.{indexPart, reportPart, summary, finished, outcome, reading}
-use Rattle.reader.specs.ReadingLaws.{Fitting, Accepted, accepting, length-report, report-at}
+use Rattle.reader.specs.Reading.{indexPart, reportPart, summary, roomVerdict, settledVerdict, wholeVerdict, endVerdict, verdict, finished, outcome, reading}
+use Rattle.reader.specs.ReadingLaws.{Usable, Fitting, Accepted, accepting, length-report, report-at}
 use Rattle.reader.specs.declared.Verdict.{Verdict}
-use Rattle.reader.specs.declared.Answer.the-variants.{Read}
+use Rattle.reader.specs.declared.Refusal.the-variants.{Unsettled, AllBad}
+use Rattle.reader.specs.declared.Answer.the-variants.{Read, Refused}
 use Rattle.writer.specs.Made.{syncIn, wordIn, packetIn, streamIn}
 
 -- the places of m multiframes, one behind the other
@@ -152,3 +155,38 @@ all-zero-at (x ∷ l) j e = by (eqb x 0) refl e j (λ i z. all-zero-at l i z)
     by true z e zero f = eqb-true x 0 z
     by true z e (suc j) f = f j e
     by false z e j f = absurd (true-false (sym e))
+
+-- ---- refusals that damage can bring: 16 and 20
+module _ (s : List ℕ) (m : ℕ) (few : m ≤ mostMultiframes) (size : length s ≡ multiframeOctets * m) (syncs : (k : ℕ) → k < m → syncIn s k ≡ syncFirst ∷ syncSecond ∷ [])
+    (codebook thresholds : List ℤ) (index report : List ℕ) (some : 0 < m) (lent : Lent m codebook thresholds index report) where
+  -- past 11 to 15 the settings decide
+  settled-next : verdict s codebook thresholds (length index) (length report)
+      ≡ settledVerdict (length (rowOf m)) (badPairs (pairNotes s (rowOf m) codebook thresholds)) (pairCount (rowOf m)) (length index) (length report) (settling (readings s (rowOf m)))
+  unfolding verdict wholeVerdict
+  settled-next =
+      rw (eq-eqb (length codebook) codebookNumbers (lent .codebook-size), eq-eqb (length thresholds) thresholdNumbers (lent .thresholds-size))
+      (subst
+      (λ (w : Cutting). endVerdict s codebook thresholds (length index) (length report) (w .places) (w .ending)
+      ≡ settledVerdict (length (rowOf m)) (badPairs (pairNotes s (rowOf m) codebook thresholds)) (pairCount (rowOf m)) (length index) (length report) (settling (readings s (rowOf m))))
+      (sym (cut-is s m few size syncs)) (rw (ne-eqb (length (rowOf m)) 0 (λ e. omega (arith, every-length 0 m)))))
+
+  pub refuses-16 : settling (readings s (rowOf m)) ≡ S.Unsettled → reading s codebook thresholds index report ≡ outcome (Refused Unsettled) index report
+  unfolding reading settledVerdict
+  refuses-16 e = rw (settled-next, e)
+
+  pub refuses-20 : (c : ℕ) → settling (readings s (rowOf m)) ≡ S.Settled c → Usable c → badPairs (pairNotes s (rowOf m) codebook thresholds) ≡ pairCount (rowOf m)
+      → reading s codebook thresholds index report ≡ outcome (Refused AllBad) index report
+  unfolding reading settledVerdict roomVerdict
+  refuses-20 c e u b =
+      let k = every-length 0 m in
+      let i : indexOctets * length (rowOf m) ≤ length index = subst (λ (n : ℕ). indexOctets * n ≤ length index) (sym k) (lent .index-room) in
+      let r : reportOctets * length (rowOf m) ≤ length report = subst (λ (n : ℕ). reportOctets * n ≤ length report) (sym k) (lent .report-room) in
+      rw (
+        settled-next,
+        e,
+        ne-eqb (rateOf c) 2 (u .rate),
+        eq-eqb (expOf c) 0 (u .exp),
+        le-ltb (length index) (indexOctets * length (rowOf m)) i,
+        le-ltb (length report) (reportOctets * length (rowOf m)) r,
+        eq-eqb (badPairs (pairNotes s (rowOf m) codebook thresholds)) (pairCount (rowOf m)) b,
+      )

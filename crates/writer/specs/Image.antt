@@ -22,9 +22,11 @@ use Rattle.header_code.specs.Code.{codeword}
 use Rattle.header_code.specs.Code.Distance.{codeword-lt, codeword-low}
 use Rattle.header.specs.Message.{message, rateOf, typeOf}
 use Rattle.header.specs.Message.Laws.{message-lt, rate-back, type-back}
-use Rattle.writer.specs.Writing.{Search, at, nowhere, firstFrom, isFound, frameCount, isWide, isZero, endsEarly, multiframesFor, needed, verdict, multiframe, image, outcome, writing}
+use Rattle.writer.specs.Writing.{Search, at, nowhere, firstFrom, isFound, frameCount, isWide, isZero, endsEarly, multiframesFor, needed, verdict, multiframe, image, outcome, finished, writing}
 use Rattle.writer.specs.Laws.{first-at, first-nowhere, early-last, early-boundary, length-image, Accepted, accepted, accepts}
-use Rattle.writer.specs.declared.Answer.the-variants.{Written}
+use Rattle.writer.specs.declared.Answer.{Answer}
+use Rattle.writer.specs.declared.Refusal.{Refusal}
+use Rattle.writer.specs.declared.Answer.the-variants.{Written, Refused}
 use Rattle.writer.specs.Made.{syncIn, headerIn, wordIn, streamIn, packetIn, framed, made, Small, made-part, made-sync, made-header, made-word, made-stream, made-packet, small-made}
 
 -- ---- the image is so made
@@ -294,3 +296,19 @@ same-image u v e = (s .0, s .1, same-indices u v count packets)
     packets q h =
         sym (image-packet (u .rate) (u .kind) (u .indices) (multiframesOf u) q h) ∙ ap (λ (l : List ℕ). packetIn l q) e
         ∙ image-packet (v .rate) (v .kind) (v .indices) (multiframesOf v) q (omega (arith, count))
+
+-- ---- what success says: the octets needed, and the image over the output's front
+pub success : (rate type : ℕ) (idx out : List ℕ) (n : ℕ) → writing rate type idx out .answer ≡ Written n
+    → (n ≡ needed idx) × (writing rate type idx out .output ≡ over out 0 n (image rate type idx (multiframesFor (frameCount idx))))
+unfolding writing
+success rate type idx out n e = by (verdict rate type idx (length out)) refl e
+  where
+    by : (v : Answer) → verdict rate type idx (length out) ≡ v → finished rate type idx out v .answer ≡ Written n
+        → (n ≡ needed idx) × (finished rate type idx out (verdict rate type idx (length out)) .output ≡ over out 0 n (image rate type idx (multiframesFor (frameCount idx))))
+    by (Refused r) f e = absurd (other r e)
+      where
+        other : (r : Refusal) → Refused r ≡ Written n → ⊥
+        other r e = let z : _≡_ {A = ℕ} 0 1 = cc in omega arith
+    by (Written k) f e =
+        let g : verdict rate type idx (length out) ≡ Written n = f ∙ e in
+        (accepted rate type idx (length out) n g .octets-needed, ap (λ (v : Answer). finished rate type idx out v .output) g)

@@ -16,7 +16,7 @@ use Rattle.lists.specs.Rows.{joined, length-joined, joined-part, same-joined}
 use Rattle.layout.specs.Layout.{packetBits, multiframePairs, multiframeOctets, syncOctets, headerOctets, streamOctets, multiframeOf, packetStart}
 use Rattle.bits.specs.Bits.{value, bits, field, octets, Fits}
 use Rattle.bits.specs.Laws.{length-octets, length-field, value-field, field-value, length-bits, bits-octets, octets-bits, fits-numbers}
-use Rattle.writer.specs.Writing.{at, multiframe}
+use Rattle.writer.specs.Writing.{at}
 
 -- ---- multiframes one behind the other in octets: the sync and the header word of multiframe k, and the packet of pair q
 abbrev pub syncIn : List ℕ → ℕ → List ℕ

@@ -1,0 +1,242 @@
+-- The premises of the theorems are met: by every utterance where they can be, and by one of two multiframes where damage must leave a good pair.
+-- Assumes nothing.
+use mathlib.Core.Path.{_≡_, refl, sym, ap, ap₂, _∙_, subst}
+use mathlib.Core.Bool.{Bool, false}
+use mathlib.Core.List.{List, _++_, append-assoc}
+use mathlib.Core.Logic.{_⊎_, inl, inr, ⊎-elim}
+use Prim.Native.Nat.{ℕ, zero, suc, _+_, _-_, _*_, _/_, _%_, _≤_, _<_}
+use native.Mathlib.Nat.{le-of-eq}
+use native.Mathlib.Omega.{arith}
+use lib.Bits.{bitXor, xor-lt}
+use lib.Count.{ones, onesIn}
+use lib.Dec.{lit<}
+use lib.IntN.{ℤ, pos}
+use lib.ListN.{length, take, drop, getD, replicate, length-replicate, length-append}
+use lib.Seq.{take-at, drop-at, drop-append-add}
+use Rattle.gf2.specs.Light.{ones-in}
+use Rattle.lists.specs.Tests.{true-false}
+use Rattle.lists.specs.Parts.{part, over}
+use Rattle.layout.specs.Layout.{frameIndices, packetBits, streamOctets, indexOctets, reportOctets, codebookNumbers, thresholdNumbers, firstPair, packetStart}
+use Rattle.crc.specs.Crc.{flip, Damaged}
+use Rattle.crc.specs.Damage.{length-flip, flips-burst, flips-double}
+use Rattle.packet.specs.Packet.{frameAt, packetOf, stream}
+use Rattle.packet.specs.Laws.{length-packetOf, length-stream, stream-part}
+use Rattle.consistency.specs.Consistency.{at, risen, flagged, flags, inconsistent}
+use Rattle.header_code.specs.Code.{codeword, flipsTo}
+use Rattle.header_code.specs.Code.Distance.{codeword-lt}
+use Rattle.header.specs.Message.Laws.{message-lt}
+use Rattle.header.specs.Reading.Laws.{flips-of}
+use Rattle.reader.specs.Reading.{Outcome, reading}
+use Rattle.writer.specs.Writing.{verdict, roomAnswer, firstFrom, frameCount, needed, writing}
+use Rattle.writer.specs.Writing as W
+use Rattle.writer.specs.Laws.{length-image}
+use Rattle.writer.specs.Made.{Small, made, made-packet}
+use Rattle.writer.specs.Image.{image-small, image-packet, Utterance, multiframesOf, imageOf, whole-frames, writes}
+use Rattle.writer.specs.declared.Answer.the-variants.{Written}
+use Rattle.demands.specs.Damage.{Damage, damage-made, sentMessage}
+use Rattle.demands.specs.Whole.{Lent, front-at}
+use Rattle.demands.specs.Received.{BadPair}
+use Rattle.demands.specs.ReadsBack.{spoken, padded, no-more, reads-image}
+use Rattle.demands.specs.ReadsBack as R
+use Rattle.demands.specs.WritesAgain as A
+use Rattle.demands.specs.NamesTheDamage as N
+
+-- ---- tables of zeros, and just enough room
+abbrev pub zeroBook : List ℤ
+zeroBook = replicate codebookNumbers (pos 0)
+
+abbrev pub zeroThresholds : List ℤ
+zeroThresholds = replicate thresholdNumbers (pos 0)
+
+abbrev pub indexFor : ℕ → List ℕ
+indexFor m = replicate (indexOctets * m) 0
+
+abbrev pub reportFor : ℕ → List ℕ
+reportFor m = replicate (reportOctets * m) 0
+
+pub lent-zeros : (m : ℕ) → Lent m zeroBook zeroThresholds (indexFor m) (reportFor m)
+lent-zeros m = record {
+  codebook-size = length-replicate codebookNumbers (pos 0);
+  thresholds-size = length-replicate thresholdNumbers (pos 0);
+  index-room = le-of-eq (sym (length-replicate (indexOctets * m) 0));
+  report-room = le-of-eq (sym (length-replicate (reportOctets * m) 0));
+}
+
+-- with tables of zeros no pair is inconsistent
+zero-at : (n i : ℕ) → at (replicate n (pos 0)) i ≡ pos 0
+zero-at zero i = refl
+zero-at (suc n) zero = refl
+zero-at (suc n) (suc i) = zero-at n i
+
+module _ (f g : List ℕ) where
+  not-risen : (c i j e : ℕ) → risen zeroBook zeroThresholds c i j e ≡ false
+  not-risen c i j e = rw (zero-at 14 (2 * c + e), zero-at 1280 (128 * c + 2 * i + e), zero-at 1280 (128 * c + 2 * j + e))
+
+  not-flagged : (c i j : ℕ) → flagged zeroBook zeroThresholds c i j ≡ false
+  unfolding flagged
+  not-flagged c i j = rw (not-risen c i j 0, not-risen c i j 1)
+
+  no-flags : (c : ℕ) → flags zeroBook zeroThresholds f g c ≡ 0
+  unfolding flags
+  no-flags zero = refl
+  no-flags (suc c) = rw (not-flagged c (getD f c 0) (getD g c 0)) (no-flags c)
+
+  pub zero-consistent : inconsistent zeroBook zeroThresholds f g ≡ false
+  unfolding inconsistent
+  zero-consistent = rw (no-flags frameIndices)
+
+-- ---- READS BACK: every utterance meets its premises
+pub reads-back-met : (u : Utterance)
+    → R.Premises u zeroBook zeroThresholds (replicate (needed (u .indices)) 0) (indexFor (multiframesOf u)) (reportFor (multiframesOf u))
+reads-back-met u = record { output-room = le-of-eq (sym (length-replicate (needed (u .indices)) 0)); lent = lent-zeros (multiframesOf u) }
+
+-- ---- WRITES AGAIN: every written image meets its premises
+module _ (u : Utterance) where
+  abbrev m : ℕ
+  m = multiframesOf u
+
+  abbrev output : List ℕ
+  output = replicate (needed (u .indices)) 0
+
+  abbrev image-read : Outcome
+  image-read = reading (imageOf u) zeroBook zeroThresholds (indexFor m) (reportFor m)
+
+  index-is : image-read .index ≡ over (indexFor m) 0 (indexOctets * m) (padded u)
+  index-is = ap (λ (o : Outcome). o .index) (reads-image u zeroBook zeroThresholds (indexFor m) (reportFor m) (lent-zeros m))
+
+  report-is : image-read .report ≡ over (reportFor m) 0 (reportOctets * m) (replicate (reportOctets * m) 0)
+  report-is = ap (λ (o : Outcome). o .report) (reads-image u zeroBook zeroThresholds (indexFor m) (reportFor m) (lent-zeros m))
+
+  -- the first n frames of the index buffer are those that were written
+  frames-are : take (frameIndices * frameCount (u .indices)) (image-read .index) ≡ u .indices
+  frames-are =
+      let z : List ℕ = replicate (indexOctets * m - length (u .indices)) 0 in
+      let r = drop (0 + indexOctets * m) (indexFor m) in
+      ap (take (7 * frameCount (u .indices))) (index-is ∙ append-assoc (u .indices) z r)
+      ∙ take-at (u .indices) (z ++ r) (7 * frameCount (u .indices)) (whole-frames u)
+
+  pub writes-again-met : A.Premises (imageOf u) zeroBook zeroThresholds (indexFor m) (reportFor m) output (spoken u)
+  writes-again-met = record {
+    small = image-small (u .rate) (u .kind) (u .indices) m;
+    succeeds = ap (λ (o : Outcome). o .answer) (reads-image u zeroBook zeroThresholds (indexFor m) (reportFor m) (lent-zeros m));
+    notes-0 = λ i h.
+        ap (λ (l : List ℕ). getD l i 0) report-is
+        ∙ front-at (reportFor m) (replicate (reportOctets * m) 0) (reportOctets * m) i (subst (λ (k : ℕ). i < k) (sym (length-replicate (reportOctets * m) 0)) h) ∙ no-more (reportOctets * m) i;
+    ended = refl;
+    no-inverses = length-image (u .rate) (u .kind) (u .indices) m;
+    octets = needed (u .indices);
+    accepts = ap (λ (l : List ℕ). writing (u .rate) (u .kind) l output .answer) frames-are
+        ∙ ap (λ (o : W.Outcome). o .answer) (writes u output (le-of-eq (sym (length-replicate (needed (u .indices)) 0))));
+  }
+
+-- ---- damage to any utterance: two flips in every header, a burst in the first packet of every multiframe, and two flips at distance 14 in
+-- the second
+module _ (u : Utterance) where
+  abbrev pub burstAt : ℕ → List Bool
+  burstAt k = flip (flip (packetOf (u .indices) (firstPair k)) 0) 2
+
+  abbrev pub doubleAt : ℕ → List Bool
+  doubleAt k = flip (flip (packetOf (u .indices) (firstPair k + 1)) 0) 14
+
+  abbrev pub hurtWord : ℕ → ℕ
+  hurtWord k = bitXor (codeword (sentMessage u k)) 3
+
+  abbrev pub hurtStream : ℕ → List Bool
+  hurtStream k = burstAt k ++ (doubleAt k ++ stream (u .indices) (firstPair k + 2) 10)
+
+  abbrev pub hurtImage : List ℕ
+  hurtImage = made hurtWord hurtStream (multiframesOf u)
+
+  length-flips : (q i j : ℕ) → length (flip (flip (packetOf (u .indices) q) i) j) ≡ packetBits
+  length-flips q i j =
+      length-flip (flip (packetOf (u .indices) q) i) j ∙ length-flip (packetOf (u .indices) q) i ∙ length-packetOf (u .indices) q
+
+  length-hurt : (k : ℕ) → length (hurtStream k) ≡ 8 * streamOctets
+  length-hurt k =
+      length-append (burstAt k) (doubleAt k ++ stream (u .indices) (firstPair k + 2) 10)
+      ∙ ap₂ _+_ (length-flips (firstPair k) 0 2)
+      (length-append (doubleAt k) (stream (u .indices) (firstPair k + 2) 10) ∙ ap₂ _+_ (length-flips (firstPair k + 1) 0 14) (length-stream (u .indices) (firstPair k + 2) 10))
+
+  -- packet r of multiframe k: the first two are damaged, the others are as they were sent
+  part-0 : (k : ℕ) → part 0 packetBits (hurtStream k) ≡ burstAt k
+  part-0 k = take-at (burstAt k) (doubleAt k ++ stream (u .indices) (firstPair k + 2) 10) packetBits (length-flips (firstPair k) 0 2)
+
+  part-1 : (k : ℕ) → part packetBits packetBits (hurtStream k) ≡ doubleAt k
+  part-1 k =
+      ap (take packetBits) (drop-at (burstAt k) (doubleAt k ++ stream (u .indices) (firstPair k + 2) 10) packetBits (length-flips (firstPair k) 0 2))
+      ∙ take-at (doubleAt k) (stream (u .indices) (firstPair k + 2) 10) packetBits (length-flips (firstPair k + 1) 0 14)
+
+  part-on : (k j : ℕ) → j < 10 → part (packetBits * suc (suc j)) packetBits (hurtStream k) ≡ packetOf (u .indices) (firstPair k + suc (suc j))
+  part-on k j h =
+      let b = burstAt k in
+      let d = doubleAt k in
+      let r = stream (u .indices) (12 * k + 2) 10 in
+      let lb : length b ≡ 92 = length-flips (12 * k) 0 2 in
+      let ld : length d ≡ 92 = length-flips (12 * k + 1) 0 14 in
+      let x : 92 * suc (suc j) ≡ length b + (length d + 92 * j) = omega arith in
+      let y : 12 * k + 2 + j ≡ 12 * k + suc (suc j) = omega arith in
+      ap (λ (n : ℕ). take 92 (drop n (hurtStream k))) x ∙ ap (take 92) (drop-append-add b (d ++ r) (length d + 92 * j) ∙ drop-append-add d r (92 * j))
+      ∙ stream-part (u .indices) (12 * k + 2) 10 j h ∙ ap (packetOf (u .indices)) y
+
+  packet-of : (k r : ℕ) → r < 12
+      → (part (packetBits * r) packetBits (hurtStream k) ≡ packetOf (u .indices) (firstPair k + r)) ⊎ Damaged (packetOf (u .indices) (firstPair k + r)) (part (packetBits * r) packetBits (hurtStream k))
+  packet-of k zero h =
+      let z : 12 * k ≡ 12 * k + 0 = omega arith in
+      let d : Damaged (packetOf (u .indices) (12 * k)) (burstAt k) =
+      inl (flips-burst (packetOf (u .indices) (12 * k)) 0 2 (lit< tt) (lit< tt) (omega (arith, length-packetOf (u .indices) (12 * k)))) in
+      inr (subst (λ (q : ℕ). Damaged (packetOf (u .indices) q) (part 0 packetBits (hurtStream k))) z (subst (Damaged (packetOf (u .indices) (12 * k))) (sym (part-0 k)) d))
+  packet-of k (suc zero) h =
+      let d : Damaged (packetOf (u .indices) (12 * k + 1)) (doubleAt k) =
+      inr (flips-double (packetOf (u .indices) (12 * k + 1)) 0 14 (lit< tt) (omega (arith, length-packetOf (u .indices) (12 * k + 1))) (λ e. omega arith)) in
+      inr (subst (Damaged (packetOf (u .indices) (12 * k + 1))) (sym (part-1 k)) d)
+  packet-of k (suc (suc j)) h = inl (part-on k j (omega arith))
+
+  two-flips : (k : ℕ) → flipsTo (hurtWord k) (sentMessage u k) ≤ 2
+  unfolding onesIn
+  two-flips k = let e : ones 3 ≡ 2 = sym (ones-in 2 3 (lit< tt)) in le-of-eq (flips-of (sentMessage u k) 3 ∙ e)
+
+  pub hurts : Damage (multiframesOf u) (imageOf u) hurtImage
+  hurts =
+      damage-made u hurtWord hurtStream
+      record {
+        words = λ k h. xor-lt 32 (codeword (sentMessage u k)) 3 (codeword-lt (sentMessage u k) (message-lt (u .rate) (u .kind) (k + 1) 0)) (lit< tt);
+        near-words = λ k h. two-flips k;
+        sizes = λ k h. length-hurt k;
+        each = λ q h.
+            let e : 12 * (q / 12) + q % 12 ≡ q = omega arith in
+            subst
+            (λ (p : ℕ). (part (packetStart q) packetBits (hurtStream (q / 12)) ≡ packetOf (u .indices) p) ⊎ Damaged (packetOf (u .indices) p) (part (packetStart q) packetBits (hurtStream (q / 12))))
+            e (packet-of (q / 12) (q % 12) (omega arith));
+      }
+
+  -- with tables of zeros its third pair is good
+  third-good : BadPair u hurtImage zeroBook zeroThresholds 2 → ⊥
+  third-good b =
+      ⊎-elim
+      (λ t. t (made-packet hurtWord hurtStream (multiframesOf u) 2 (omega arith) (length-hurt 0) ∙ part-on 0 0 (omega arith)
+      ∙ sym (image-packet (u .rate) (u .kind) (u .indices) (multiframesOf u) 2 (omega arith))))
+      (λ r. true-false (sym (r .0) ∙ zero-consistent (frameAt (u .indices) 4) (frameAt (u .indices) 5))) b
+
+  -- ---- NAMES THE DAMAGE: every utterance of two multiframes or more meets its premises
+  pub names-met : 2 ≤ multiframesOf u → N.Premises u hurtImage zeroBook zeroThresholds (indexFor (multiframesOf u)) (reportFor (multiframesOf u))
+  names-met two = record { damage = hurts; headers = inl two; pair = 2; within = omega arith; not-bad = third-good; lent = lent-zeros (multiframesOf u) }
+
+-- ---- and there is one: 24 frames of ones, which take two multiframes
+small-ones : (n : ℕ) → Small (replicate n 1)
+small-ones zero i = lit< tt
+small-ones (suc n) zero = lit< tt
+small-ones (suc n) (suc i) = small-ones n i
+
+written-24 : verdict 0 0 (replicate 168 1) (needed (replicate 168 1)) ≡ Written (needed (replicate 168 1))
+unfolding verdict roomAnswer firstFrom
+written-24 = refl
+
+pub says24 : Utterance
+says24 = record { rate = 0; kind = 0; indices = replicate 168 1; small = small-ones 168; written = written-24 }
+
+pub two-multiframes : multiframesOf says24 ≡ 2
+unfolding says24
+two-multiframes = refl
+
+pub names-says24 : N.Premises says24 (hurtImage says24) zeroBook zeroThresholds (indexFor (multiframesOf says24)) (reportFor (multiframesOf says24))
+names-says24 = names-met says24 (le-of-eq (sym two-multiframes))

@@ -1,0 +1,270 @@
+-- WRITES AGAIN (demand 2). "For every image that is read without a note (all notes 0, end 1, no inverse sync) and whose reading the writer
+-- accepts: writing the settings and the first `speech` frames of the index buffer gives the same octets, all of them, and the same length."
+-- Assumes nothing.
+use mathlib.Core.Path.{_≡_, refl, sym, ap, ap₂, _∙_}
+use mathlib.Core.Bool.{Bool, true, false}
+use mathlib.Core.List.{List, [], _∷_}
+use Prim.Native.Nat.{ℕ, zero, suc, _+_, _*_, _/_, _%_, _≤_, _<_}
+use native.Mathlib.Omega.{arith}
+use lib.IntN.{ℤ}
+use lib.ListN.{length, take, drop, getD}
+use lib.Seq.{ext-getD, getD-take, getD-drop, take-append-le}
+use Rattle.lists.specs.Tests.{not-false}
+use Rattle.lists.specs.Parts.{over, length-part}
+use Rattle.lists.specs.Rows.{each, length-each, each-at}
+use Rattle.layout.specs.Layout.{widths, frameIndices, dataBits, packetBits, multiframeFrames, multiframePairs, multiframeOctets, indexOctets, reportOctets}
+use Rattle.bits.specs.Bits.{bits}
+use Rattle.bits.specs.Laws.{length-bits}
+use Rattle.crc.specs.Crc.{Right, right}
+use Rattle.crc.specs.Laws.{right-true}
+use Rattle.packet.specs.Packet.{apart, packetOf}
+use Rattle.header_code.specs.Code.{codeword}
+use Rattle.header.specs.Message.{message, rateOf, typeOf}
+use Rattle.header.specs.Reading as H
+use Rattle.header.specs.declared.Header.{Header}
+use Rattle.header.specs.declared.Header.the-variants.{Lost}
+use Rattle.cutting.specs.Cutting.{cutting, syncFirst, syncSecond}
+use Rattle.cutting.specs.Laws.{every-at, no-inverse, sound, place-stands}
+use Rattle.settling.specs.Settling.{readings, headerNote}
+use Rattle.pairs.specs.Pairs.{packetAt, pairCount, pairFails, framesOf, pairOdd, allFrames, pairNotes}
+use Rattle.pairs.specs.Laws.{length-notes, length-all, frames-at}
+use Rattle.judging.specs.Judging.{noteBy, notes}
+use Rattle.judging.specs.Laws.{badBefore, note-at, failed-is-1}
+use Rattle.replacing.specs.Speech.{speechOf, endOf}
+use Rattle.reader.specs.Reading.{indexPart, reportPart, summary, verdict, finished, Outcome, outcome, reading}
+use Rattle.reader.specs.ReadingLaws.{Accepted, accepted}
+use Rattle.reader.specs.declared.Summary.{Summary}
+use Rattle.reader.specs.declared.Refusal.{Refusal}
+use Rattle.reader.specs.declared.Verdict.{Verdict}
+use Rattle.reader.specs.declared.Verdict.the-variants.{Refuse, Accept}
+use Rattle.reader.specs.declared.Answer.{Answer}
+use Rattle.reader.specs.declared.Answer.the-variants.{Read, Refused}
+use Rattle.writer.specs.Writing.{frameCount, multiframesFor, image, writing}
+use Rattle.writer.specs.Writing as W
+use Rattle.writer.specs.declared.Answer.the-variants as Done
+use Rattle.writer.specs.Image.{success}
+use Rattle.writer.specs.Made.{Small, syncIn, wordIn, streamIn, packetIn}
+use Rattle.demands.specs.Whole.{rowOf, readings-are, packet-at, headerNoteIn, pairNoteIn, header-note-is, pair-note-is, nothing-replaced}
+use Rattle.demands.specs.Noteless.{clean-header, is-image, spoken, multiframes-spoken, speech-lt, packet-spoken}
+
+module _ (s : List ℕ) (codebook thresholds : List ℤ) (index report output : List ℕ) (given : Summary) where
+  abbrev pub result : Outcome
+  result = reading s codebook thresholds index report
+
+  -- "the settings and the first `speech` frames of the index buffer", written
+  abbrev pub again : W.Outcome
+  again = writing (given .rate) (given .kind) (take (frameIndices * given .speech) (result .index)) output
+
+  pub record Premises : Type 0 where
+    -- "every image": octets
+    pub small : Small s
+    -- "that is read"
+    pub succeeds : result .answer ≡ Read given
+    -- "without a note": "all notes 0",
+    pub notes-0 : (i : ℕ) → i < reportOctets * given .multiframes → getD (result .report) i 0 ≡ 0
+    -- "end 1",
+    pub ended : given .end ≡ 1
+    -- "no inverse sync": the octets are those of the multiframes
+    pub no-inverses : length s ≡ multiframeOctets * given .multiframes
+    -- "and whose reading the writer accepts"
+    pub octets : ℕ
+    pub accepts : again .answer ≡ Done.Written octets
+
+  pub record Again (p : Premises) : Type 0 where
+    -- "the same length"
+    pub same-length : p .octets ≡ length s
+    -- "the same octets, all of them"; what is lent beyond them stays
+    pub same-octets : again .output ≡ over output 0 (length s) s
+
+  -- ---- what was read
+  abbrev places : List ℕ
+  places = cutting s .places
+
+  abbrev ns : List ℕ
+  ns = pairNotes s places codebook thresholds
+
+  pub record WasRead : Type 0 where
+    pub common : ℕ
+    pub reader-accepts : Accepted s codebook thresholds (length index) (length report) common
+    pub result-is : result
+        ≡ outcome (Read (summary s places ns common)) (over index 0 (indexOctets * length places) (indexPart s places ns))
+        (over report 0 (reportOctets * length places) (reportPart s places ns common))
+    pub given-is : given ≡ summary s places ns common
+
+  -- the success answer of an answer
+  answered : Summary → Answer → Summary
+  answered d (Read a) = a
+  answered d (Refused r) = d
+
+  was-read : result .answer ≡ Read given → WasRead
+  unfolding reading answered
+  was-read e = by (verdict s codebook thresholds (length index) (length report)) refl e
+    where
+      by : (v : Verdict) → verdict s codebook thresholds (length index) (length report) ≡ v → finished s codebook thresholds index report places v .answer ≡ Read given → WasRead
+      by (Refuse r) f e = absurd (refused r e)
+        where
+          refused : (r : Refusal) → Refused r ≡ Read given → ⊥
+          refused r e = let z : _≡_ {A = ℕ} 0 1 = cc in omega arith
+      by (Accept c) f e =
+          record {
+            common = c;
+            reader-accepts = accepted s codebook thresholds (length index) (length report) c f;
+            result-is = ap (finished s codebook thresholds index report places) f;
+            given-is = sym (ap (answered given) e);
+          }
+
+  module _ (p : Premises) (w : WasRead) where
+    abbrev m : ℕ
+    m = length places
+
+    abbrev c : ℕ
+    c = w .common
+
+    abbrev all : List ℕ
+    all = allFrames s places
+
+    some : 0 < m
+    some = by m (w .reader-accepts .some)
+      where
+        by : (k : ℕ) → (k ≡ 0 → ⊥) → 0 < k
+        by k h = omega arith
+
+    count : given .multiframes ≡ m
+    count = ap (λ (g : Summary). g .multiframes) (w .given-is)
+
+    size : length s ≡ multiframeOctets * m
+    size = p .no-inverses ∙ ap (λ (k : ℕ). multiframeOctets * k) count
+
+    row : places ≡ rowOf m
+    row = no-inverse s size
+
+    place : (k : ℕ) → k < m → getD places k 0 ≡ multiframeOctets * k
+    place k h = ap (λ (l : List ℕ). getD l k 0) row ∙ every-at 0 m k h ∙ omega arith
+
+    -- its syncs
+    syncs : (k : ℕ) → k < m → syncIn s k ≡ 0x87 ∷ 0xB2 ∷ []
+    syncs k h =
+        let l : length (syncIn s k) ≡ 2 = length-part s (144 * k) 2 (omega (arith, size)) in
+        ext-getD 0 (syncIn s k) (0x87 ∷ 0xB2 ∷ []) l (λ i j. at i (omega (arith, l)))
+      where
+        x : (0 + multiframeOctets * k ≤ getD places k 0) × (getD places k 0 + multiframeOctets ≤ length s) × (getD s (getD places k 0) 0 ≡ syncFirst) × (getD s (getD places k 0 + 1) 0 ≡ syncSecond)
+        x = place-stands s 0 places (sound s .stand) k h
+
+        octet : (i : ℕ) → i < 2 → getD (syncIn s k) i 0 ≡ getD s (multiframeOctets * k + i) 0
+        octet i b = getD-take 2 (drop (144 * k) s) i 0 b ∙ getD-drop (144 * k) s i 0
+
+        at : (i : ℕ) → i < 2 → getD (syncIn s k) i 0 ≡ getD (0x87 ∷ 0xB2 ∷ []) i 0
+        at zero b =
+            let z : 144 * k + 0 ≡ 144 * k = omega arith in
+            octet 0 b ∙ ap (λ (j : ℕ). getD s j 0) (z ∙ sym (place k h)) ∙ x .2
+        at (suc zero) b = octet 1 b ∙ ap (λ (j : ℕ). getD s (j + 1) 0) (sym (place k h)) ∙ x .3
+        at (suc (suc i)) b = absurd (omega arith)
+
+    notes-size : length ns ≡ pairCount places
+    notes-size = length-notes s places codebook thresholds
+
+    -- its header words
+    headers : (k : ℕ) → k < m → wordIn s k ≡ codeword (message (rateOf c) (typeOf c) (k + 1) 0)
+    headers k h =
+        let r : getD (readings s places) k Lost ≡ H.reading (wordIn s k) =
+        ap (λ (l : List ℕ). getD (readings s l) k Lost) row ∙ ap (λ (l : List Header). getD l k Lost) (readings-are s m)
+        ∙ each-at (λ k. H.reading (wordIn s k)) m k Lost h in
+        let z : headerNote c k (getD (readings s places) k Lost) ≡ 0 =
+        sym (ap (λ (o : Outcome). headerNoteIn (o .report) k) (w .result-is) ∙ header-note-is s places ns report c (reportOctets * m) notes-size k h)
+        ∙ p .notes-0 (13 * k) (omega (arith, count)) in
+        clean-header c k (wordIn s k) (w .reader-accepts .fitting .usable .exp) (ap (headerNote c k) (sym r) ∙ z)
+
+    -- its pairs
+    good : (q : ℕ) → q < length ns → getD ns q 0 ≡ 0
+    good q h =
+        sym (ap (λ (o : Outcome). pairNoteIn (o .report) q) (w .result-is) ∙ pair-note-is s places ns report c (reportOctets * m) notes-size q (omega (arith, notes-size)))
+        ∙ p .notes-0 (13 * (q / 12) + 1 + q % 12) (omega (arith, count, notes-size))
+
+    pass : (q : ℕ) → q < multiframePairs * m → pairFails s places q ≡ false
+    unfolding pairNotes
+    pass q h = by (pairFails s places q) refl
+      where
+        fs : List Bool
+        fs = each (pairFails s places) (pairCount places)
+
+        os : List Bool
+        os = each (pairOdd s places codebook thresholds) (pairCount places)
+
+        by : (t : Bool) → pairFails s places q ≡ t → pairFails s places q ≡ false
+        by false e = e
+        by true e =
+            let lf : length fs ≡ pairCount places = length-each (pairFails s places) (pairCount places) in
+            let b = badBefore false (notes fs os) q in
+            let z : getD (notes fs os) q 0 ≡ 1 =
+            note-at false fs os q (omega (arith, lf))
+            ∙ ap (λ (x : Bool). noteBy b x (getD os q false) (getD fs (suc q) false)) (each-at (pairFails s places) (pairCount places) q false h ∙ e)
+            ∙ failed-is-1 b (getD os q false) (getD fs (suc q) false) in
+            let y : _≡_ {A = ℕ} 0 1 = sym (good q (omega (arith, notes-size))) ∙ z in
+            absurd (omega arith)
+
+    got : (q : ℕ) → q < multiframePairs * m → packetAt s places q ≡ packetIn s q
+    got q h = ap (λ (l : List ℕ). packetAt s l q) row ∙ packet-at s m q h
+
+    is-right : (q : ℕ) → q < multiframePairs * m → Right dataBits (packetIn s q)
+    unfolding pairFails
+    is-right q h =
+        right-true dataBits (packetIn s q) .0
+        (ap (right dataBits) (sym (got q h)) ∙ not-false (right dataBits (packetAt s places q)) (pass q h))
+
+    packet-size : (q : ℕ) → q < multiframePairs * m → length (packetIn s q) ≡ packetBits
+    packet-size q h =
+        let l = streamIn s (q / 12) in
+        let ll : length l ≡ 138 = length-part s (144 * (q / 12) + 2 + 4) 138 (omega (arith, size)) in
+        length-part (bits l) (92 * (q % 12)) 92 (omega (arith, length-bits l))
+
+    -- its frames
+    index-is : indexPart s places ns ≡ all
+    index-is = nothing-replaced ns all good (length-all s places ∙ omega (arith, notes-size))
+
+    all-size : length all ≡ frameIndices * (multiframeFrames * m)
+    all-size = length-all s places ∙ omega arith
+
+    ended : endOf m all ≡ 1
+    ended = sym (ap (λ (g : Summary). g .end) (w .given-is) ∙ ap (endOf m) index-is) ∙ p .ended
+
+    speech-is : given .speech ≡ speechOf m all
+    speech-is = ap (λ (g : Summary). g .speech) (w .given-is) ∙ ap (speechOf m) index-is
+
+    abbrev idx : List ℕ
+    idx = spoken all m some all-size
+
+    idx-is : take (frameIndices * given .speech) (result .index) ≡ idx
+    idx-is =
+        ap₂ (λ (k : ℕ) (o : Outcome). take (7 * k) (o .index)) speech-is (w .result-is)
+        ∙ ap (λ (l : List ℕ). take (7 * speechOf m all) (over index 0 (indexOctets * m) l)) index-is
+        ∙ take-append-le (7 * speechOf m all) all (drop (0 + indexOctets * m) index) (omega (arith, all-size, speech-lt all m some all-size ended))
+
+    packets : (q : ℕ) → q < multiframePairs * m → packetOf idx q ≡ packetIn s q
+    unfolding framesOf
+    packets q h =
+        packet-spoken all m some all-size q (packetIn s q) h (packet-size q h) (is-right q h) (frames-at s places q h ∙ ap (apart widths) (got q h))
+
+    octets-are : image (rateOf c) (typeOf c) idx m ≡ s
+    octets-are = is-image s m size (p .small) syncs (rateOf c) (typeOf c) idx headers packets
+
+    -- ---- written again
+    again-is : again ≡ writing (rateOf c) (typeOf c) idx output
+    again-is =
+        ap₂ (λ (a b : ℕ). writing a b (take (frameIndices * given .speech) (result .index)) output) (ap (λ (g : Summary). g .rate) (w .given-is)) (ap (λ (g : Summary). g .kind) (w .given-is))
+        ∙ ap (λ (l : List ℕ). writing (rateOf c) (typeOf c) l output) idx-is
+
+    proof : Again p
+    proof =
+        let x = success (rateOf c) (typeOf c) idx output (p .octets) (ap (λ (o : W.Outcome). o .answer) (sym again-is) ∙ p .accepts) in
+        let k : multiframesFor (frameCount idx) ≡ m = multiframes-spoken all m some all-size ended in
+        let n : p .octets ≡ length s = x .0 ∙ ap (λ (j : ℕ). multiframeOctets * j) k ∙ sym size in
+        record {
+          same-length = n;
+          same-octets = ap (λ (o : W.Outcome). o .output) again-is ∙ x .1
+              ∙ ap₂ (λ (j : ℕ) (l : List ℕ). over output 0 j l) n (ap (image (rateOf c) (typeOf c) idx) k ∙ octets-are);
+        }
+
+pub writes-again : (s : List ℕ) (codebook thresholds : List ℤ) (index report output : List ℕ) (given : Summary)
+    (p : Premises s codebook thresholds index report output given) → Again s codebook thresholds index report output given p
+writes-again s codebook thresholds index report output given p =
+    proof s codebook thresholds index report output given p (was-read s codebook thresholds index report output given (p .succeeds))
