@@ -170,16 +170,16 @@ README_ENV := DSR_LIB_DIR=$(abspath $(BUILD)) DSR_LIB_NAME=baseline
 endif
 
 readme-c: $(README_WITH)
-	.ci/readme c $(README)/talk.c $(README)/talk.out
-	$(README_CC) $(WARN) -I c $(README)/talk.c $(README_WITH) -o $(README)/talk
-	$(RUN) $(README)/talk | diff - $(README)/talk.out
+	.ci/readme c $(README)/c/talk.c $(README)/c/output
+	$(README_CC) $(WARN) -I c $(README)/c/talk.c $(README_WITH) -o $(README)/c/talk
+	$(RUN) $(README)/c/talk | diff - $(README)/c/output
 
 readme-rust: $(README_WITH)
-	.ci/readme rust $(README)/talk/src/main.rs $(README)/talk.rust.out
-	printf '%s\n' '[workspace]' '[package]' 'name = "talk"' 'edition = "2021"' '[dependencies]' 'dsr = { path = "$(abspath rust/dsr)" }' \
-	    >$(README)/talk/Cargo.toml
-	cd $(README)/talk && $(README_ENV) $(CARGO) run --quiet --offline >../talk.rust.got
-	diff $(README)/talk.rust.got $(README)/talk.rust.out
+	.ci/readme rust $(README)/rust/src/main.rs $(README)/rust/output
+	printf '%s\n' '[workspace]' '[package]' 'name = "talk"' 'version = "0.1.0"' 'edition = "2021"' '[dependencies]' 'dsr = { path = "$(abspath rust/dsr)" }' \
+	    >$(README)/rust/Cargo.toml
+	cd $(README)/rust && $(README_ENV) $(CARGO) run --quiet --offline >got
+	diff $(README)/rust/got $(README)/rust/output
 
 # Random calls for a bounded time. The address and undefined behaviour sanitizers watch the C side; under the emulator there are none,
 # and the literal version, which is C throughout, runs under them natively.
