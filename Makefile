@@ -47,7 +47,7 @@ JUDGED := "the literal version against itself"
 endif
 
 .PHONY: sample test bench lib clean packages independent wrapper wrapper-literal example crctable sample-check listing readme-c \
-    readme-rust fuzz drawing drawing-check
+    readme-rust readme-crates fuzz drawing drawing-check
 .SECONDARY:
 .DELETE_ON_ERROR:
 
@@ -180,6 +180,11 @@ readme-rust: $(README_WITH)
 	    >$(README)/rust/Cargo.toml
 	cd $(README)/rust && $(README_ENV) $(CARGO) run --quiet --offline >got
 	diff $(README)/rust/got $(README)/rust/output
+
+# The README has a row for every crate.
+readme-crates:
+	@sed -n 's/^\([a-z][a-z0-9_]*\):.*/\1/p' crates.txt | while read -r c; do \
+	    grep -q "^| $$c |" README.md || { echo "README.md has no row for the crate $$c"; exit 1; }; done
 
 # Random calls for a bounded time. The address and undefined behaviour sanitizers watch the C side; under the emulator there are none,
 # and the literal version, which is C throughout, runs under them natively.
