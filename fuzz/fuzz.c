@@ -293,8 +293,9 @@ static void mutate(void) {
     }
 }
 
+/* Notes are in range, the bad pairs are counted, and two readable headers agree in the settings, or the only one is clean. */
 static void check_notes(const uint8_t *report, const uint64_t *a) {
-    uint64_t bad = 0;
+    uint64_t bad = 0, agree = 0;
     for (size_t i = 0; i < DSR_MULTIFRAME_REPORT * a[DSR_ANSWER_MULTIFRAMES]; i++) {
         if (i % DSR_MULTIFRAME_REPORT != 0) {
             expect(report[i] <= DSR_PAIR_BAD, "a pair note out of range");
@@ -302,9 +303,26 @@ static void check_notes(const uint8_t *report, const uint64_t *a) {
         } else {
             unsigned flips = report[i] & 3;
             expect(report[i] < 16 && (flips != 3 || report[i] == DSR_HEADER_LOST), "a header note out of range");
+            agree += flips != 3 && (report[i] & DSR_HEADER_DIFFERS) == 0;
         }
     }
+    expect(agree >= 2 || (a[DSR_ANSWER_MULTIFRAMES] == 1 && agree == 1 && (report[0] & 3) == 0), "settings that nothing settles");
     expect(bad == a[DSR_ANSWER_BAD], "the number of bad pairs is not that of the notes");
+}
+
+static uint8_t note_of(const uint8_t *report, size_t q) { return report[q + q / DSR_MULTIFRAME_PAIRS + 1]; }
+
+/* In a run of bad pairs the first half is the good frame before it, the second half the one after it; at an end of the utterance there
+ * is one of them only. */
+static void check_replaced(const uint8_t *index, const uint8_t *report, size_t pairs) {
+    for (size_t start = 0, end; start < pairs; start = end + 1) {
+        for (end = start; end < pairs && note_of(report, end) != DSR_PAIR_GOOD; end++) {}
+        for (size_t f = 2 * start; f < 2 * end; f++) {
+            int before = end == pairs || (start > 0 && f < start + end);
+            const uint8_t *from = index + DSR_FRAME_INDICES * (before ? 2 * start - 1 : 2 * end);
+            expect(memcmp(index + DSR_FRAME_INDICES * f, from, DSR_FRAME_INDICES) == 0, "a bad pair's frame is not its good neighbour");
+        }
+    }
 }
 
 /* A reading without a note, whose frames the writer accepts, is written again octet for octet. */
@@ -331,6 +349,7 @@ static void check_reading(const struct lent *in, const struct lent *index, const
     check_notes(report->data, a);
     for (size_t f = 0; f < FRAMES * m; f++) expect(!is_wide(index->data + DSR_FRAME_INDICES * f), "an index above 63");
     expect(a[DSR_ANSWER_BAD] < DSR_MULTIFRAME_PAIRS * m, "all pairs are bad");
+    check_replaced(index->data, report->data, DSR_MULTIFRAME_PAIRS * m);
     uint64_t last = FRAMES;
     while (last > 0 && is_zero(index->data + DSR_FRAME_INDICES * (FRAMES * (m - 1) + last - 1))) last--;
     expect(speech == FRAMES * (m - 1) + last, "speech is not where the last frame that is not zero stands");
@@ -427,7 +446,7 @@ static void damage_image(uint8_t *damaged, size_t m) {
 /* Each damaged pair is named by its CRC, no other is, and an unnamed pair's frames are those that were written. */
 static void check_named(const uint8_t *damaged, const struct lent *index, const struct lent *report, size_t m) {
     for (size_t q = 0; q < DSR_MULTIFRAME_PAIRS * m; q++) {
-        uint8_t note = report->data[q + q / DSR_MULTIFRAME_PAIRS + 1];
+        uint8_t note = note_of(report->data, q);
         expect((note == DSR_PAIR_CRC) == damaged[q], "a damaged pair is not named, or another is");
         for (size_t i = 2 * DSR_FRAME_INDICES * q; i < 2 * DSR_FRAME_INDICES * (q + 1) && note == DSR_PAIR_GOOD; i++)
             expect(index->data[i] == (i < DSR_FRAME_INDICES * spoken_frames ? spoken[i] : 0), "a good pair's frame is another");
