@@ -1,6 +1,9 @@
+# make sample   proves and builds dsrlist, and lists the shipped sample with it
 # make test     the gate: rt ci over every crate, then every check outside of Rattle
 # make bench    the library's times against the literal C version
 # make lib      target/staticlib/liblink.a, for C and Rust on x86-64
+# make fuzz     random calls of the library for FUZZ_SECONDS, its promises checked after each
+# make drawing  docs/multiframe.svg anew
 # make clean    removes all that was made
 #
 # The parts of the library that have landed, in this order: header stream write read. Each one switched on here gets its comparison
@@ -18,6 +21,8 @@ WARN := -std=gnu11 -Wall -Wextra -Werror
 PYTHON := /usr/bin/python3
 CARGO := cargo
 RUST := rust/target/release
+RATTLE := crates.txt $(shell find crates -name '*.rt' -o -name '*.antt')
+FUZZ_SECONDS := 20
 
 # The archive is for x86-64. On another machine Debian's cross compiler links it and an emulator runs it: answers are the same, times
 # say nothing.
@@ -28,7 +33,7 @@ LIBRARY_JUDGED :=
 OBJDUMP := objdump
 else
 LIBRARY_CC := x86_64-linux-gnu-gcc -static
-LIBRARY_RUN := qemu-x86_64
+LIBRARY_RUN := qemu-x86_64 -L /usr/x86_64-linux-gnu
 LIBRARY_JUDGED := "emulated, no time of an x86-64 processor"
 OBJDUMP := x86_64-linux-gnu-objdump
 endif
@@ -41,9 +46,19 @@ RUN :=
 JUDGED := "the literal version against itself"
 endif
 
-.PHONY: test bench lib clean packages independent wrapper wrapper-literal example crctable
+.PHONY: sample test bench lib clean packages independent wrapper wrapper-literal example crctable sample-check listing readme-c \
+    readme-rust readme-crates fuzz drawing drawing-check
 .SECONDARY:
 .DELETE_ON_ERROR:
+
+# rt check prints what it proves. Then the program runs on its own, as a user would run it.
+sample: target/bin/dsrlist
+	@.ci/packages run
+	$(LIBRARY_RUN) target/bin/dsrlist <crates/dsrlist/stdin
+
+target/bin/dsrlist: $(RATTLE)
+	rt check dsrlist
+	@touch $@
 
 test:
 	@PARTS="$(PARTS)" .ci/gate
@@ -55,7 +70,7 @@ bench: $(foreach p,$(PARTS),$(BUILD)/$(LIB)/bench-$(p))
 
 lib: $(ARCHIVE)
 
-$(ARCHIVE): crates.txt $(shell find crates -name '*.rt' -o -name '*.antt')
+$(ARCHIVE): $(RATTLE)
 	rt staticlib link
 
 clean:
@@ -127,6 +142,71 @@ $(BUILD)/library/example: c/example.c $(HEADERS) $(ARCHIVE)
 $(BUILD)/literal/example: c/example.c $(HEADERS) $(BASELINE) baseline/as_library.c
 	@mkdir -p $(@D)
 	gcc $(WARN) -O2 $< $(BASELINE) $(WITH) -o $@
+
+# The shipped sample and its listing: made anew by the maker, and listed by the literal reader and by dsrlist.
+$(BUILD)/literal/sample-%: samples/%.c c/dsr.h $(BASELINE) baseline/as_library.c
+	@mkdir -p $(@D)
+	gcc $(WARN) -O2 $< $(BASELINE) $(WITH) -o $@
+
+sample-check: $(BUILD)/literal/sample-make $(BUILD)/literal/sample-list target/bin/dsrlist
+	$(BUILD)/literal/sample-make | cmp - crates/dsrlist/stdin
+	$(BUILD)/literal/sample-list <crates/dsrlist/stdin | diff - crates/dsrlist/stdout
+	$(LIBRARY_RUN) target/bin/dsrlist <crates/dsrlist/stdin | diff - crates/dsrlist/stdout
+
+listing: $(BUILD)/literal/sample-list target/bin/dsrlist
+	.ci/listing crates/dsrlist/stdin $< $(LIBRARY_RUN) target/bin/dsrlist
+
+# The README's two programs, taken out of it as printed, built and held to what the README says they print.
+README := $(BUILD)/readme/$(LIB)
+
+ifeq ($(LIB),library)
+README_CC := $(LIBRARY_CC)
+README_WITH := $(ARCHIVE)
+README_ENV :=
+else
+README_CC := gcc
+README_WITH := $(BUILD)/libbaseline.a
+README_ENV := DSR_LIB_DIR=$(abspath $(BUILD)) DSR_LIB_NAME=baseline
+endif
+
+readme-c: $(README_WITH)
+	.ci/readme c $(README)/c/talk.c $(README)/c/output
+	$(README_CC) $(WARN) -I c $(README)/c/talk.c $(README_WITH) -o $(README)/c/talk
+	$(RUN) $(README)/c/talk | diff - $(README)/c/output
+
+readme-rust: $(README_WITH)
+	.ci/readme rust $(README)/rust/src/main.rs $(README)/rust/output
+	printf '%s\n' '[workspace]' '[package]' 'name = "talk"' 'version = "0.1.0"' 'edition = "2021"' '[dependencies]' 'dsr = { path = "$(abspath rust/dsr)" }' \
+	    >$(README)/rust/Cargo.toml
+	cd $(README)/rust && $(README_ENV) $(CARGO) run --quiet --offline >got
+	diff $(README)/rust/got $(README)/rust/output
+
+# The README has a row for every crate.
+readme-crates:
+	@sed -n 's/^\([a-z][a-z0-9_]*\):.*/\1/p' crates.txt | while read -r c; do \
+	    grep -q "^| $$c |" README.md || { echo "README.md has no row for the crate $$c"; exit 1; }; done
+
+# Random calls for a bounded time. The address and undefined behaviour sanitizers watch the C side; under the emulator there are none,
+# and the literal version, which is C throughout, runs under them natively.
+SANITIZE := -g -fsanitize=address,undefined -fno-sanitize-recover=all
+
+fuzz: $(BUILD)/$(LIB)/fuzz
+	ASAN_OPTIONS=detect_leaks=0 $(RUN) $< $(FUZZ_SECONDS)
+
+$(BUILD)/library/fuzz: fuzz/fuzz.c c/dsr.h $(ARCHIVE)
+	@mkdir -p $(@D)
+	$(LIBRARY_CC) $(WARN) -O2 $(if $(LIBRARY_RUN),,$(SANITIZE)) $< $(WITH) -o $@
+
+$(BUILD)/literal/fuzz: fuzz/fuzz.c c/dsr.h $(BASELINE) baseline/as_library.c
+	@mkdir -p $(@D)
+	gcc $(WARN) -O1 $(SANITIZE) $< $(BASELINE) $(WITH) -o $@
+
+# The drawing, and that its script makes it octet for octet.
+drawing:
+	$(PYTHON) docs/multiframe.py >docs/multiframe.svg
+
+drawing-check:
+	$(PYTHON) docs/multiframe.py | cmp - docs/multiframe.svg
 
 # The compiler turns the CRC register's loop into a table of 256 octets by itself, if the loop keeps its shape: a small edit loses it
 # silently, and packing and unpacking with it. The table is a section of its own, 100 (hex) octets long, and code refers to it.
