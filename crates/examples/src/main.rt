@@ -2,8 +2,10 @@
 // The stored output holds them to 01's text.
 use layout::FrameLayout;
 use layout::MultiframeLayout;
+use layout::ReadingLayout;
 use layout::UtteranceLayout;
 use libc::STDOUT_FILENO;
+use reader::Answer;
 
 // Index octets of one frame more than the most that can be written, and an output for the most multiframes.
 const INDICES: usize = FrameLayout::INDICES * (UtteranceLayout::FRAMES + 1);
@@ -32,8 +34,16 @@ fn show_counts() {
     let ones = [1u8; INDICES];
     let mut out = [0u8; OUTPUT];
     show_writing(b"no frame", &ones[..0], &mut out);
-    show_writing(b"23 frames", &ones[..23 * FrameLayout::INDICES], &mut out);
-    show_writing(b"24 frames", &ones[..24 * FrameLayout::INDICES], &mut out);
+    show_writing(
+        b"23 frames",
+        &ones[..(MultiframeLayout::FRAMES - 1) * FrameLayout::INDICES],
+        &mut out,
+    );
+    show_writing(
+        b"24 frames",
+        &ones[..MultiframeLayout::FRAMES * FrameLayout::INDICES],
+        &mut out,
+    );
     show_writing(
         b"6119 frames",
         &ones[..UtteranceLayout::FRAMES * FrameLayout::INDICES],
@@ -50,7 +60,42 @@ fn show_indices() {
     show_writing(b"index 64", &wide, &mut out);
 }
 
+// What the reader says to these octets, with all codebook numbers and thresholds 0: 0 and speech, or its number and place.
+fn show_reading(name: &[u8], octets: &[u8]) {
+    let codebook = [0i32; ReadingLayout::CODEBOOK];
+    let thresholds = [0i32; ReadingLayout::THRESHOLDS];
+    let mut index = [0u8; ReadingLayout::INDEX];
+    let mut report = [0u8; ReadingLayout::REPORT];
+    io::write_all(STDOUT_FILENO, name);
+    match reader::read(octets, &codebook, &thresholds, &mut index, &mut report) {
+        Answer::Read(s) => print_numbers(0, s.speech as u64),
+        Answer::Refused(r) => print_numbers(
+            reader::number_of(r) as u64,
+            reader::place_of(r) as u64,
+        ),
+    }
+}
+
+// The example of 01's dsrlist: one multiframe with the header of count 1, whose first index is 1 and whose first CRC is the term X.
+fn show_readings() {
+    let mut received = [0u8; MultiframeLayout::OCTETS];
+    received[0] = 0x87;
+    received[1] = 0xb2;
+    received[2] = 0x08;
+    received[4] = 0x0e;
+    received[5] = 0xee;
+    received[6] = 0x01;
+    received[17] = 0x04;
+    show_reading(b"one frame received", &received);
+    show_reading(
+        b"143 octets that open with a sync",
+        &received[..MultiframeLayout::OCTETS - 1],
+    );
+    show_reading(b"nothing received", &received[..0]);
+}
+
 fn main() {
     show_counts();
     show_indices();
+    show_readings();
 }
