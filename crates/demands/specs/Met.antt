@@ -129,14 +129,17 @@ module _ (u : Utterance) where
         ∙ ap (λ (o : W.Outcome). o .answer) (writes u output (le-of-eq (sym (length-replicate (needed (u .indices)) 0))));
   }
 
--- ---- damage to any utterance: two flips in every header, a burst in the first packet of every multiframe, and two flips at distance 14 in
+-- ---- damage to any utterance: two flips in every header, a burst in the first packet of every multiframe, and two flips at this distance in
 -- the second
+abbrev pub distance : ℕ
+distance = 14
+
 module _ (u : Utterance) where
   abbrev pub burstAt : ℕ → List Bool
   burstAt k = flip (flip (packetOf (u .indices) (firstPair k)) 0) 2
 
   abbrev pub doubleAt : ℕ → List Bool
-  doubleAt k = flip (flip (packetOf (u .indices) (firstPair k + 1)) 0) 14
+  doubleAt k = flip (flip (packetOf (u .indices) (firstPair k + 1)) 0) distance
 
   abbrev pub hurtWord : ℕ → ℕ
   hurtWord k = bitXor (codeword (sentMessage u k)) 3
@@ -155,7 +158,7 @@ module _ (u : Utterance) where
   length-hurt k =
       length-append (burstAt k) (doubleAt k ++ stream (u .indices) (firstPair k + 2) 10)
       ∙ ap₂ _+_ (length-flips (firstPair k) 0 2)
-      (length-append (doubleAt k) (stream (u .indices) (firstPair k + 2) 10) ∙ ap₂ _+_ (length-flips (firstPair k + 1) 0 14) (length-stream (u .indices) (firstPair k + 2) 10))
+      (length-append (doubleAt k) (stream (u .indices) (firstPair k + 2) 10) ∙ ap₂ _+_ (length-flips (firstPair k + 1) 0 distance) (length-stream (u .indices) (firstPair k + 2) 10))
 
   -- packet r of multiframe k: the first two are damaged, the others are as they were sent
   part-0 : (k : ℕ) → part 0 packetBits (hurtStream k) ≡ burstAt k
@@ -164,7 +167,7 @@ module _ (u : Utterance) where
   part-1 : (k : ℕ) → part packetBits packetBits (hurtStream k) ≡ doubleAt k
   part-1 k =
       ap (take packetBits) (drop-at (burstAt k) (doubleAt k ++ stream (u .indices) (firstPair k + 2) 10) packetBits (length-flips (firstPair k) 0 2))
-      ∙ take-at (doubleAt k) (stream (u .indices) (firstPair k + 2) 10) packetBits (length-flips (firstPair k + 1) 0 14)
+      ∙ take-at (doubleAt k) (stream (u .indices) (firstPair k + 2) 10) packetBits (length-flips (firstPair k + 1) 0 distance)
 
   part-on : (k j : ℕ) → j < 10 → part (packetBits * suc (suc j)) packetBits (hurtStream k) ≡ packetOf (u .indices) (firstPair k + suc (suc j))
   part-on k j h =
@@ -172,7 +175,7 @@ module _ (u : Utterance) where
       let d = doubleAt k in
       let r = stream (u .indices) (12 * k + 2) 10 in
       let lb : length b ≡ 92 = length-flips (12 * k) 0 2 in
-      let ld : length d ≡ 92 = length-flips (12 * k + 1) 0 14 in
+      let ld : length d ≡ 92 = length-flips (12 * k + 1) 0 distance in
       let x : 92 * suc (suc j) ≡ length b + (length d + 92 * j) = omega arith in
       let y : 12 * k + 2 + j ≡ 12 * k + suc (suc j) = omega arith in
       ap (λ (n : ℕ). take 92 (drop n (hurtStream k))) x ∙ ap (take 92) (drop-append-add b (d ++ r) (length d + 92 * j) ∙ drop-append-add d r (92 * j))
@@ -187,7 +190,7 @@ module _ (u : Utterance) where
       inr (subst (λ (q : ℕ). Damaged (packetOf (u .indices) q) (part 0 packetBits (hurtStream k))) z (subst (Damaged (packetOf (u .indices) (12 * k))) (sym (part-0 k)) d))
   packet-of k (suc zero) h =
       let d : Damaged (packetOf (u .indices) (12 * k + 1)) (doubleAt k) =
-      inr (flips-double (packetOf (u .indices) (12 * k + 1)) 0 14 (lit< tt) (omega (arith, length-packetOf (u .indices) (12 * k + 1))) (λ e. omega arith)) in
+      inr (flips-double (packetOf (u .indices) (12 * k + 1)) 0 distance (lit< tt) (omega (arith, length-packetOf (u .indices) (12 * k + 1))) (λ e. omega arith)) in
       inr (subst (Damaged (packetOf (u .indices) (12 * k + 1))) (sym (part-1 k)) d)
   packet-of k (suc (suc j)) h = inl (part-on k j (omega arith))
 

@@ -6,11 +6,11 @@ use mathlib.Core.List.{List, [], _∷_, _++_}
 use mathlib.Core.Logic.{_⊎_, inl, inr}
 use Prim.Native.Nat.{ℕ, zero, suc, _+_, _*_, _/_, _%_, _^_, _≤_, _<_}
 use native.Mathlib.Omega.{arith}
-use lib.Bits.{bitXor, bitAnd, xor-lt, xor-mod, xor-self}
+use lib.Bits.{bitXor, xor-lt, xor-mod, xor-self}
 use lib.Count.{ones, onesIn}
-use lib.Dec.{eqb, lit<}
+use lib.Dec.{lit<}
 use lib.IntN.{ℤ}
-use lib.ListN.{length, take, drop, getD, replicate}
+use lib.ListN.{length, getD, replicate}
 use borrow.Author.Tests.{ne-eqb}
 use Rattle.gf2.specs.Light.{ones-in}
 use Rattle.gf2.specs.Xor.{xor-swap}
@@ -27,11 +27,11 @@ use Rattle.header_code.specs.Code.{codeword, flipsTo, syndrome}
 use Rattle.header_code.specs.Code.Distance.{codeword-lt, codeword-low}
 use Rattle.header_code.specs.Code.Syndrome.{syndrome-xor, syndrome-codeword, codeword-of}
 use Rattle.header_code.specs.Code.Examples.{three-from-rate-1}
-use Rattle.header.specs.Message.{message, rateOf, typeOf, countOf, expOf}
+use Rattle.header.specs.Message.{message, rateOf, typeOf}
 use Rattle.header.specs.Message.Laws.{message-lt, message-back, message-counts, rate-masked, type-masked, count-masked, exp-shifted}
 use Rattle.header.specs.Reading.Laws.{flips-of}
 use Rattle.header.specs.declared.Header.the-variants.{Codeword}
-use Rattle.settling.specs.Settling.{readings, settling}
+use Rattle.settling.specs.Settling.{settling}
 use Rattle.settling.specs.Laws.{only-mended}
 use Rattle.settling.specs.declared.Settings.the-variants as S
 use Rattle.pairs.specs.Pairs.{pairCount, pairNotes}
@@ -41,13 +41,14 @@ use Rattle.judging.specs.Judging.{bad, badPairs}
 use Rattle.reader.specs.Reading.{outcome, reading}
 use Rattle.reader.specs.declared.Refusal.the-variants.{Unsettled, AllBad}
 use Rattle.reader.specs.declared.Answer.the-variants.{Refused}
-use Rattle.writer.specs.Writing.{verdict, roomAnswer, firstFrom, needed}
+use Rattle.writer.specs.Writing.{verdict, roomAnswer, firstFrom, needed, image}
 use Rattle.writer.specs.Laws.{few-multiframes, length-image}
-use Rattle.writer.specs.Made.{Small, syncIn, wordIn, packetIn, made, made-word, made-packet}
-use Rattle.writer.specs.Image.{image-sync, image-word, image-packet, Utterance, multiframesOf, pairsOf, imageOf, is-accepted, rate-not-2}
+use Rattle.writer.specs.Made.{Small, syncIn, wordIn, packetIn, made, made-sync, made-word, made-packet}
+use Rattle.writer.specs.Image.{image-made, image-sync, image-word, image-packet, Utterance, multiframesOf, pairsOf, imageOf, is-accepted, rate-not-2}
 use Rattle.writer.specs.declared.Answer.the-variants.{Written}
-use Rattle.demands.specs.Damage.{Damage, Touched, headerFlips, sentMessage, damage-made, differs}
+use Rattle.demands.specs.Damage.{Damage, headerFlips, sentMessage, header-near, damage-made, differs}
 use Rattle.demands.specs.Instances.{lone, small-lone, says1, past-packet}
+use Rattle.demands.specs.Met.{zeroBook, zeroThresholds, indexFor, reportFor, lent-zeros, hurtWord, hurtStream, hurtImage, hurts}
 use Rattle.demands.specs.Whole.{rowOf, Lent, refuses-16, refuses-20}
 use Rattle.demands.specs.Received.{BadPair, Tells, is-so, not-so, tells-bad, headers-read, settles, sentCommon, rate-sent, exp-sent}
 
@@ -140,3 +141,154 @@ module _ (u : Utterance) where
       inl (λ e. differs (packetOf (u .indices) q) (flip (packetOf (u .indices) q) 0) (one-flip q)
       (sym (made-packet sentWord allHit (multiframesOf u) q h (hit-size (q / 12)) ∙ hit-part q) ∙ e
       ∙ image-packet (u .rate) (u .kind) (u .indices) (multiframesOf u) q h))
+
+-- ---- DISTANCE 15 PASSES: the image of one utterance is that of another with packet bits 0 and 15 flipped, and nothing else. A damage that
+-- allowed this distance would have its image equal an undamaged one
+abbrev pub eighth : List ℕ
+eighth = 0 ∷ 0 ∷ 8 ∷ 0 ∷ 0 ∷ 0 ∷ 0 ∷ []
+
+pub small-eighth : Small eighth
+small-eighth zero = lit< tt
+small-eighth (suc zero) = lit< tt
+small-eighth (suc (suc zero)) = lit< tt
+small-eighth (suc (suc (suc zero))) = lit< tt
+small-eighth (suc (suc (suc (suc zero)))) = lit< tt
+small-eighth (suc (suc (suc (suc (suc zero))))) = lit< tt
+small-eighth (suc (suc (suc (suc (suc (suc zero)))))) = lit< tt
+small-eighth (suc (suc (suc (suc (suc (suc (suc i))))))) = lit< tt
+
+pub written-eighth : verdict 0 0 eighth (needed eighth) ≡ Written (needed eighth)
+unfolding verdict roomAnswer firstFrom
+written-eighth = refl
+
+abbrev pub saysEighth : Utterance
+saysEighth = record { rate = 0; kind = 0; indices = eighth; small = small-eighth; written = written-eighth }
+
+packet-1 : packetOf (lone 1) 0 ≡ true ∷ (replicate 89 false ++ (true ∷ false ∷ []))
+unfolding packetOf packet guarded crc after row laid field xor
+packet-1 = refl
+
+packet-eighth : packetOf eighth 0 ≡ replicate 15 false ++ (true ∷ (replicate 74 false ++ (true ∷ false ∷ [])))
+unfolding packetOf packet guarded crc after row laid field xor
+packet-eighth = refl
+
+pub record Passes15 : Type 0 where
+  pub syncs : (k : ℕ) → k < 1 → syncIn (imageOf saysEighth) k ≡ syncIn (imageOf says1) k
+  pub headers : (k : ℕ) → k < 1 → wordIn (imageOf saysEighth) k ≡ wordIn (imageOf says1) k
+  pub first : packetIn (imageOf saysEighth) 0 ≡ flip (flip (packetIn (imageOf says1) 0) 0) 15
+  pub others : (q : ℕ) → 0 < q → q < 12 → packetIn (imageOf saysEighth) q ≡ packetIn (imageOf says1) q
+  pub different : packetOf eighth 0 ≡ packetOf (lone 1) 0 → ⊥
+
+pub passes-15 : Passes15
+passes-15 = record {
+  syncs = λ k h. image-sync 0 0 eighth 1 k h ∙ sym (image-sync 0 0 (lone 1) 1 k h);
+  headers = λ k h. image-word 0 0 eighth 1 k h ∙ sym (image-word 0 0 (lone 1) 1 k h);
+  first = image-packet 0 0 eighth 1 0 (omega arith) ∙ packet-eighth
+      ∙ sym (ap (λ (p : List Bool). flip (flip p 0) 15) (image-packet 0 0 (lone 1) 1 0 (omega arith) ∙ packet-1));
+  others = λ q h l.
+      image-packet 0 0 eighth 1 q (omega arith) ∙ past-packet eighth (lone 1) q (omega arith) (omega arith) ∙ sym (image-packet 0 0 (lone 1) 1 q (omega arith));
+  different = λ e. true-false (sym (ap (λ (p : List Bool). getD p 0 false) (sym packet-eighth ∙ e ∙ packet-1)));
+}
+
+-- ---- THREE FLIPS IN A HEADER CONFUSE TWO RATES: the same frames at 8 and at 11 kHz, and octets that are three header flips from the image of
+-- either and otherwise whole. This is how 8 kHz went to the 11 kHz model
+pub written-11 : verdict 1 0 (lone 1) (needed (lone 1)) ≡ Written (needed (lone 1))
+unfolding verdict roomAnswer firstFrom
+written-11 = refl
+
+abbrev pub says1At11 : Utterance
+says1At11 = record { rate = 1; kind = 0; indices = lone 1; small = small-lone 1 (lit< tt); written = written-11 }
+
+-- 01 00 01 01, halfway between SampRate 1 alone and nothing, laid on the header sent
+abbrev pub halfway : ℕ
+halfway = 0x01010001
+
+abbrev pub halfwayWord : ℕ → ℕ
+halfwayWord k = bitXor (codeword 8) halfway
+
+abbrev pub confused : List ℕ
+confused = made halfwayWord (λ k. stream (lone 1) (firstPair k) multiframePairs) 1
+
+message-9 : message 1 0 1 0 ≡ 9
+message-9 =
+    ap₂ (λ (a b : ℕ). message a b 1 0) (rate-masked 9) (type-masked 9) ∙ ap₂ (message (rateOf 9) (typeOf 9)) (count-masked 9) (exp-shifted 9 (lit< tt))
+    ∙ message-back 9 (lit< tt)
+
+-- the codewords of 8 kHz and 11 kHz differ by that of SampRate 1 alone
+codeword-9 : codeword 9 ≡ bitXor (codeword 8) (codeword 1)
+codeword-9 =
+    let w = bitXor (codeword 8) (codeword 1) in
+    let low : w % 2 ^ 16 ≡ 9 = xor-mod (codeword 8) (codeword 1) 16 ∙ ap₂ bitXor (codeword-low 8 (lit< tt)) (codeword-low 1 (lit< tt)) in
+    let fine : syndrome w ≡ 0 = syndrome-xor (codeword 8) (codeword 1) ∙ ap₂ bitXor (syndrome-codeword 8 (lit< tt)) (syndrome-codeword 1 (lit< tt)) in
+    ap codeword (sym low) ∙ codeword-of w (xor-lt 32 (codeword 8) (codeword 1) (codeword-lt 8 (lit< tt)) (codeword-lt 1 (lit< tt))) fine
+
+three-8 : flipsTo (bitXor (codeword 8) halfway) 8 ≡ 3
+unfolding onesIn
+three-8 = let e : ones halfway ≡ 3 = sym (ones-in 32 halfway (lit< tt)) in flips-of 8 halfway ∙ e
+
+three-11 : flipsTo (bitXor (codeword 8) halfway) 9 ≡ 3
+unfolding flipsTo
+three-11 =
+    ap (λ (x : ℕ). ones (bitXor (bitXor (codeword 8) halfway) x)) codeword-9
+    ∙ ap ones (xor-swap (codeword 8) halfway (codeword 8) (codeword 1) ∙ ap (λ (x : ℕ). bitXor x (bitXor halfway (codeword 1))) (xor-self (codeword 8)))
+    ∙ three-from-rate-1
+
+word-lt : bitXor (codeword 8) halfway < 2 ^ 32
+word-lt = xor-lt 32 (codeword 8) halfway (codeword-lt 8 (lit< tt)) (lit< tt)
+
+pub record Confuses : Type 0 where
+  pub three-of-8 : headerFlips (imageOf says1) confused 0 ≡ 3
+  pub three-of-11 : headerFlips (imageOf says1At11) confused 0 ≡ 3
+  pub whole-of-8 : (q : ℕ) → q < 12 → packetIn confused q ≡ packetIn (imageOf says1) q
+  pub whole-of-11 : (q : ℕ) → q < 12 → packetIn confused q ≡ packetIn (imageOf says1At11) q
+  pub syncs-of-8 : syncIn confused 0 ≡ syncIn (imageOf says1) 0
+  pub syncs-of-11 : syncIn confused 0 ≡ syncIn (imageOf says1At11) 0
+
+pub three-confuse : Confuses
+unfolding flipsTo
+three-confuse = record {
+  three-of-8 = ap₂ (λ (a b : ℕ). ones (bitXor a b)) word (image-word 0 0 (lone 1) 1 0 (lit< tt) ∙ ap codeword (message-counts .0)) ∙ three-8;
+  three-of-11 = ap₂ (λ (a b : ℕ). ones (bitXor a b)) word (image-word 1 0 (lone 1) 1 0 (lit< tt) ∙ ap codeword message-9) ∙ three-11;
+  whole-of-8 = λ q h. packets 0 q h;
+  whole-of-11 = λ q h. packets 1 q h;
+  syncs-of-8 = made-sync halfwayWord streams 1 0 (lit< tt) ∙ sym (image-sync 0 0 (lone 1) 1 0 (lit< tt));
+  syncs-of-11 = made-sync halfwayWord streams 1 0 (lit< tt) ∙ sym (image-sync 1 0 (lone 1) 1 0 (lit< tt));
+}
+  where
+    streams : ℕ → List Bool
+    streams k = stream (lone 1) (firstPair k) multiframePairs
+
+    word : wordIn confused 0 ≡ bitXor (codeword 8) halfway
+    word = made-word halfwayWord streams 1 0 (lit< tt) word-lt
+
+    packets : (rate q : ℕ) → q < 12 → packetIn confused q ≡ packetIn (image rate 0 (lone 1) 1) q
+    packets rate q h =
+        sym (ap (λ (s : List ℕ). packetIn s q) (image-made rate 0 (lone 1) 1)
+        ∙ made-packet (λ k. codeword (message rate 0 (k + 1) 0)) streams 1 q (omega arith) (length-stream (lone 1) (firstPair (q / 12)) multiframePairs)
+        ∙ sym (made-packet halfwayWord streams 1 q (omega arith) (length-stream (lone 1) (firstPair (q / 12)) multiframePairs)))
+
+-- ---- both refusals, of the utterance 1 at 8 kHz
+mended-1 : headerFlips (imageOf says1) (hurtImage says1) 0 ≡ 2
+unfolding onesIn
+mended-1 =
+    let w = codeword (sentMessage says1 0) in
+    let l : bitXor w 3 < 2 ^ 32 = xor-lt 32 w 3 (codeword-lt (sentMessage says1 0) (message-lt 0 0 1 0)) (lit< tt) in
+    let e : ones 3 ≡ 2 = sym (ones-in 2 3 (lit< tt)) in
+    sym (header-near says1 (hurtImage says1) (hurts says1) 0 (lit< tt))
+    ∙ ap (λ (x : ℕ). flipsTo x (sentMessage says1 0)) (made-word (hurtWord says1) (hurtStream says1) 1 0 (lit< tt) l) ∙ flips-of (sentMessage says1 0) 3 ∙ e
+
+pub unsettled-1 : reading (hurtImage says1) zeroBook zeroThresholds (indexFor 1) (reportFor 1) ≡ outcome (Refused Unsettled) (indexFor 1) (reportFor 1)
+unsettled-1 =
+    mended-unsettles says1 (hurtImage says1) (hurts says1) zeroBook zeroThresholds (indexFor 1) (reportFor 1) (lent-zeros 1) refl
+    (λ e. let z : _≡_ {A = ℕ} 2 0 = sym mended-1 ∙ e in omega arith)
+
+untouched-1 : headerFlips (imageOf says1) (allHurt says1) 0 ≡ 0
+untouched-1 =
+    sym (header-near says1 (allHurt says1) (all-hurts says1) 0 (lit< tt))
+    ∙ ap (λ (x : ℕ). flipsTo x (sentMessage says1 0))
+    (made-word (sentWord says1) (allHit says1) 1 0 (lit< tt) (codeword-lt (sentMessage says1 0) (message-lt 0 0 1 0))) ∙ none-wrong says1 0
+
+pub all-bad-1 : reading (allHurt says1) zeroBook zeroThresholds (indexFor 1) (reportFor 1) ≡ outcome (Refused AllBad) (indexFor 1) (reportFor 1)
+all-bad-1 =
+    all-bad-refuses says1 (allHurt says1) (all-hurts says1) zeroBook zeroThresholds (indexFor 1) (reportFor 1) (lent-zeros 1) (inr untouched-1)
+    (all-bad says1 zeroBook zeroThresholds)
