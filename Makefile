@@ -170,12 +170,16 @@ README_ENV := DSR_LIB_DIR=$(abspath $(BUILD)) DSR_LIB_NAME=baseline
 endif
 
 readme-c: $(README_WITH)
-	.ci/readme c $(README)/c/talk.c $(README)/c/output
+	@mkdir -p $(README)/c
+	.ci/readme c 1 >$(README)/c/talk.c
+	.ci/readme c 1 next >$(README)/c/output
 	$(README_CC) $(WARN) -I c $(README)/c/talk.c $(README_WITH) -o $(README)/c/talk
 	$(RUN) $(README)/c/talk | diff - $(README)/c/output
 
 readme-rust: $(README_WITH)
-	.ci/readme rust $(README)/rust/src/main.rs $(README)/rust/output
+	@mkdir -p $(README)/rust/src
+	.ci/readme rust 1 >$(README)/rust/src/main.rs
+	.ci/readme rust 1 next >$(README)/rust/output
 	printf '%s\n' '[workspace]' '[package]' 'name = "talk"' 'version = "0.1.0"' 'edition = "2021"' '[dependencies]' 'dsr = { path = "$(abspath rust/dsr)" }' \
 	    >$(README)/rust/Cargo.toml
 	cd $(README)/rust && $(README_ENV) $(CARGO) run --quiet --offline >got
