@@ -46,7 +46,8 @@ use Rattle.writer.specs.Laws.{few-multiframes, length-image}
 use Rattle.writer.specs.Made.{Small, syncIn, wordIn, packetIn, made, made-sync, made-word, made-packet}
 use Rattle.writer.specs.Image.{image-made, image-sync, image-word, image-packet, Utterance, multiframesOf, pairsOf, imageOf, is-accepted, rate-not-2}
 use Rattle.writer.specs.declared.Answer.the-variants.{Written}
-use Rattle.demands.specs.Damage.{Damage, headerFlips, sentMessage, header-near, damage-made, differs}
+use Rattle.demands.specs.Damage.{Damage, headerFlips, sentMessage, header-near, differs}
+use Rattle.demands.specs.Damages.{damage-made}
 use Rattle.demands.specs.Instances.{lone, small-lone, says1, past-packet}
 use Rattle.demands.specs.Met.{zeroBook, zeroThresholds, indexFor, reportFor, lent-zeros, hurtWord, hurtStream, hurtImage, hurts}
 use Rattle.demands.specs.Whole.{rowOf, Lent, refuses-16, refuses-20}
