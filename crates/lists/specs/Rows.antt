@@ -6,9 +6,10 @@ use Prim.Native.Nat.{ℕ, zero, suc, _+_, _*_, _≤_, _<_}
 use native.Mathlib.Nat.{mul-zero, mul-suc, mul-le-mul-left, le-of-eq}
 use native.Mathlib.Decide.{decLt}
 use native.Mathlib.Omega.{arith}
-use lib.ListN.{length, getD, take, drop, length-append, List·getD-append}
+use lib.ListN.{length, getD, set, take, drop, length-append, List·getD-append}
 use lib.Seq.{getD-append-add, take-all}
-use Rattle.lists.specs.Parts.{part, part-left, part-right}
+use native.Mathlib.Numerals.{add-one}
+use Rattle.lists.specs.Parts.{part, over, set-over, behind, part-left, part-right}
 
 -- f at 0, 1, .., n of them
 abbrev pub each : {A : Type 0} → (ℕ → A) → ℕ → List A
@@ -65,3 +66,20 @@ module _ {A : Type 0} (f : ℕ → List A) (w : ℕ) where
             ap (λ (j : ℕ). part (w * j) w (joined f n ++ f n)) e ∙ part-right (joined f n) (f n) (w * n) w size
             ∙ take-all w (f n) (le-of-eq (h n (omega arith))) ∙ ap f (sym e)
       ]
+
+-- ---- how a loop that stores makes such a list at the front of another, one element or one part a turn
+module _ {A : Type 0} (l m : List A) (k : ℕ) where
+  pub each-more : (f : ℕ → A) (x : A) → k < length l → x ≡ f k → length m ≡ length l → m ≡ over l 0 k (each f k) → set m k x ≡ over l 0 (k + 1) (each f (k + 1))
+  each-more f x h e size em =
+      let z : 0 + k ≡ k = omega arith in
+      let s : set m k x ≡ over m (0 + k) 1 (f k ∷ []) = set-over m k x (omega arith) ∙ ap₂ (λ (i : ℕ) (y : A). over m i 1 (y ∷ [])) (sym z) e in
+      behind l 0 k 1 (each f k) (f k ∷ []) (omega arith) (length-each f k) em s ∙ ap (λ (n : ℕ). over l 0 (k + 1) (each f n)) (sym (add-one k))
+
+  pub joined-more : (f : ℕ → List A) (w : ℕ) (n : List A) → ((i : ℕ) → i < k → length (f i) ≡ w) → w * k + w ≤ length l
+      → m ≡ over l 0 (w * k) (joined f k) → n ≡ over m (w * k) w (f k) → n ≡ over l 0 (w * (k + 1)) (joined f (k + 1))
+  joined-more f w n sizes room em en =
+      let z : 0 + w * k ≡ w * k = omega arith in
+      let s : suc k ≡ k + 1 = sym (add-one k) in
+      let t : w * k + w ≡ w * (k + 1) = sym (mul-suc w k) ∙ ap (λ (i : ℕ). w * i) s in
+      behind l 0 (w * k) w (joined f k) (f k) (omega arith) (length-joined f w k sizes) em (en ∙ ap (λ (i : ℕ). over m i w (f k)) (sym z))
+      ∙ ap₂ (λ (i j : ℕ). over l 0 i (joined f j)) t s

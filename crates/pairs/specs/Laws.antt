@@ -12,7 +12,7 @@ use native.Mathlib.Numerals.{add-one}
 use native.Mathlib.Omega.{arith}
 use Rattle.lists.specs.Tests.{when}
 use Rattle.lists.specs.Parts.{part, length-part, over, over-none, set-over, behind, over-behind}
-use Rattle.lists.specs.Rows.{each, joined, length-each, each-at, length-joined, joined-part}
+use Rattle.lists.specs.Rows.{each, joined, length-each, each-at, length-joined, joined-part, each-more, joined-more}
 use Rattle.layout.specs.Layout.{widths, frameIndices, pairFrames, dataBits, packetBits, streamOctets, multiframeOf, packetStart}
 use Rattle.cutting.specs.Laws.{Placed}
 use Rattle.crc.specs.Crc.{right}
@@ -119,12 +119,7 @@ pub laid-on : (octets places l m n : List ℕ) (q : ℕ) → pairFrames * frameI
     → m ≡ over l 0 (pairFrames * frameIndices * q) (joined (framesOf octets places) q)
     → n ≡ over m (pairFrames * frameIndices * q) (pairFrames * frameIndices) (framesOf octets places q)
     → n ≡ over l 0 (pairFrames * frameIndices * (q + 1)) (joined (framesOf octets places) (q + 1))
-laid-on octets places l m n q room em en =
-    let f = framesOf octets places in
-    let z : 0 + 14 * q ≡ 14 * q = omega arith in
-    let w : 14 * q + 14 ≡ 14 * (q + 1) = omega arith in
-    behind l 0 (14 * q) 14 (joined f q) (f q) (omega arith) (length-joined f 14 q (λ k h. length-frames octets places k)) em (en ∙ ap (λ (i : ℕ). over m i 14 (f q)) (sym z))
-    ∙ ap (λ (i : ℕ). over l 0 i (joined f q ++ f q)) w ∙ ap (λ (i : ℕ). over l 0 (14 * (q + 1)) (joined f i)) (sym (add-one q))
+laid-on octets places l m n q room em en = joined-more l m q (framesOf octets places) (pairFrames * frameIndices) n (λ k h. length-frames octets places k) room em en
 
 -- ---- the CRC's note of each pair, before judging
 abbrev pub crcNote : Bool → ℕ
@@ -153,11 +148,7 @@ crc-bad octets places n q =
 
 pub noted-on : (octets places l m : List ℕ) (q x : ℕ) → q < length l → x ≡ crcNote (pairFails octets places q) → length m ≡ length l
     → m ≡ over l 0 q (crcNotes octets places q) → set m q x ≡ over l 0 (q + 1) (crcNotes octets places (q + 1))
-noted-on octets places l m q x h e size em =
-    let f : ℕ → ℕ = λ q. crcNote (pairFails octets places q) in
-    let z : 0 + q ≡ q = omega arith in
-    let s : set m q x ≡ over m (0 + q) 1 (f q ∷ []) = set-over m q x (omega arith) ∙ ap (λ (y : ℕ). over m q 1 (y ∷ [])) e ∙ ap (λ (i : ℕ). over m i 1 (f q ∷ [])) (sym z) in
-    behind l 0 q 1 (each f q) (f q ∷ []) (omega arith) (length-each f q) em s ∙ ap (λ (n : ℕ). over l 0 (q + 1) (each f n)) (sym (add-one q))
+noted-on octets places l m q x h e size em = each-more l m q (λ q. crcNote (pairFails octets places q)) x h e size em
 
 -- ---- judging: the first q notes are those of all pairs, the others still those of the CRC
 pub record Judged (octets places : List ℕ) (codebook thresholds : List ℤ) (n : ℕ) (m : List ℕ) (before : Bool) (q : ℕ) : Type 0 where

@@ -9,7 +9,7 @@ use lib.IntN.{ℤ}
 use lib.Dec.{ltb, eqb}
 use borrow.Author.Tests.{eq-eqb, ne-eqb, le-ltb, ltb-false, eqb-true, eqb-false}
 use Rattle.lists.specs.Tests.{by-test}
-use Rattle.lists.specs.Parts.{part, length-part}
+use Rattle.lists.specs.Parts.{part, over, length-part}
 use Rattle.lists.specs.Rows.{length-joined, joined-part}
 use Rattle.layout.specs.Layout.{multiframePairs, firstPair, indexOctets, reportOctets, codebookNumbers, thresholdNumbers}
 use Rattle.cutting.specs.Cutting.{Ending, whole, refused, cutting}
@@ -22,7 +22,9 @@ use Rattle.pairs.specs.Pairs.{pairCount, allFrames, pairNotes}
 use Rattle.judging.specs.Judging.{badPairs}
 use Rattle.replacing.specs.Replacing.{pairsOctets}
 use Rattle.replacing.specs.Laws.{replaced-length}
-use Rattle.reader.specs.Reading.{indexPart, reportPart, roomVerdict, settledVerdict, wholeVerdict, endVerdict, verdict}
+use Rattle.reader.specs.Reading.{indexPart, reportPart, summary, roomVerdict, settledVerdict, wholeVerdict, endVerdict, verdict, outcome, reading}
+use Rattle.reader.specs.declared.Refusal.{Refusal}
+use Rattle.reader.specs.declared.Answer.the-variants.{Read, Refused}
 use Rattle.reader.specs.declared.Verdict.{Verdict}
 use Rattle.reader.specs.declared.Verdict.the-variants.{Refuse, Accept}
 
@@ -153,6 +155,23 @@ module _ (octets : List ℕ) (codebook thresholds : List ℤ) (index report : �
         le-ltb report (reportOctets * length places) (f .roomy .report-room),
         ne-eqb (badPairs (pairNotes octets places codebook thresholds)) (pairCount places) (f .roomy .not-all),
       )
+
+-- ---- the one outcome of each input
+module _ (octets : List ℕ) (codebook thresholds : List ℤ) (index report : List ℕ) where
+  -- a refusal changes no octet of either buffer
+  pub refused-keeps : (r : Refusal) → verdict octets codebook thresholds (length index) (length report) ≡ Refuse r
+      → reading octets codebook thresholds index report ≡ outcome (Refused r) index report
+  unfolding reading
+  refused-keeps r e = rw e
+
+  -- success lays both parts over the buffers' fronts
+  pub accepted-lays : (c : ℕ) → verdict octets codebook thresholds (length index) (length report) ≡ Accept c
+      → reading octets codebook thresholds index report
+      ≡ outcome (Read (summary octets (cutting octets .places) (pairNotes octets (cutting octets .places) codebook thresholds) c))
+      (over index 0 (indexOctets * length (cutting octets .places)) (indexPart octets (cutting octets .places) (pairNotes octets (cutting octets .places) codebook thresholds)))
+      (over report 0 (reportOctets * length (cutting octets .places)) (reportPart octets (cutting octets .places) (pairNotes octets (cutting octets .places) codebook thresholds) c))
+  unfolding reading
+  accepted-lays c e = rw e
 
 -- ---- the sizes of what a reading holds
 module _ (octets places ns : List ℕ) where

@@ -12,7 +12,7 @@ use lib.IntN.{ℤ}
 use lib.Dec.{ltb, eqb}
 use Rattle.lists.specs.Tests.{when}
 use Rattle.lists.specs.Parts.{part, over, length-part, set-over, behind, over-in, drop-over, part-left}
-use Rattle.lists.specs.Rows.{joined, each-at, length-each, length-joined, same-joined}
+use Rattle.lists.specs.Rows.{joined, each-at, length-each, same-joined, joined-more}
 use Rattle.layout.specs.Layout.{frameIndices, pairFrames, multiframePairs, multiframeFrames, indexOctets, reportOctets, codebookNumbers, thresholdNumbers, firstPair}
 use Rattle.header.specs.Message.{rateOf, typeOf, expOf}
 use Rattle.header.specs.Reading.{reading as readHeader}
@@ -128,11 +128,7 @@ pub section-on : (headers ns l m n : List ℕ) (c k : ℕ) → reportOctets * k 
     → m ≡ over l 0 (reportOctets * k) (sections headers ns c k) → n ≡ over m (reportOctets * k) reportOctets (section headers ns c k)
     → n ≡ over l 0 (reportOctets * (k + 1)) (sections headers ns c (k + 1))
 section-on headers ns l m n c k room fits em en =
-    let f = section headers ns c in
-    let z : 0 + 13 * k ≡ 13 * k = omega arith in
-    let w : 13 * k + 13 ≡ 13 * (k + 1) = omega arith in
-    behind l 0 (13 * k) 13 (joined f k) (f k) (omega arith) (length-joined f 13 k (λ i h. length-section headers ns c i (omega arith))) em (en ∙ ap (λ (i : ℕ). over m i 13 (f k)) (sym z))
-    ∙ ap (λ (i : ℕ). over l 0 i (joined f k ++ f k)) w ∙ ap (λ (i : ℕ). over l 0 (13 * (k + 1)) (joined f i)) (sym (add-one k))
+    joined-more l m k (section headers ns c) reportOctets n (λ i h. length-section headers ns c i (omega arith)) room em en
 
 -- ---- the headers that read_headers stored
 module _ (octets places headers : List ℕ) (e : headers ≡ packAll octets places (length places)) where

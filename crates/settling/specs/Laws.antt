@@ -49,6 +49,29 @@ module _ (c k m f : ℕ) (mended : f ≤ 2) where
   unfolding headerNote
   note-common = same-by (eqb (countOf m) ((k + 1) % 16)) (eqb (commonBits m) c)
 
+  zero-by : (s t : Bool) → f + when s 0 4 + when t 0 8 ≡ 0 → (f ≡ 0) × (s ≡ true) × (t ≡ true)
+  zero-by true true e = (omega arith, refl, refl)
+  zero-by true false e = absurd (omega arith)
+  zero-by false true e = absurd (omega arith)
+  zero-by false false e = absurd (omega arith)
+
+  -- a note of 0: clean, in step, and as settled
+  pub note-zero : headerNote c k (Codeword m f) ≡ 0 → (f ≡ 0) × (countOf m ≡ (k + 1) % 16) × (commonBits m ≡ c)
+  unfolding headerNote
+  note-zero e =
+      let z = zero-by (eqb (countOf m) ((k + 1) % 16)) (eqb (commonBits m) c) e in
+      (z .0, eqb-true (countOf m) ((k + 1) % 16) (z .1), eqb-true (commonBits m) c (z .2))
+
+-- and a clean header that is in step and as settled has the note 0
+pub clean-note : (c k m : ℕ) → countOf m ≡ (k + 1) % 16 → commonBits m ≡ c → headerNote c k (Codeword m 0) ≡ 0
+unfolding headerNote
+clean-note c k m e s = rw (eq-eqb (countOf m) ((k + 1) % 16) e, eq-eqb (commonBits m) c s)
+
+-- a lost header is noted as lost, and no other is: its note is 3, where a readable one's flips are at most 2
+pub note-lost : (c k : ℕ) → headerNote c k Lost ≡ 3
+unfolding headerNote
+note-lost c k = refl
+
 -- ---- the settled common bits are those of two headers, and of the first two that agree
 
 -- header k is read as a codeword with these common bits

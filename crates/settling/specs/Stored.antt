@@ -15,11 +15,11 @@ use native.Mathlib.Numerals.{add-one}
 use native.Mathlib.Omega.{arith}
 use borrow.Author.Tests.{eq-eqb, ne-eqb}
 use Rattle.lists.specs.Tests.{when}
-use Rattle.lists.specs.Parts.{part, over, set-over, behind}
+use Rattle.lists.specs.Parts.{part, over}
 use Rattle.layout.specs.Layout.{multiframeOctets, syncOctets}
 use Rattle.bits.specs.Bits.{value, bits}
 use Rattle.bits.specs.Laws.{in-word, bits-part}
-use Rattle.lists.specs.Rows.{each, length-each, each-at, same-each}
+use Rattle.lists.specs.Rows.{each, length-each, each-at, same-each, each-more}
 use Rattle.header.specs.Message.{countOf, commonBits}
 use Rattle.header.specs.Reading.{ReadAs, reading}
 use Rattle.header.specs.Reading.Laws.{reads}
@@ -204,11 +204,7 @@ word-is s place x h e =
 -- ---- one header more is stored
 pub stored-on : (octets places l m : List ℕ) (k x : ℕ) → k < length l → x ≡ packed (reading (headerWord octets (getD places k 0)))
     → m ≡ over l 0 k (packAll octets places k) → length m ≡ length l → set m k x ≡ over l 0 (k + 1) (packAll octets places (k + 1))
-stored-on octets places l m k x h e em size =
-    let f : ℕ → ℕ = λ k. packed (reading (headerWord octets (getD places k 0))) in
-    let z : 0 + k ≡ k = omega arith in
-    let s : set m k x ≡ over m (0 + k) 1 (f k ∷ []) = set-over m k x (omega arith) ∙ ap (λ (y : ℕ). over m k 1 (y ∷ [])) e ∙ ap (λ (i : ℕ). over m i 1 (f k ∷ [])) (sym z) in
-    behind l 0 k 1 (each f k) (f k ∷ []) (omega arith) (length-each f k) em s ∙ ap (λ (n : ℕ). over l 0 (k + 1) (each f n)) (sym (add-one k))
+stored-on octets places l m k x h e em size = each-more l m k (λ k. packed (reading (headerWord octets (getD places k 0)))) x h e size em
 
 -- ---- what the code's branches find
 module _ (l : List ℕ) (k : ℕ) (h : k < length l) (r : Header) (e : r ≡ opened (getD l k 0)) where
