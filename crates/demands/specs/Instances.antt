@@ -28,7 +28,8 @@ use Rattle.writer.specs.Writing.{verdict, roomAnswer, firstFrom, needed}
 use Rattle.writer.specs.Made.{Small, made}
 use Rattle.writer.specs.Image.{Utterance, multiframesOf, pairsOf, imageOf}
 use Rattle.writer.specs.declared.Answer.the-variants.{Written}
-use Rattle.demands.specs.Damage.{Damage, damage-made, sentMessage}
+use Rattle.demands.specs.Damage.{Damage, sentMessage}
+use Rattle.demands.specs.Damages.{damage-made}
 use Rattle.demands.specs.ToldApart.{Equal}
 
 -- ---- utterances of one frame, one multiframe long

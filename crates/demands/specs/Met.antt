@@ -33,7 +33,8 @@ use Rattle.writer.specs.Laws.{length-image}
 use Rattle.writer.specs.Made.{Small, made, made-packet}
 use Rattle.writer.specs.Image.{image-small, image-packet, Utterance, multiframesOf, imageOf, whole-frames, writes}
 use Rattle.writer.specs.declared.Answer.the-variants.{Written}
-use Rattle.demands.specs.Damage.{Damage, damage-made, sentMessage}
+use Rattle.demands.specs.Damage.{Damage, sentMessage}
+use Rattle.demands.specs.Damages.{damage-made}
 use Rattle.demands.specs.Whole.{Lent, front-at}
 use Rattle.demands.specs.Received.{BadPair}
 use Rattle.demands.specs.ReadsBack.{spoken, padded, no-more, reads-image}

@@ -10,14 +10,23 @@ use lib.Bits.{bitXor, xor-lt, xor-mod, xor-self}
 use lib.Count.{ones, onesIn}
 use lib.Dec.{lit<}
 use lib.IntN.{ℤ}
-use lib.ListN.{length, getD, replicate}
+use lib.ListN.{length, getD, replicate, take, drop}
+use lib.Seq.{take-append-le}
+use Rattle.cutting.specs.Cutting.{cutting}
+use Rattle.replacing.specs.Speech.{speechOf, endOf}
+use Rattle.reader.specs.Reading.{indexPart, Outcome}
+use Rattle.reader.specs.ReadingLaws.{length-index}
+use Rattle.reader.specs.declared.Summary.{Summary}
+use Rattle.writer.specs.Image.{success}
+use Rattle.demands.specs.Noteless.{spoken, count-spoken, speech-lt, speech-le, speech-full}
+use Rattle.demands.specs.WritesAgain as A
 use borrow.Author.Tests.{ne-eqb}
 use Rattle.gf2.specs.Light.{ones-in}
 use Rattle.gf2.specs.Xor.{xor-swap}
 use Rattle.lists.specs.Tests.{true-false}
 use Rattle.lists.specs.Parts.{part}
 use Rattle.lists.specs.Rows.{each, joined, length-joined, joined-part}
-use Rattle.layout.specs.Layout.{packetBits, multiframePairs, multiframeOctets, mostMultiframes, streamOctets, firstPair, packetStart, multiframeOf}
+use Rattle.layout.specs.Layout.{frameIndices, multiframeFrames, indexOctets, packetBits, multiframePairs, multiframeOctets, mostMultiframes, streamOctets, firstPair, packetStart, multiframeOf}
 use Rattle.bits.specs.Bits.{field, laid}
 use Rattle.crc.specs.Crc.{crc, after, flip, Damaged}
 use Rattle.crc.specs.Damage.{length-flip, flip-burst}
@@ -40,13 +49,14 @@ use Rattle.cutting.specs.Laws.{every-length}
 use Rattle.judging.specs.Judging.{bad, badPairs}
 use Rattle.reader.specs.Reading.{outcome, reading}
 use Rattle.reader.specs.declared.Refusal.the-variants.{Unsettled, AllBad}
-use Rattle.reader.specs.declared.Answer.the-variants.{Refused}
-use Rattle.writer.specs.Writing.{verdict, roomAnswer, firstFrom, needed, image}
+use Rattle.reader.specs.declared.Answer.the-variants.{Read, Refused}
+use Rattle.writer.specs.Writing.{verdict, roomAnswer, firstFrom, needed, image, writing}
 use Rattle.writer.specs.Laws.{few-multiframes, length-image}
 use Rattle.writer.specs.Made.{Small, syncIn, wordIn, packetIn, made, made-sync, made-word, made-packet}
 use Rattle.writer.specs.Image.{image-made, image-sync, image-word, image-packet, Utterance, multiframesOf, pairsOf, imageOf, is-accepted, rate-not-2}
 use Rattle.writer.specs.declared.Answer.the-variants.{Written}
-use Rattle.demands.specs.Damage.{Damage, headerFlips, sentMessage, header-near, damage-made, differs}
+use Rattle.demands.specs.Damage.{Damage, headerFlips, sentMessage, header-near, differs}
+use Rattle.demands.specs.Damages.{damage-made}
 use Rattle.demands.specs.Instances.{lone, small-lone, says1, past-packet}
 use Rattle.demands.specs.Met.{zeroBook, zeroThresholds, indexFor, reportFor, lent-zeros, hurtWord, hurtStream, hurtImage, hurts}
 use Rattle.demands.specs.Whole.{rowOf, Lent, refuses-16, refuses-20}
@@ -292,3 +302,54 @@ pub all-bad-1 : reading (allHurt says1) zeroBook zeroThresholds (indexFor 1) (re
 all-bad-1 =
     all-bad-refuses says1 (allHurt says1) (all-hurts says1) zeroBook zeroThresholds (indexFor 1) (reportFor 1) (lent-zeros 1) (inr untouched-1)
     (all-bad says1 zeroBook zeroThresholds)
+
+-- ---- WRITES AGAIN NEEDS AN END AND NO INVERSE SYNC: of what was read and is accepted, the writer writes as many multiframes as were read if the
+-- end is 1, so whatever stood between them is gone, and one more if it is 0
+module _ (s : List ℕ) (codebook thresholds : List ℤ) (index report output : List ℕ) (given : Summary)
+    (succeeds : A.result s codebook thresholds index report output given .answer ≡ Read given) (octets : ℕ)
+    (accepts : A.again s codebook thresholds index report output given .answer ≡ Written octets) where
+  w : A.WasRead s codebook thresholds index report output given
+  w = A.was-read s codebook thresholds index report output given succeeds
+
+  abbrev places : List ℕ
+  places = cutting s .places
+
+  abbrev all : List ℕ
+  all = indexPart s places (pairNotes s places codebook thresholds)
+
+  read-size : length all ≡ frameIndices * (multiframeFrames * length places)
+  read-size = length-index s places (pairNotes s places codebook thresholds) (length-notes s places codebook thresholds) ∙ omega arith
+
+  some : 0 < length places
+  some = by (length places) (w .reader-accepts .some)
+    where
+      by : (k : ℕ) → (k ≡ 0 → ⊥) → 0 < k
+      by k h = omega arith
+
+  count : given .multiframes ≡ length places
+  count = ap (λ (g : Summary). g .multiframes) (w .given-is)
+
+  end-is : given .end ≡ endOf (length places) all
+  end-is = ap (λ (g : Summary). g .end) (w .given-is)
+
+  frames-are : take (frameIndices * given .speech) (A.result s codebook thresholds index report output given .index) ≡ spoken all (length places) some read-size
+  frames-are =
+      let n = speechOf (length places) all in
+      ap₂ (λ (k : ℕ) (o : Outcome). take (frameIndices * k) (o .index)) (ap (λ (g : Summary). g .speech) (w .given-is)) (w .result-is)
+      ∙ take-append-le (7 * n) all (drop (0 + indexOctets * length places) index) (omega (arith, read-size, speech-le all (length places) some read-size))
+
+  octets-are : octets ≡ multiframeOctets * (speechOf (length places) all / multiframeFrames + 1)
+  octets-are =
+      let x = spoken all (length places) some read-size in
+      success (given .rate) (given .kind) x output octets (ap (λ (l : List ℕ). writing (given .rate) (given .kind) l output .answer) (sym frames-are) ∙ accepts) .0
+      ∙ ap (λ (k : ℕ). multiframeOctets * (k / multiframeFrames + 1)) (count-spoken all (length places) some read-size)
+
+  pub with-end : given .end ≡ 1 → octets ≡ multiframeOctets * given .multiframes
+  with-end e =
+      let l = speech-lt all (length places) some read-size (sym end-is ∙ e) in
+      octets-are ∙ omega (arith, count)
+
+  pub without-end : given .end ≡ 0 → octets ≡ multiframeOctets * (given .multiframes + 1)
+  without-end e =
+      let l = speech-full all (length places) some read-size (sym end-is ∙ e) in
+      octets-are ∙ omega (arith, count)

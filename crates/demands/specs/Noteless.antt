@@ -32,7 +32,7 @@ use Rattle.header.specs.Reading.Laws.{reads}
 use Rattle.header.specs.declared.Header.{Header}
 use Rattle.header.specs.declared.Header.the-variants.{Codeword, Lost}
 use Rattle.settling.specs.Settling.{headerNote}
-use Rattle.replacing.specs.Speech.{zeroFrame, lastNonzero, speechOf, endOf, place-le, zero-behind, nonzero-at}
+use Rattle.replacing.specs.Speech.{zeroFrame, lastNonzero, speechOf, endOf, place-le, place-stop, zero-behind, nonzero-at}
 use Rattle.writer.specs.Writing.{frameCount, multiframesFor, image}
 use Rattle.writer.specs.Made.{Small, syncIn, wordIn, streamIn, packetIn, framed, made-again, part-within, rows}
 use Rattle.writer.specs.Image.{image-made, words, streams}
@@ -129,7 +129,18 @@ module _ (all : List ℕ) (m : ℕ) (some : 0 < m) (size : length all ≡ frameI
               let i : 24 * (m - 1) + 23 ≡ 24 * m - 1 = omega arith in
               absurd (true-false (sym z ∙ ap (zeroFrame all) (sym i) ∙ nonzero-at all (24 * (m - 1)) 24 23 l))
 
-  speech-le : speech ≤ multiframeFrames * m
+  -- and without it all frames are
+  pub speech-full : endOf m all ≡ 0 → speech ≡ multiframeFrames * m
+  speech-full e = by (zeroFrame all (24 * m - 1)) refl e
+    where
+      by : (t : Bool) → zeroFrame all (24 * m - 1) ≡ t → when {A = ℕ} t 1 0 ≡ 0 → speech ≡ 24 * m
+      by true z e = absurd (omega arith)
+      by false z e =
+          let i : 24 * (m - 1) + 23 ≡ 24 * m - 1 = omega arith in
+          let l : last ≡ 24 = place-stop all (24 * (m - 1)) 24 (omega arith) (ap (zeroFrame all) i ∙ z) in
+          omega arith
+
+  pub speech-le : speech ≤ multiframeFrames * m
   speech-le = omega (arith, place-le all (24 * (m - 1)) 24)
 
   pub length-spoken : length spoken ≡ frameIndices * speech

@@ -41,7 +41,8 @@ use Rattle.writer.specs.Laws.{length-image}
 use Rattle.writer.specs.declared.Answer.the-variants.{Written}
 use Rattle.writer.specs.Made.{wordIn}
 use Rattle.writer.specs.Image.{Nonzero, last-speaks, Utterance, multiframesOf, imageOf, is-accepted, whole-frames, writes}
-use Rattle.demands.specs.Damage.{headerFlips, unharmed}
+use Rattle.demands.specs.Damage.{headerFlips}
+use Rattle.demands.specs.Damages.{unharmed}
 use Rattle.demands.specs.Whole.{rowOf, Lent, nothing-replaced, all-zero-at}
 use Rattle.demands.specs.Received.{BadBefore, BadPair, Tells, is-so, not-so, tells-bad, sentCommon, rate-sent, kind-sent, note-of-header}
 use Rattle.demands.specs.NamesTheDamage as N

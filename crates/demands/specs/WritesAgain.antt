@@ -96,7 +96,7 @@ module _ (s : List ℕ) (codebook thresholds : List ℤ) (index report output : 
   answered d (Read a) = a
   answered d (Refused r) = d
 
-  was-read : result .answer ≡ Read given → WasRead
+  pub was-read : result .answer ≡ Read given → WasRead
   unfolding reading answered
   was-read e = by (verdict s codebook thresholds (length index) (length report)) refl e
     where
