@@ -73,7 +73,10 @@ enum dsr_status {
     /* DSR_READ_REPORT_SHORT: report buffer under 13m. Place: octets needed. */
     DSR_READ_REPORT_SHORT = 19,
     /* DSR_READ_ALL_BAD: every pair bad. Place: 0. */
-    DSR_READ_ALL_BAD = 20
+    DSR_READ_ALL_BAD = 20,
+
+    /* DSR_READ_ANSWER_SHORT: answer shorter than DSR_ANSWER_NUMBERS (not a refusal of 01). No place: all lent memory stays. */
+    DSR_READ_ANSWER_SHORT = 99
 };
 
 /* dsr_answer is the place of each number in a successful reading's answer; on a refusal the place stands at 0. */
@@ -134,7 +137,7 @@ uint32_t dsr_write(uint8_t rate, uint8_t type, const uint8_t *indices, size_t in
 
 /* dsr_read reads received octets: DSR_DONE, and answer holds the six numbers of enum dsr_answer, index the first 168m octets and report
  * the first 13m (octets beyond them stay); or a refusal, 11 to 20, the first that applies, and answer[0] is its place and no octet of
- * index and report is touched. Lend an answer of DSR_ANSWER_NUMBERS numbers. */
+ * index and report is touched. Lend an answer of DSR_ANSWER_NUMBERS numbers; fewer are refused with DSR_READ_ANSWER_SHORT. */
 uint32_t dsr_read(const uint8_t *octets, size_t octets_len, const int32_t *codebook, size_t codebook_len, const int32_t *thresholds,
                   size_t thresholds_len, uint8_t *index, size_t index_len, uint8_t *report, size_t report_len, uint64_t *answer,
                   size_t answer_len);
