@@ -94,3 +94,23 @@ pub fn store(s: &mut [u8], i: usize, w: u64, n: usize)
         s[i + k] = ((w >> (8 * k)) & 0xff) as u8;
     }
 }
+
+// Octets that a word is sure to hold of the bits from any bit of its first octet on.
+const SURE: usize = 7;
+
+// copy puts n octets of the bits from bit from on to octet to of out, seven to a word; every other octet stays. The last word ends where
+// the bits do.
+pub fn copy(s: &[u8], from: usize, n: usize, out: &mut [u8], to: usize)
+    requires { ⌜ (from + 8 * n ≤ length (now s) * 8) × (from + 8 * n + 7 < 2 ^ 64) × (8 ≤ n) × (to + n ≤ length (now out)) ⌝ }
+    ensures { λ _. ⌜ now (out .exit) ≡ over (now (out .entry)) to n (octets n (part from (8 * n) (bits (now (s .entry))))) ⌝ }
+{
+    let mut j = 0;
+    while SURE < n - j {
+        let t = from + 8 * j;
+        store(out, to + j, word(s, t / 8) >> (t % 8), SURE);
+        j += SURE;
+    }
+    let last = (from + 8 * n + 7) / 8 - 8;
+    let k = from + 8 * j - 8 * last;
+    store(out, to + j, word(s, last) >> k, n - j);
+}
