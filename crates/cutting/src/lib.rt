@@ -7,9 +7,9 @@ ghost use Rattle.layout.specs.Layout.{mostMultiframes};
 ghost use Rattle.cutting.specs.Cutting.{pieceOf, syncMet, cutting, answered, laid};
 
 // The sync in sending order, and its inverse.
-const SYNC_FIRST: u8 = 0x87;
+pub const SYNC_FIRST: u8 = 0x87;
 
-const SYNC_SECOND: u8 = 0xB2;
+pub const SYNC_SECOND: u8 = 0xB2;
 
 const INVERSE_FIRST: u8 = 0x78;
 

@@ -1,0 +1,2 @@
+pub mod Hunt
+pub mod Laws

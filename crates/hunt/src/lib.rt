@@ -1,0 +1,154 @@
+// The hunt for a multiframe at any bit: from a given bit on the smallest place at which enough bits of the sync match and the header that
+// follows is readable (02, C-13).
+use header::Header;
+use layout::MultiframeLayout;
+ghost use mathlib.Core.Path.{_≡_};
+ghost use Prim.Native.Nat.{_+_, _*_, _/_, _%_, _^_, _≤_, _<_};
+ghost use lib.ListN.{length};
+ghost use Rattle.bits.specs.Bits.{bits};
+ghost use Rattle.header.specs.Reading.{reading};
+ghost use Rattle.hunt.specs.Hunt.{syncBits, inRange, readable, headPasses, searched, placesLeft, huntedFrom, hunted, numberOf, placeOf, testedOf};
+
+// The sync's sixteen bits as a number, first sent least significant, and how many they are.
+const SYNC: u32 = 256 * (cutting::SYNC_SECOND as u32) + (cutting::SYNC_FIRST as u32);
+
+const SYNC_BITS: usize = 8 * MultiframeLayout::SYNC;
+
+const BITS: usize = 8 * MultiframeLayout::OCTETS;
+
+// How few matching bits a caller may ask for; the most are all of them.
+const FEWEST: usize = 12;
+
+// A bit's number has to fit 64 bits: octets beyond these are not searched.
+const MOST: usize = 0x1fffffffffffffff;
+
+// Why a hunt is refused; `numberOf` and `placeOf` give 02's numbers and places.
+pub enum Refusal {
+    MatchRange { least: usize },
+    Nowhere { from: usize, tested: usize },
+}
+
+// The place found and how many places were tested, it among them; or refused.
+pub enum Hunted {
+    Found { place: usize, tested: usize },
+    Refused(Refusal),
+}
+
+// Whether a header is readable.
+fn is_readable(word: u32) -> bool
+    ensures { λ r. ⌜ r ≡ readable (reading word) ⌝ }
+{
+    match header::read(word) {
+        Header::Codeword {
+            message: _,
+            flips: _,
+        } => true,
+        Header::Lost => false,
+    }
+}
+
+// The test of a place, of the bits that stand there: sixteen of a sync and then 32 of a header.
+fn passes(head: u64, least: usize) -> bool
+    requires { ⌜ least ≤ syncBits ⌝ }
+    ensures { λ r. ⌜ r ≡ headPasses least (head % 2 ^ 16) (head / 2 ^ 16 % 2 ^ 32) ⌝ }
+{
+    let off = u32::count_ones(((head & 0xffff) as u32) ^ SYNC);
+    if SYNC_BITS < least + off as usize {
+        return false;
+    }
+    is_readable(((head >> 16) & 0xffffffff) as u32)
+}
+
+// searched_bits gives how many bits are searched: their numbers have to fit 64 bits.
+pub fn searched_bits(octets: &[u8]) -> usize
+    ensures { λ r. ⌜ r ≡ searched (bits (now (octets .entry))) ⌝ }
+{
+    if MOST < octets.len() {
+        return 8 * MOST;
+    }
+    8 * octets.len()
+}
+
+// How many places have a whole multiframe's bits left.
+fn places(octets: &[u8]) -> usize
+    ensures { λ r. ⌜ r ≡ placesLeft (bits (now (octets .entry))) 0 ⌝ }
+{
+    let searched = searched_bits(octets);
+    if searched < BITS {
+        return 0;
+    }
+    searched - BITS + 1
+}
+
+// seek is the hunt itself. It asks for a number of matching bits that there can be, which hunt has tested.
+pub fn seek(octets: &[u8], from: usize, least: usize) -> Hunted
+    requires { ⌜ least ≤ syncBits ⌝ }
+    ensures { λ r. ⌜ r ≡ huntedFrom (bits (now (octets .entry))) from least ⌝ }
+{
+    let end = places(octets);
+    let mut t = from;
+    while t < end {
+        if passes(bits::word(octets, t / 8) >> (t % 8), least) {
+            return Hunted::Found {
+                place: t,
+                tested: t - from + 1,
+            };
+        }
+        t += 1;
+    }
+    Hunted::Refused(Refusal::Nowhere {
+        from,
+        tested: t - from,
+    })
+}
+
+// in_range tells whether so many matching bits may be asked for.
+pub fn in_range(least: usize) -> bool
+    ensures { λ r. ⌜ r ≡ inRange least ⌝ }
+{
+    if least < FEWEST {
+        return false;
+    }
+    least <= SYNC_BITS
+}
+
+// hunt gives the smallest place from bit from on with a whole multiframe's bits left, where at least least bits of the sync match and the
+// header behind it is readable, and how many places were tested. Nothing is asked of the caller.
+pub fn hunt(octets: &[u8], from: usize, least: usize) -> Hunted
+    ensures { λ r. ⌜ r ≡ hunted (now (octets .entry)) from least ⌝ }
+{
+    if in_range(least) {
+        return seek(octets, from, least);
+    }
+    Hunted::Refused(Refusal::MatchRange { least })
+}
+
+// number_of gives 02's number of a refusal.
+pub fn number_of(r: Refusal) -> u32
+    ensures { λ n. ⌜ n ≡ numberOf r ⌝ }
+{
+    match r {
+        Refusal::MatchRange { least: _ } => 21,
+        Refusal::Nowhere { from: _, tested: _ } => 22,
+    }
+}
+
+// place_of gives 02's place of a refusal.
+pub fn place_of(r: Refusal) -> usize
+    ensures { λ n. ⌜ n ≡ placeOf r ⌝ }
+{
+    match r {
+        Refusal::MatchRange { least } => least,
+        Refusal::Nowhere { from, tested: _ } => from,
+    }
+}
+
+// tested_of gives how many places were tested before a refusal.
+pub fn tested_of(r: Refusal) -> usize
+    ensures { λ n. ⌜ n ≡ testedOf r ⌝ }
+{
+    match r {
+        Refusal::MatchRange { least: _ } => 0,
+        Refusal::Nowhere { from: _, tested } => tested,
+    }
+}
