@@ -1,5 +1,7 @@
 // The entries for C and Rust: numbers and slices only, and nothing is asked of the caller. c/dsr.h says the same in C.
 use header::Header;
+use hunt::Hunted;
+use hunting::Counted;
 use layout::FrameLayout;
 use layout::MultiframeLayout;
 use layout::PacketLayout;
@@ -18,10 +20,15 @@ ghost use Rattle.header_code.specs.Code.{codeword};
 ghost use Rattle.header.specs.Reading.{reading};
 ghost use Rattle.writer.specs.Writing.{writing, numberOf, placeOf};
 ghost use Rattle.reader.specs.Reading.{reading as readingOf};
+ghost use Rattle.hunt.specs.Hunt.{hunted};
+ghost use Rattle.hunting.specs.Hunting.{huntingReading};
+ghost use Rattle.link.specs.Bits.{huntReturned, huntReturning, countedNumbers, numbersOf, bitsReturned, bitsReturning};
 ghost use Rattle.link.specs.Link.{answerNumbers, summaryNumbers, returned, returning, headerRead, packed, packing, unpacked, unpacking, framesOf, noteOf, markOf};
 
-// The numbers of a reading's answer, and what is answered if there is no room for them.
+// The numbers of a reading's answer, those of a hunting reading's, and what is answered if there is no room for them.
 const ANSWER: usize = 6;
+
+const COUNTED: usize = 8;
 
 const NO_ROOM: u32 = 99;
 
@@ -173,6 +180,88 @@ pub extern "C" fn dsr_read(
         Answer::Refused(r) => {
             answer[0] = reader::place_of(r) as u64;
             reader::number_of(r)
+        }
+    }
+}
+
+// dsr_hunt answers 0 and puts the bit found and the number of places tested into found and tested; or 02's number, and puts the refusal's
+// place and the number of places tested into place and tested. What it does not name stays.
+#[no_mangle]
+pub extern "C" fn dsr_hunt(
+    octets: &[u8],
+    from: u64,
+    least: u64,
+    found: &mut u64,
+    tested: &mut u64,
+    place: &mut u64,
+) -> u32
+    ensures { λ r. ⌜ huntReturned r (now (found .exit)) (now (tested .exit)) (now (place .exit)) ≡ huntReturning (now (found .entry)) (now (place .entry)) (hunted (now (octets .entry)) from least) ⌝ }
+{
+    match hunt::hunt(octets, from as usize, least as usize) {
+        Hunted::Found {
+            place: at,
+            tested: n,
+        } => {
+            *found = at as u64;
+            *tested = n as u64;
+            0
+        }
+        Hunted::Refused(r) => {
+            *tested = hunt::tested_of(r) as u64;
+            *place = hunt::place_of(r) as u64;
+            hunt::number_of(r)
+        }
+    }
+}
+
+// The eight numbers of a success: the octet reader's six, the bits outside and the places tested. It asks for their room, which
+// dsr_read_bits has tested.
+fn put_counted(c: Counted, answer: &mut [u64])
+    requires { ⌜ countedNumbers ≤ length (now answer) ⌝ }
+    ensures { λ _. ⌜ now (answer .exit) ≡ over (now (answer .entry)) 0 countedNumbers (numbersOf c) ⌝ }
+{
+    let s = c.summary;
+    put_summary(s, answer);
+    answer[6] = c.outside as u64;
+    answer[7] = c.tested as u64;
+}
+
+// dsr_read_bits is dsr_read for bits with no octet boundary: it answers 0 and puts eight numbers (dsr_read's six, bits outside, places
+// tested) into answer, and place stays; or the refusal's number, and puts its place into place, and all other lent memory stays. Room for
+// fewer than eight numbers is refused with 99, and then all lent memory stays.
+#[no_mangle]
+pub extern "C" fn dsr_read_bits(
+    octets: &[u8],
+    from: u64,
+    least: u64,
+    codebook: &[i32],
+    thresholds: &[i32],
+    index: &mut [u8],
+    report: &mut [u8],
+    answer: &mut [u64],
+    place: &mut u64,
+) -> u32
+    ensures { λ r. ⌜ bitsReturned r (now (index .exit)) (now (report .exit)) (now (answer .exit)) (now (place .exit)) ≡ bitsReturning (now (answer .entry)) (now (place .entry)) (now (index .entry)) (now (report .entry)) (huntingReading (now (octets .entry)) from least (now (codebook .entry)) (now (thresholds .entry)) (now (index .entry)) (now (report .entry))) ⌝ }
+{
+    if answer.len() < COUNTED {
+        return NO_ROOM;
+    }
+    match hunting::read(
+        octets,
+        from as usize,
+        least as usize,
+        codebook,
+        thresholds,
+        index,
+        report,
+    ) {
+        hunting::Answer::Read(c) => {
+            put_counted(c, answer);
+            0
+        }
+        hunting::Answer::Refused(r) => {
+            *place = hunting::place_of(r) as u64;
+            hunting::number_of(r)
         }
     }
 }
