@@ -15,7 +15,7 @@ LIB := library
 
 BUILD := target/outside
 ARCHIVE := target/staticlib/liblink.a
-BASELINE := baseline/header.c baseline/stream.c baseline/write.c baseline/read.c
+BASELINE := baseline/header.c baseline/stream.c baseline/write.c baseline/read.c baseline/hunt.c
 HEADERS := c/dsr.h baseline/baseline.h drive/drive.h bench/bench.h
 WARN := -std=gnu11 -Wall -Wextra -Werror
 PYTHON := /usr/bin/python3
