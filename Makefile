@@ -6,9 +6,9 @@
 # make drawing  docs/multiframe.svg anew
 # make clean    removes all that was made
 #
-# The parts of the library that have landed, in this order: header stream write read. Each one switched on here gets its comparison
-# with the independent implementation, its second program, its tests of the Rust wrapper and its rows of the benchmark.
-PARTS := header stream write read
+# The parts of the library that have landed, in this order: header stream write read hunt. Each one switched on here gets its
+# comparison with the independent implementation, its second program, its tests of the Rust wrapper and its rows of the benchmark.
+PARTS := header stream write read hunt
 
 # What the checks try: library (the proved one), or literal (the literal C version under the library's names).
 LIB := library
