@@ -4,4 +4,5 @@ pub mod driver;
 pub mod header;
 pub mod reading;
 pub mod stream;
+pub mod utterance;
 pub mod writing;
