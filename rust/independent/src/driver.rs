@@ -89,6 +89,12 @@ impl Call {
         self
     }
 
+    pub fn longs(mut self, slice: &[u64]) -> Call {
+        self.0.extend((slice.len() as u32).to_le_bytes());
+        self.0.extend(slice.iter().flat_map(|x| x.to_le_bytes()));
+        self
+    }
+
     pub fn signed(mut self, slice: &[i32]) -> Call {
         self.0.extend((slice.len() as u32).to_le_bytes());
         self.0.extend(slice.iter().flat_map(|x| x.to_le_bytes()));
@@ -116,7 +122,7 @@ impl Answer {
     }
 }
 
-/// The lent octets with `new` laid over their start.
-pub fn over(lent: &[u8], new: &[u8]) -> Vec<u8> {
+/// What was lent with `new` laid over its start.
+pub fn over<T: Clone>(lent: &[T], new: &[T]) -> Vec<T> {
     [new, &lent[new.len()..]].concat()
 }
