@@ -126,18 +126,19 @@ fn a_written_image_reads_back_at_every_bit() {
     }
 }
 
-/// Idle bits before, between and behind, an inverse sync among them, are outside; what is not a multiframe is hunted through.
+/// Idle bits before, between and behind, an inverse sync among them, are outside; they are hunted through, those behind too.
 #[test]
 fn bits_outside_are_counted() {
     let mut bits = shifted(&listing(), 3, 2);
     bits.extend([0x78, 0x4D, 0x00]);
     let second = bits.len();
     bits.extend(multiframe(HEADER_2));
-    bits.extend([0; 2]);
+    bits.extend([0; 160]);
     let (mut index, mut report) = ([0xEE; 336], [0xEE; 26]);
     let got = read_bits(&bits, 1, 16, &CODEBOOK, &THRESHOLDS, &mut index, &mut report).unwrap();
     assert_eq!((got.reading.multiframes, got.reading.speech, report), (2, 25, [0; 26]));
-    let tested = 3 + (8 * second - 3 - MULTIFRAME_BITS + 1);
+    let (before, between, behind) = (3, 8 * second - 3 - MULTIFRAME_BITS + 1, 8 * 160 - MULTIFRAME_BITS + 1);
+    let tested = before + between + behind;
     assert_eq!((got.outside, got.tested), ((8 * bits.len() - 1 - 2 * MULTIFRAME_BITS) as u64, tested as u64));
 }
 
