@@ -1,4 +1,5 @@
 //! Talks to a driver (drive/*.c), which makes each call of the library and sends back what it left in the lent memory.
+use crate::reading::REPORT;
 use std::collections::BTreeMap;
 use std::io::{BufReader, BufWriter, Read, Write};
 use std::process::{Child, ChildStdin, ChildStdout, Command, Stdio};
@@ -43,6 +44,17 @@ impl Driver {
 
     pub fn count(&mut self, name: &str, inputs: usize) {
         *self.counts.entry(name.to_string()).or_default() += inputs;
+    }
+
+    /// How often each kind of note was seen, so that a reader of the counts can tell what was tried.
+    pub fn count_notes(&mut self, report: &[u8]) {
+        let pairs = |note: u8| report.chunks(REPORT).flat_map(|part| &part[1..]).filter(|&&n| n == note).count();
+        for note in [1, 2] {
+            self.count(&format!("of these, pairs with note {note}"), pairs(note));
+        }
+        for note in report.iter().step_by(REPORT).filter(|&&note| note != 0) {
+            self.count(&format!("of these, headers with note {note:2}"), 1);
+        }
     }
 
     /// Ends the driver and prints the counts.

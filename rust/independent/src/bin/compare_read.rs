@@ -23,7 +23,7 @@ impl Check {
         let got = (number, kept, answer, back.take(rooms.0).to_vec(), back.take(rooms.1).to_vec());
         let want = match read(&self.code, octets, &tables.codebook, &tables.thresholds, rooms.0, rooms.1) {
             Ok(reading) => {
-                self.count_notes(&reading.report);
+                self.driver.count_notes(&reading.report);
                 (0, 1, reading.answer, over(&index, &reading.index), over(&report, &reading.report))
             }
             Err(refusal) => {
@@ -42,17 +42,6 @@ impl Check {
         }
         self.driver.count(name, 1);
         self.driver.count(&format!("of these answered with {number:2}"), 1);
-    }
-
-    /// How often each kind of note was seen, so that a reader of the counts can tell what was tried.
-    fn count_notes(&mut self, report: &[u8]) {
-        let pairs = |note: u8| report.chunks(REPORT).flat_map(|part| &part[1..]).filter(|&&n| n == note).count();
-        for note in [1, 2] {
-            self.driver.count(&format!("of these, pairs with note {note}"), pairs(note));
-        }
-        for note in report.iter().step_by(REPORT).filter(|&&note| note != 0) {
-            self.driver.count(&format!("of these, headers with note {note:2}"), 1);
-        }
     }
 
     /// With room to spare for as many multiframes as could be there.
