@@ -200,6 +200,7 @@ impl Check {
                 let (reading, counts) = (hunting.reading, [hunting.outside, hunting.tested]);
                 self.driver.count("of these, multiframes found and read", reading.answer[2] as usize);
                 self.driver.count("of these, readings with bits outside", (hunting.outside > 0) as usize);
+                self.driver.count_notes(&reading.report);
                 Outcome {
                     answer: over(&came.answer, &[&reading.answer[..], &counts].concat()),
                     index: over(&came.index, &reading.index),
@@ -229,13 +230,13 @@ impl Check {
         self.chance.pick(&LEASTS)
     }
 
-    /// At the start, before the end, at the end or beyond it.
+    /// Mostly the start or a bit not far from it; else anywhere up to beyond the end, or where the last places are.
     fn first_bit(&mut self, octets: &[u8]) -> u64 {
         let bits = 8 * octets.len();
-        (match self.chance.below(6) {
+        (match self.chance.below(20) {
             0 => self.chance.below(bits + 3),
-            1 => self.chance.below(200.min(bits + 1)),
-            2 => bits.saturating_sub(MULTIFRAME_BITS + self.chance.below(3)),
+            1 => bits.saturating_sub(MULTIFRAME_BITS + self.chance.below(3)),
+            2..=5 => self.chance.below(200.min(bits + 1)),
             _ => 0,
         }) as u64
     }
@@ -431,11 +432,14 @@ impl Check {
     }
 
     fn random_bits(&mut self) {
-        for _ in 0..12_000 {
+        for round in 0..12_000 {
             let n = 130 + self.chance.below(300);
             let octets = self.chance.octets(n);
             let (from, least) = (self.first_bit(&octets), self.chance.pick(&[12, 12, 12, 13, 14, 15, 16]));
-            self.both("random bits", &Search::new(&octets, from, least));
+            self.hunt("random bits", &Search::new(&octets, from, least));
+            if round % 3 == 0 {
+                self.read_roomy("random bits", &Search::new(&octets, from, 12));
+            }
         }
         for _ in 0..12_000 {
             let least = self.least();
@@ -545,10 +549,10 @@ impl Check {
                     _ => self.damage_pairs(&mut parts[k..k + 1], 3),
                 }
                 let mut bits = bits_of(&image(&parts));
-                let late = &mut bits[MULTIFRAME_BITS * k..];
+                let start = MULTIFRAME_BITS * k;
                 match kind {
-                    4 => flip(&mut self.chance, &mut late[..SYNC_BITS], 3),
-                    5 => drop(bits.splice(MULTIFRAME_BITS * k..MULTIFRAME_BITS * k, gap(&mut self.chance, 13))),
+                    4 => flip(&mut self.chance, &mut bits[start..][..SYNC_BITS], 3),
+                    5 => bits = [&bits[..start], &gap(&mut self.chance, 13), &bits[start..]].concat(),
                     _ => {}
                 }
                 let (octets, least) = (whole(&mut self.chance, &bits), self.least());
@@ -566,7 +570,7 @@ impl Check {
             for _ in 0..30 {
                 let from = 8 * octets.len() - self.chance.below(5 * MULTIFRAME_BITS);
                 let least = self.least();
-                self.hunt("first bits in the last of 255 multiframes", &Search::new(&octets, from as u64, least));
+                self.both("first bits in the last of 255 multiframes", &Search::new(&octets, from as u64, least));
             }
         }
         for _ in 0..100 {
