@@ -6,16 +6,16 @@
 # make drawing  docs/multiframe.svg anew
 # make clean    removes all that was made
 #
-# The parts of the library that have landed, in this order: header stream write read. Each one switched on here gets its comparison
-# with the independent implementation, its second program, its tests of the Rust wrapper and its rows of the benchmark.
-PARTS := header stream write read
+# The parts of the library that have landed, in this order: header stream write read hunt. Each one switched on here gets its
+# comparison with the independent implementation, its second program, its tests of the Rust wrapper and its rows of the benchmark.
+PARTS := header stream write read hunt
 
 # What the checks try: library (the proved one), or literal (the literal C version under the library's names).
 LIB := library
 
 BUILD := target/outside
 ARCHIVE := target/staticlib/liblink.a
-BASELINE := baseline/header.c baseline/stream.c baseline/write.c baseline/read.c
+BASELINE := baseline/header.c baseline/stream.c baseline/write.c baseline/read.c baseline/hunt.c
 HEADERS := c/dsr.h baseline/baseline.h drive/drive.h bench/bench.h
 WARN := -std=gnu11 -Wall -Wextra -Werror
 PYTHON := /usr/bin/python3

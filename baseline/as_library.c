@@ -31,7 +31,20 @@ uint32_t dsr_write(uint8_t rate, uint8_t type, const uint8_t *indices, size_t in
 uint32_t dsr_read(const uint8_t *octets, size_t octets_len, const int32_t *codebook, size_t codebook_len, const int32_t *thresholds,
                   size_t thresholds_len, uint8_t *index, size_t index_len, uint8_t *report, size_t report_len, uint64_t *answer,
                   size_t answer_len) {
-    (void)answer_len;
+    if (answer_len < DSR_ANSWER_NUMBERS) return DSR_READ_ANSWER_SHORT;
     return baseline_read(octets, octets_len, codebook, codebook_len, thresholds, thresholds_len, index, index_len, report, report_len,
                          answer);
+}
+
+uint32_t dsr_hunt(const uint8_t *octets, size_t octets_len, uint64_t from, uint64_t least, uint64_t *found, uint64_t *tested,
+                  uint64_t *place) {
+    return baseline_hunt(octets, octets_len, from, least, found, tested, place);
+}
+
+uint32_t dsr_read_bits(const uint8_t *octets, size_t octets_len, uint64_t from, uint64_t least, const int32_t *codebook,
+                       size_t codebook_len, const int32_t *thresholds, size_t thresholds_len, uint8_t *index, size_t index_len,
+                       uint8_t *report, size_t report_len, uint64_t *answer, size_t answer_len, uint64_t *place) {
+    if (answer_len < DSR_BITS_ANSWER_NUMBERS) return DSR_READ_ANSWER_SHORT;
+    return baseline_read_bits(octets, octets_len, from, least, codebook, codebook_len, thresholds, thresholds_len, index, index_len,
+                              report, report_len, answer, place);
 }

@@ -1,4 +1,4 @@
-/* The literal C version: each rule of document 01 done as its sentence says, bit by bit. It is what the benchmark compares the proved
+/* The literal C version: each rule of documents 01 and 02 done as its sentence says, bit by bit. It is what the benchmark compares the proved
  * library with: plain, neither clever nor slowed down. */
 #ifndef BASELINE_H
 #define BASELINE_H
@@ -17,6 +17,10 @@ enum {
     HEADER_OCTETS = 4,
     STREAM_OCTETS = PAIRS * PACKET_BITS / 8,
     MULTIFRAME_OCTETS = SYNC_OCTETS + HEADER_OCTETS + STREAM_OCTETS,
+    SYNC_BITS = 8 * SYNC_OCTETS,
+    HEADER_BITS = 8 * HEADER_OCTETS,
+    MULTIFRAME_BITS = 8 * MULTIFRAME_OCTETS,
+    LEAST_MATCH = 12,
     MOST_MULTIFRAMES = 255,
     MOST_FRAMES = FRAMES * MOST_MULTIFRAMES - 1,
     INDEX_OCTETS = FRAMES * FRAME_INDICES,
@@ -45,5 +49,12 @@ uint32_t baseline_write(uint8_t rate, uint8_t type, const uint8_t *indices, size
 uint32_t baseline_read(const uint8_t *octets, size_t octets_len, const int32_t *codebook, size_t codebook_len,
                        const int32_t *thresholds, size_t thresholds_len, uint8_t *index, size_t index_len, uint8_t *report,
                        size_t report_len, uint64_t *answer);
+
+uint32_t baseline_hunt(const uint8_t *octets, size_t octets_len, uint64_t from, uint64_t least, uint64_t *found, uint64_t *tested,
+                       uint64_t *place);
+
+uint32_t baseline_read_bits(const uint8_t *octets, size_t octets_len, uint64_t from, uint64_t least, const int32_t *codebook,
+                            size_t codebook_len, const int32_t *thresholds, size_t thresholds_len, uint8_t *index, size_t index_len,
+                            uint8_t *report, size_t report_len, uint64_t *answer, uint64_t *place);
 
 #endif

@@ -1,5 +1,6 @@
 /* Times the library against the literal C version in one run: both do the same call by turns, many times, and the best time of each
- * counts. A row says the time of both, the ratio, the target of its issue and whether it is met. */
+ * counts. A row says the time of both, the ratio, the target of its issue and whether it is met. A row of the other form holds two calls
+ * of the library against each other, and its ratio has to stay below the bound. */
 #ifndef BENCH_H
 #define BENCH_H
 
@@ -17,9 +18,13 @@ typedef void (*work)(void);
 static const char *not_judged;
 static int missed;
 
+static inline void heading(const char *part, const char *first, const char *second, const char *bound) {
+    printf("%-46s %12s %12s %8s %8s\n", part, first, second, "ratio", bound);
+}
+
 static inline void bench_start(int argc, char **argv, const char *part) {
     not_judged = argc > 1 ? argv[1] : NULL;
-    printf("%-46s %12s %12s %8s %8s\n", part, "library ns", "literal ns", "ratio", "target");
+    heading(part, "library ns", "literal ns", "target");
 }
 
 static inline double now_ns(void) {
@@ -41,24 +46,46 @@ static inline unsigned batch(work call) {
     return calls;
 }
 
-/* A target of 0 means that the row is only shown. `units` is what one call does: times are for one unit. */
-static inline void row(const char *name, double target, unsigned units, work library, work literal) {
-    unsigned library_calls = batch(library), literal_calls = batch(literal);
-    double library_best = 1e18, literal_best = 1e18;
+struct times {
+    double first, second;
+};
+
+/* The best time of one call of each, by turns. */
+static inline struct times best_times(work first, work second) {
+    unsigned first_calls = batch(first), second_calls = batch(second);
+    struct times best = {1e18, 1e18};
     for (unsigned r = 0; r < REPEATS; r++) {
-        double a = time_of(library, library_calls), b = time_of(literal, literal_calls);
-        if (a < library_best) library_best = a;
-        if (b < literal_best) literal_best = b;
+        double a = time_of(first, first_calls), b = time_of(second, second_calls);
+        if (a < best.first) best.first = a;
+        if (b < best.second) best.second = b;
     }
-    double ratio = literal_best / library_best;
-    printf("%-46s %12.1f %12.1f %8.2f ", name, library_best / units, literal_best / units, ratio);
-    if (target == 0) printf("%8s shown\n", "-");
-    else if (not_judged != NULL) printf("%8.1f not judged: %s\n", target, not_judged);
+    return best;
+}
+
+/* Both times for one unit, the ratio, its bound and the verdict. A bound of 0 means that the row is only shown. */
+static inline void print_row(const char *name, struct times t, unsigned units, double ratio, double bound, int met) {
+    printf("%-46s %12.2f %12.2f %8.2f ", name, t.first / units, t.second / units, ratio);
+    if (bound == 0) printf("%8s shown\n", "-");
+    else if (not_judged != NULL) printf("%8.1f not judged: %s\n", bound, not_judged);
     else {
-        printf("%8.1f %s\n", target, ratio >= target ? "met" : "MISSED");
-        missed += ratio < target;
+        printf("%8.1f %s\n", bound, met ? "met" : "MISSED");
+        missed += !met;
     }
     fflush(stdout);
+}
+
+/* How many times as fast the library is: at least the target. `units` is what one call does: times are for one unit. */
+static inline void row(const char *name, double target, unsigned units, work library, work literal) {
+    struct times t = best_times(library, literal);
+    double ratio = t.second / t.first;
+    print_row(name, t, units, ratio, target, ratio >= target);
+}
+
+/* How many times as long one call of the library takes as another that does less: at most the bound. */
+static inline void row_at_most(const char *name, double bound, unsigned units, work longer, work shorter) {
+    struct times t = best_times(longer, shorter);
+    double ratio = t.first / t.second;
+    print_row(name, t, units, ratio, bound, ratio <= bound);
 }
 
 static inline int bench_end(void) { return missed != 0; }

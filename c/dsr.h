@@ -35,8 +35,16 @@ extern "C" {
 #define DSR_THRESHOLD_NUMBERS 14
 /* DSR_ANSWER_NUMBERS is the length of a reading's answer. */
 #define DSR_ANSWER_NUMBERS 6
+/* DSR_BITS_ANSWER_NUMBERS is the length of the answer of a reading that hunts: those six, then two of its own. */
+#define DSR_BITS_ANSWER_NUMBERS 8
+/* DSR_MULTIFRAME_BITS is the size of a multiframe in bits, and how many have to be left where a hunt ends. */
+#define DSR_MULTIFRAME_BITS 1152
+/* DSR_LEAST_MATCH and DSR_MOST_MATCH are the range of `least`, the number of the sync's 16 bits that have to match in a hunt. */
+#define DSR_LEAST_MATCH 12
+#define DSR_MOST_MATCH 16
 
-/* dsr_status is what dsr_write and dsr_read return: 0, or the number of the refusal; beside each refusal stands its place. */
+/* dsr_status is what dsr_write, dsr_read, dsr_hunt and dsr_read_bits return: 0, or the number of the refusal; beside each refusal
+ * stands its place. */
 enum dsr_status {
     /* DSR_DONE: success. */
     DSR_DONE = 0,
@@ -62,7 +70,8 @@ enum dsr_status {
     DSR_READ_CUT = 13,
     /* DSR_READ_NO_MULTIFRAME: no multiframe. Place: octet count. */
     DSR_READ_NO_MULTIFRAME = 14,
-    /* DSR_READ_TOO_MANY: a sync after 255 multiframes, even a cut one. Place: p. */
+    /* DSR_READ_TOO_MANY: a sync after 255 multiframes, even a cut one. Place: p. In dsr_read_bits a match after 255 multiframes, a cut
+     * one is none. Place: its bit. */
     DSR_READ_TOO_MANY = 15,
     /* DSR_READ_UNSETTLED: settings not settled. Place: 0. */
     DSR_READ_UNSETTLED = 16,
@@ -75,13 +84,19 @@ enum dsr_status {
     /* DSR_READ_ALL_BAD: every pair bad. Place: 0. */
     DSR_READ_ALL_BAD = 20,
 
-    /* DSR_READ_ANSWER_SHORT: answer shorter than DSR_ANSWER_NUMBERS (not a refusal of 01). No place: all lent memory stays. */
+    /* DSR_HUNT_MATCH: least outside 12 to 16. Place: least. */
+    DSR_HUNT_MATCH = 21,
+    /* DSR_HUNT_NOWHERE: no place found by the first hunt. Place: the first bit searched. */
+    DSR_HUNT_NOWHERE = 22,
+
+    /* DSR_READ_ANSWER_SHORT: answer shorter than DSR_ANSWER_NUMBERS, in dsr_read_bits than DSR_BITS_ANSWER_NUMBERS (not a refusal of 01
+     * or 02). No place: all lent memory stays. */
     DSR_READ_ANSWER_SHORT = 99
 };
 
-/* dsr_answer is the place of each number in a successful reading's answer; on a refusal the place stands at 0. */
+/* dsr_answer is the place of each number in a successful reading's answer; on a refusal of dsr_read the place stands at 0. */
 enum dsr_answer {
-    /* DSR_ANSWER_PLACE: the refusal's place (on a refusal only). */
+    /* DSR_ANSWER_PLACE: the refusal's place (on a refusal of dsr_read only). */
     DSR_ANSWER_PLACE = 0,
     /* DSR_ANSWER_RATE: the settled sample rate code, 0 = 8 kHz, 1 = 11 kHz, 3 = 16 kHz. */
     DSR_ANSWER_RATE = 0,
@@ -94,7 +109,12 @@ enum dsr_answer {
     /* DSR_ANSWER_BAD: the number of bad pairs. */
     DSR_ANSWER_BAD = 4,
     /* DSR_ANSWER_END: 1 if the last frame is zero after replacing, else 0. */
-    DSR_ANSWER_END = 5
+    DSR_ANSWER_END = 5,
+    /* DSR_ANSWER_OUTSIDE (dsr_read_bits only): the number of bits outside the multiframes found, from the first bit searched to the end;
+     * inverse syncs and the tail are among them. */
+    DSR_ANSWER_OUTSIDE = 6,
+    /* DSR_ANSWER_TESTED (dsr_read_bits only): the number of places tested in all hunts together. */
+    DSR_ANSWER_TESTED = 7
 };
 
 /* dsr_note is what a report octet can hold: a header's flips or its loss, plus the two marks of a readable header; or a pair's note. */
@@ -141,6 +161,26 @@ uint32_t dsr_write(uint8_t rate, uint8_t type, const uint8_t *indices, size_t in
 uint32_t dsr_read(const uint8_t *octets, size_t octets_len, const int32_t *codebook, size_t codebook_len, const int32_t *thresholds,
                   size_t thresholds_len, uint8_t *index, size_t index_len, uint8_t *report, size_t report_len, uint64_t *answer,
                   size_t answer_len);
+
+/* dsr_hunt looks for a multiframe at any bit. Bit t is in octet t / 8, with value 2^(t % 8). A place passes if 1,152 bits are left there,
+ * at least `least` of its first 16 bits match the sync, and the header behind them is readable. Octets from the 2^61st on are not
+ * searched: their bits have no number of 64 bits.
+ *   DSR_DONE          *found is the smallest place from bit `from` on that passes, *tested how many were tested, found - from + 1;
+ *                     *place stays.
+ *   DSR_HUNT_MATCH    *place is least and *tested 0; *found stays.
+ *   DSR_HUNT_NOWHERE  *place is from, which may lie beyond the end, *tested how many places from `from` on have 1,152 bits left; *found
+ *                     stays. */
+uint32_t dsr_hunt(const uint8_t *octets, size_t octets_len, uint64_t from, uint64_t least, uint64_t *found, uint64_t *tested,
+                  uint64_t *place);
+
+/* dsr_read_bits hunts from bit `from` on, takes the 1,152 bits found, hunts on right behind them, and so on to the end; then it reads the
+ * multiframes found as dsr_read does, their syncs taken as whole. DSR_DONE, and answer holds the eight numbers of enum dsr_answer, index
+ * the first 168m octets and report the first 13m (octets beyond them stay), and *place stays; or a refusal, the first of 11, 21, 22 and
+ * 15 to 20 that applies, and *place is its place and answer, index and report stay as they came. Lend an answer of
+ * DSR_BITS_ANSWER_NUMBERS numbers; fewer are refused before all else with DSR_READ_ANSWER_SHORT, and then *place stays too. */
+uint32_t dsr_read_bits(const uint8_t *octets, size_t octets_len, uint64_t from, uint64_t least, const int32_t *codebook,
+                       size_t codebook_len, const int32_t *thresholds, size_t thresholds_len, uint8_t *index, size_t index_len,
+                       uint8_t *report, size_t report_len, uint64_t *answer, size_t answer_len, uint64_t *place);
 
 #ifdef __cplusplus
 }

@@ -1,6 +1,7 @@
 /* Makes random calls of the library until the time is up, and after each checks what a caller may rely on: a refusal leaves every buffer
- * as it came, octets beyond the answer stay, answers are in their range and agree with the buffers, what was written reads back, and
- * damage of the kinds that the reader is proved to see is named.
+ * as it came, octets beyond the answer stay, answers are in their range and agree with the buffers, what was written reads back,
+ * damage of the kinds that the reader is proved to see is named, a hunt ends at the first place that passes, and a reading that hunts is
+ * the reading of what the hunts find.
  *
  *   fuzz SECONDS [SEED]            runs for that time and prints how often each answer was given
  *   fuzz 0 SEED ROUND              makes the calls of one round again
@@ -13,9 +14,9 @@
 
 #include "../c/dsr.h"
 
-enum { SYNC = 2, HEADER = 4, PACKET_BITS = 92, FRAMES = 24, MARGIN = 64, PATTERN = 0xC5, STATUSES = 21, SEED = 201108 };
+enum { SYNC = 2, HEADER = 4, PACKET_BITS = 92, FRAMES = 24, MARGIN = 64, PATTERN = 0xC5, STATUSES = 100, SEED = 201108 };
 
-static uint64_t state, seed = SEED, round_number, given[STATUSES], read_back, named;
+static uint64_t state, seed = SEED, round_number, given[STATUSES], read_back, named, hunted;
 
 static uint32_t chance(uint32_t below) {
     state = state * 6364136223846793005u + 1442695040888963407u;
@@ -386,11 +387,12 @@ static struct lent lend_table(size_t numbers) {
     return l;
 }
 
-static size_t room_for(size_t each) {
-    size_t needed = each * (octets_len / DSR_MULTIFRAME_OCTETS);
+static size_t room_near(size_t needed) {
     if (chance(12) == 0) return needed == 0 ? 0 : needed - 1;
     return chance(2) ? needed : needed + chance(300);
 }
+
+static size_t room_for(size_t each) { return room_near(each * (octets_len / DSR_MULTIFRAME_OCTETS)); }
 
 static void try_read(void) {
     if (chance(20) == 0) {
@@ -480,6 +482,255 @@ static void try_damage(void) {
     give_back_kept(&codebook, "reading touched the codebook"), give_back_kept(&thresholds, "reading touched the thresholds");
 }
 
+/* --- hunting */
+
+enum { SYNC_BITS = 8 * SYNC, FRONT_BITS = 8 * (SYNC + HEADER), UNTOUCHED = 0xA55A, FEW_PLACES = 20000 };
+
+static const uint8_t whole_sync[SYNC] = {0x87, 0xB2}, inverse_sync[SYNC] = {0x78, 0x4D};
+
+/* What a modem gives: an utterance at any bit, and idle bits. There is room for the longest and for idle bits beside each multiframe. */
+static uint8_t modem[2 * sizeof octets];
+static size_t modem_bits;
+
+static unsigned bit_of(const uint8_t *from, uint64_t t) { return from[t / 8] >> t % 8 & 1; }
+
+static void send_bit(unsigned bit) {
+    if (modem_bits == 8 * sizeof modem) return;
+    if (modem_bits % 8 == 0) modem[modem_bits / 8] = 0;
+    modem[modem_bits / 8] |= (uint8_t)(bit << modem_bits % 8);
+    modem_bits++;
+}
+
+static void send_octets(const uint8_t *from, size_t len) {
+    for (size_t t = 0; t < 8 * len; t++) send_bit(bit_of(from, t));
+}
+
+/* Nothing, zeros, anything, or an inverse sync before anything. */
+static void send_idle(uint32_t most) {
+    uint32_t kind = chance(4), count = kind == 0 ? 0 : chance(most);
+    if (kind == 3) send_octets(inverse_sync, SYNC);
+    for (; count > 0; count--) send_bit(kind == 1 ? 0 : chance(2));
+}
+
+/* A multiframe, one in `one_in` of them with flips in its sync, one with flips in its header, and one with a flip anywhere. */
+static void send_multiframe(const uint8_t *multiframe, uint32_t one_in) {
+    uint8_t sent[DSR_MULTIFRAME_OCTETS];
+    memcpy(sent, multiframe, sizeof sent);
+    for (uint32_t flips = chance(one_in) == 0 ? chance(6) : 0; flips > 0; flips--) flip(sent, chance(SYNC_BITS));
+    if (chance(one_in) == 0) add_to_header(sent + SYNC, places(chance(4)));
+    if (chance(one_in) == 0) flip(sent, chance(DSR_MULTIFRAME_BITS));
+    send_octets(sent, sizeof sent);
+}
+
+/* The multiframes of an utterance, idle bits between some, and some of them a second time at the end. */
+static void send_utterance(void) {
+    uint32_t m = (uint32_t)(octets_len / DSR_MULTIFRAME_OCTETS), one_in = chance(3) ? 1 + chance(20) : 10000;
+    for (uint32_t k = 0; k < m; k++) {
+        if (chance(one_in) == 0) send_idle(100);
+        send_multiframe(octets + DSR_MULTIFRAME_OCTETS * k, one_in);
+    }
+    for (uint32_t more = chance(3); more > 0; more--) send_multiframe(octets + DSR_MULTIFRAME_OCTETS * chance(m), one_in);
+}
+
+/* A sync and a codeword anywhere: inside a multiframe it is passed over if the multiframe is found, and else it can hide the next one. */
+static void put_false_front(void) {
+    uint8_t front[SYNC + HEADER] = {0};
+    if (modem_bits < FRONT_BITS) return;
+    memcpy(front, whole_sync, SYNC);
+    add_to_header(front + SYNC, dsr_header_encode((uint16_t)chance(65536)));
+    uint32_t at = chance((uint32_t)modem_bits - FRONT_BITS + 1);
+    for (uint32_t t = 0; t < FRONT_BITS; t++)
+        if (bit_of(modem, at + t) != bit_of(front, t)) flip(modem, at + t);
+}
+
+static void fill_modem(void) {
+    uint32_t kind = chance(20);
+    modem_bits = 0;
+    send_idle(40);
+    if (kind == 0) {
+        for (uint32_t bits = chance(4000); bits > 0; bits--) send_bit(chance(2));
+    } else {
+        write_octets(chance(60) == 0 ? DSR_MOST_FRAMES - chance(26) : chance(150));
+        if (kind < 4) {
+            for (uint32_t times = chance(5); times > 0; times--) mutate();
+            send_octets(octets, octets_len);
+        } else {
+            send_utterance();
+        }
+    }
+    if (chance(6) == 0) put_false_front();
+    send_idle(60);
+    while (modem_bits % 8 != 0) send_bit(chance(2));
+}
+
+static int in_range(uint64_t least) { return least >= DSR_LEAST_MATCH && least <= DSR_MOST_MATCH; }
+
+static uint64_t some_least(void) {
+    if (chance(12) != 0) return DSR_LEAST_MATCH + chance(5);
+    return chance(2) ? chance(30) : UINT64_MAX - chance(20);
+}
+
+static uint64_t some_first_bit(void) {
+    if (chance(3) != 0) return chance(4) ? 0 : chance(60);
+    if (chance(8) == 0) return UINT64_MAX - chance(2000);
+    return chance((uint32_t)modem_bits + 100);
+}
+
+static uint64_t places_left(const struct lent *in, uint64_t from) {
+    uint64_t bits = 8 * (uint64_t)in->len;
+    return from <= bits && bits - from >= DSR_MULTIFRAME_BITS ? bits - from - DSR_MULTIFRAME_BITS + 1 : 0;
+}
+
+static int passes(const uint8_t *in, uint64_t t, uint64_t least) {
+    uint64_t matches = 0;
+    uint32_t word = 0, flips;
+    uint16_t message;
+    for (uint64_t i = 0; i < SYNC_BITS; i++) matches += bit_of(in, t + i) == bit_of(whole_sync, i);
+    if (matches < least) return 0;
+    for (uint64_t i = SYNC_BITS; i < FRONT_BITS; i++) word |= (uint32_t)bit_of(in, t + i) << (i - SYNC_BITS);
+    return dsr_header_read(word, &message, &flips) == 1;
+}
+
+static void try_hunt(const struct lent *in, uint64_t from, uint64_t least) {
+    uint64_t found = UNTOUCHED, tested = UNTOUCHED, place = UNTOUCHED, left = places_left(in, from);
+    uint32_t number = dsr_hunt(in->data, in->len, from, least, &found, &tested, &place);
+    expect(number == DSR_DONE || number == DSR_HUNT_MATCH || number == DSR_HUNT_NOWHERE, "a hunt's answer is no number of 02");
+    expect((number == DSR_HUNT_MATCH) == !in_range(least), "refusal 21 against the range");
+    given[number]++;
+    if (number == DSR_DONE) {
+        expect(found >= from && found - from < left, "a place was found where no multiframe's bits are left");
+        expect(passes(in->data, found, least), "a place was found that does not pass");
+        expect(tested == found - from + 1, "places tested are not those up to the place found");
+        expect(place == UNTOUCHED, "a hunt that ended well touched the refusal's place");
+    } else {
+        expect(found == UNTOUCHED, "a refused hunt touched the place found");
+        expect(place == (number == DSR_HUNT_MATCH ? least : from), "a refused hunt's place");
+        expect(tested == (number == DSR_HUNT_MATCH ? 0 : left), "a refused hunt's places tested");
+    }
+    uint64_t failed = number == DSR_DONE ? tested - 1 : tested;
+    for (uint64_t k = 0; k < failed && failed <= FEW_PLACES; k++) expect(!passes(in->data, from + k, least), "an earlier place passes");
+}
+
+/* What hunts one after the other find, as octets with whole syncs. */
+struct gathered {
+    size_t m;
+    uint64_t tested, too_many_at;
+    int too_many;
+    uint8_t image[DSR_MULTIFRAME_OCTETS * DSR_MOST_MULTIFRAMES];
+};
+
+static void gather(const struct lent *in, uint64_t from, uint64_t least, struct gathered *g) {
+    uint64_t at = from, found = 0, tested = 0, place = 0;
+    g->m = 0, g->tested = 0, g->too_many = 0;
+    while (dsr_hunt(in->data, in->len, at, least, &found, &tested, &place) == DSR_DONE) {
+        g->tested += tested;
+        if (g->m == DSR_MOST_MULTIFRAMES) {
+            g->too_many = 1, g->too_many_at = found;
+            return;
+        }
+        uint8_t *to = g->image + DSR_MULTIFRAME_OCTETS * g->m++;
+        memset(to, 0, DSR_MULTIFRAME_OCTETS);
+        memcpy(to, whole_sync, SYNC);
+        for (size_t t = SYNC_BITS; t < DSR_MULTIFRAME_BITS; t++)
+            if (bit_of(in->data, found + t)) flip(to, t);
+        at = found + DSR_MULTIFRAME_BITS;
+    }
+    g->tested += tested;
+}
+
+/* What is lent to a reading beside the octets. */
+struct rooms {
+    struct lent codebook, thresholds, index, report, answer;
+};
+
+static struct rooms lend_rooms(size_t m) {
+    size_t numbers = chance(15) == 0 ? chance(DSR_BITS_ANSWER_NUMBERS) : DSR_BITS_ANSWER_NUMBERS + chance(2) * chance(5);
+    struct rooms r;
+    r.codebook = lend_table(chance(40) ? DSR_CODEBOOK_NUMBERS : chance(2000));
+    r.thresholds = lend_table(chance(40) ? DSR_THRESHOLD_NUMBERS : chance(30));
+    r.index = lend_buffer(room_near(DSR_MULTIFRAME_INDICES * m));
+    r.report = lend_buffer(room_near(DSR_MULTIFRAME_REPORT * m));
+    r.answer = lend_buffer(sizeof(uint64_t) * numbers);
+    return r;
+}
+
+static uint32_t read_octets(const struct gathered *g, const struct rooms *r, struct lent *index, struct lent *report, uint64_t *a) {
+    return dsr_read(g->image, DSR_MULTIFRAME_OCTETS * g->m, (const int32_t *)r->codebook.data, r->codebook.len / 4,
+                    (const int32_t *)r->thresholds.data, r->thresholds.len / 4, index->data, index->len, report->data, report->len, a,
+                    DSR_ANSWER_NUMBERS);
+}
+
+/* The refusals that come before anything is read, in their order; 0 if there is none. */
+static uint32_t refused_before(const struct rooms *r, uint64_t from, uint64_t least, const struct gathered *g, uint64_t *place) {
+    *place = UNTOUCHED;
+    if (r->answer.len / sizeof(uint64_t) < DSR_BITS_ANSWER_NUMBERS) return DSR_READ_ANSWER_SHORT;
+    *place = 0;
+    if (r->codebook.len / 4 != DSR_CODEBOOK_NUMBERS || r->thresholds.len / 4 != DSR_THRESHOLD_NUMBERS) return DSR_READ_TABLES;
+    *place = least;
+    if (!in_range(least)) return DSR_HUNT_MATCH;
+    *place = from;
+    if (g->m == 0) return DSR_HUNT_NOWHERE;
+    *place = g->too_many_at;
+    return g->too_many ? DSR_READ_TOO_MANY : DSR_DONE;
+}
+
+/* The answer is the octet reader's, then bits outside and places tested; both buffers are as the octet reader leaves them. */
+static void check_bits_answer(const struct rooms *r, const struct gathered *g, const struct lent *index, const struct lent *report,
+                              const uint64_t *a, uint64_t searched) {
+    uint64_t got[DSR_BITS_ANSWER_NUMBERS];
+    memcpy(got, r->answer.data, sizeof got);
+    expect(memcmp(got, a, sizeof *a * DSR_ANSWER_NUMBERS) == 0, "what was found is read otherwise by octets");
+    expect(got[DSR_ANSWER_OUTSIDE] + DSR_MULTIFRAME_BITS * got[DSR_ANSWER_MULTIFRAMES] == searched, "bits outside are miscounted");
+    expect(got[DSR_ANSWER_TESTED] == g->tested, "places tested are not those of the hunts");
+    expect(memcmp(r->index.data, index->data, index->len) == 0, "the index buffer is another than by octets");
+    expect(memcmp(r->report.data, report->data, report->len) == 0, "the report is another than by octets");
+    expect(stays_from(&r->answer, sizeof got), "numbers beyond the answer were touched");
+    hunted++;
+}
+
+static void check_read_bits(const struct lent *in, const struct rooms *r, uint64_t from, uint64_t least, const struct gathered *g,
+                            uint32_t number, uint64_t place) {
+    struct lent index = lend_copy(r->index.copy, r->index.len), report = lend_copy(r->report.copy, r->report.len);
+    uint64_t a[DSR_ANSWER_NUMBERS] = {0}, right_place;
+    uint32_t right = refused_before(r, from, least, g, &right_place);
+    if (right == DSR_DONE) {
+        right = read_octets(g, r, &index, &report, a);
+        right_place = right == DSR_DONE ? UNTOUCHED : a[DSR_ANSWER_PLACE];
+    }
+    expect(number == right && place == right_place, "a hunting reading's number or place is not that of what was found");
+    if (number == DSR_DONE) {
+        check_bits_answer(r, g, &index, &report, a, 8 * in->len - from);
+    } else {
+        expect(stays_from(&r->index, 0) && stays_from(&r->report, 0), "a refused hunting reading touched a buffer");
+        expect(stays_from(&r->answer, 0), "a refused hunting reading touched the answer");
+    }
+    give_back(&index), give_back(&report);
+}
+
+static void try_read_bits(const struct lent *in, uint64_t from, uint64_t least) {
+    static struct gathered g;
+    gather(in, from, least, &g);
+    struct rooms r = lend_rooms(g.m);
+    uint64_t place = UNTOUCHED;
+    uint32_t number = dsr_read_bits(in->data, in->len, from, least, (const int32_t *)r.codebook.data, r.codebook.len / 4,
+                                    (const int32_t *)r.thresholds.data, r.thresholds.len / 4, r.index.data, r.index.len, r.report.data,
+                                    r.report.len, (uint64_t *)r.answer.data, r.answer.len / sizeof(uint64_t), &place);
+    expect(number < STATUSES, "a hunting reading's answer is no number of 01 or 02");
+    given[number]++;
+    check_read_bits(in, &r, from, least, &g, number, place);
+    give_back(&r.index), give_back(&r.report), give_back(&r.answer);
+    give_back_kept(&r.codebook, "reading touched the codebook"), give_back_kept(&r.thresholds, "reading touched the thresholds");
+}
+
+static void try_bits(void) {
+    fill_modem();
+    struct lent in = lend_copy(modem, modem_bits / 8);
+    uint64_t from = some_first_bit(), least = some_least();
+    try_hunt(&in, from, least);
+    try_read_bits(&in, from, least);
+    give_back_kept(&in, "hunting touched the octets");
+}
+
 /* --- rounds */
 
 static void play_round(void) {
@@ -490,6 +741,7 @@ static void play_round(void) {
     try_write();
     try_read();
     try_damage();
+    try_bits();
 }
 
 int main(int argc, char **argv) {
@@ -501,8 +753,9 @@ int main(int argc, char **argv) {
         return 0;
     }
     for (; time(NULL) < end; round_number++) play_round();
-    printf("seed %llu: %llu rounds, %llu utterances read back, %llu damaged images with every damaged pair named\nanswers:",
+    printf("seed %llu: %llu rounds, %llu utterances read back, %llu damaged images with every damaged pair named, ",
            (unsigned long long)seed, (unsigned long long)round_number, (unsigned long long)read_back, (unsigned long long)named);
+    printf("%llu read at any bit\nanswers:", (unsigned long long)hunted);
     for (unsigned i = 0; i < STATUSES; i++)
         if (given[i] > 0) printf(" %u:%llu", i, (unsigned long long)given[i]);
     printf("\n");

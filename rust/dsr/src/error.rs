@@ -1,4 +1,4 @@
-//! The refusals of document 01.
+//! The refusals of document 01, and those of document 02 that have landed.
 use std::fmt;
 
 macro_rules! refusals {
@@ -10,27 +10,27 @@ macro_rules! refusals {
         }
 
         impl Error {
-            /// Document 01's number of the refusal.
+            /// The document's number of the refusal.
             pub fn number(&self) -> u32 {
                 match self { $(Error::$name { .. } => $number,)* }
             }
 
-            /// Document 01's place of the refusal.
+            /// The document's place of the refusal.
             pub fn place(&self) -> u64 {
                 match *self { $(Error::$name { place } => place,)* }
             }
 
-            /// Document 01's words for when the refusal is given.
+            /// The document's words for when the refusal is given.
             pub fn words(&self) -> &'static str {
                 match self { $(Error::$name { .. } => $words,)* }
             }
 
-            /// Document 01's words for what its place is.
+            /// The document's words for what its place is.
             pub fn meaning(&self) -> &'static str {
                 match self { $(Error::$name { .. } => $meaning,)* }
             }
 
-            /// The refusal with that number, if 01 has one.
+            /// The refusal with that number, if there is one.
             pub fn new(number: u32, place: u64) -> Option<Error> {
                 match number { $($number => Some(Error::$name { place }),)* _ => None }
             }
@@ -55,15 +55,17 @@ refusals! {
     ReadIndexShort = 18, "index buffer under 168m", "octets needed";
     ReadReportShort = 19, "report buffer under 13m", "octets needed";
     ReadAllBad = 20, "every pair bad", "0";
+    HuntMatch = 21, "T outside 12 to 16", "T";
+    HuntNowhere = 22, "no place found by the first hunt", "the first bit searched";
 }
 
 impl Error {
     /// Nothing for success, else the refusal.
-    #[cfg(any(feature = "write", feature = "read"))]
+    #[cfg(any(feature = "write", feature = "read", feature = "hunt"))]
     pub(crate) fn check(number: u32, place: u64) -> Result<(), Error> {
         match number {
             0 => Ok(()),
-            _ => Err(Error::new(number, place).expect("the library answers with a number of document 01")),
+            _ => Err(Error::new(number, place).expect("the library answers with a number of the documents")),
         }
     }
 }
@@ -75,3 +77,28 @@ impl fmt::Display for Error {
 }
 
 impl std::error::Error for Error {}
+
+/// A refused hunt: the refusal, and the number of places tested all the same. It becomes the [`Error`] alone by `?`.
+#[cfg(feature = "hunt")]
+#[derive(Debug, Clone, Copy, PartialEq, Eq)]
+pub struct HuntRefused {
+    pub refusal: Error,
+    pub tested: u64,
+}
+
+#[cfg(feature = "hunt")]
+impl From<HuntRefused> for Error {
+    fn from(refused: HuntRefused) -> Error {
+        refused.refusal
+    }
+}
+
+#[cfg(feature = "hunt")]
+impl fmt::Display for HuntRefused {
+    fn fmt(&self, f: &mut fmt::Formatter) -> fmt::Result {
+        write!(f, "{}, {} places tested", self.refusal, self.tested)
+    }
+}
+
+#[cfg(feature = "hunt")]
+impl std::error::Error for HuntRefused {}

@@ -1,10 +1,12 @@
 //! Safe functions over the proved voice-link codec: ETSI ES 201 108 multiframes as document 01 condenses them.
 //!
-//! Every function takes any input. A refusal comes back as an [`Error`], with 01's number, place and words, and changes no octet of a
-//! lent buffer. The archive with the proved functions is for x86-64.
+//! Every function takes any input. A refusal comes back as an [`Error`], with its number, place and words, and changes no octet of a
+//! lent buffer. Bits are numbered as they are sent: bit t is in octet t / 8, with value 2^(t % 8). The archive with the proved functions is for x86-64.
 
 mod error;
 pub use error::Error;
+#[cfg(feature = "hunt")]
+pub use error::HuntRefused;
 
 mod library {
     extern "C" {
@@ -32,6 +34,26 @@ mod library {
             report_len: usize,
             answer: *mut u64,
             answer_len: usize,
+        ) -> u32;
+        #[cfg(feature = "hunt")]
+        pub fn dsr_hunt(octets: *const u8, octets_len: usize, from: u64, least: u64, found: *mut u64, tested: *mut u64, place: *mut u64) -> u32;
+        #[cfg(feature = "hunt")]
+        pub fn dsr_read_bits(
+            octets: *const u8,
+            octets_len: usize,
+            from: u64,
+            least: u64,
+            codebook: *const i32,
+            codebook_len: usize,
+            thresholds: *const i32,
+            thresholds_len: usize,
+            index: *mut u8,
+            index_len: usize,
+            report: *mut u8,
+            report_len: usize,
+            answer: *mut u64,
+            answer_len: usize,
+            place: *mut u64,
         ) -> u32;
     }
 }
@@ -86,7 +108,7 @@ pub fn write(rate: u8, kind: u8, indices: &[u8], out: &mut [u8]) -> Result<usize
 }
 
 /// What a reading says of an utterance.
-#[cfg(feature = "read")]
+#[cfg(any(feature = "read", feature = "hunt"))]
 #[derive(Debug, Clone, Copy, PartialEq, Eq)]
 pub struct Reading {
     /// 0 = 8 kHz, 1 = 11 kHz, 3 = 16 kHz.
@@ -100,6 +122,13 @@ pub struct Reading {
     pub bad: usize,
     /// Whether the last frame is zero, which marks the end.
     pub end: bool,
+}
+
+#[cfg(any(feature = "read", feature = "hunt"))]
+impl Reading {
+    fn of([rate, kind, multiframes, speech, bad, end]: [u64; 6]) -> Reading {
+        Reading { rate: rate as u8, kind: kind as u8, multiframes: multiframes as usize, speech: speech as usize, bad: bad as usize, end: end == 1 }
+    }
 }
 
 /// `read` reads received octets: all frames to `index` (168 octets a multiframe), a header note and twelve pair notes to `report` (13
@@ -124,6 +153,76 @@ pub fn read(octets: &[u8], codebook: &[i32], thresholds: &[i32], index: &mut [u8
         )
     };
     Error::check(number, answer[0])?;
-    let [rate, kind, multiframes, speech, bad, end] = answer;
-    Ok(Reading { rate: rate as u8, kind: kind as u8, multiframes: multiframes as usize, speech: speech as usize, bad: bad as usize, end: end == 1 })
+    Ok(Reading::of(answer))
+}
+
+/// Where a hunt ended.
+#[cfg(feature = "hunt")]
+#[derive(Debug, Clone, Copy, PartialEq, Eq)]
+pub struct Hunted {
+    /// The multiframe's first bit.
+    pub place: u64,
+    /// The number of places tested, this one among them.
+    pub tested: u64,
+}
+
+/// `hunt` finds the smallest place from bit `from` on with 1,152 bits left where at least `least` (12 to 16) of the 16 bits match the
+/// sync and the header behind them is readable.
+#[cfg(feature = "hunt")]
+pub fn hunt(octets: &[u8], from: u64, least: u64) -> Result<Hunted, HuntRefused> {
+    let (mut found, mut tested, mut place) = (0, 0, 0);
+    let number = unsafe { library::dsr_hunt(octets.as_ptr(), octets.len(), from, least, &mut found, &mut tested, &mut place) };
+    match Error::check(number, place) {
+        Ok(()) => Ok(Hunted { place: found, tested }),
+        Err(refusal) => Err(HuntRefused { refusal, tested }),
+    }
+}
+
+/// What a reading that hunts says of an utterance, and of the bits it was found in.
+#[cfg(feature = "hunt")]
+#[derive(Debug, Clone, Copy, PartialEq, Eq)]
+pub struct BitsReading {
+    pub reading: Reading,
+    /// Bits outside the multiframes found, from the first bit searched to the end; inverse syncs and the tail are among them.
+    pub outside: u64,
+    /// Places tested in all hunts together.
+    pub tested: u64,
+}
+
+/// `read_bits` hunts from bit `from` on, takes the multiframe found, hunts on right behind it, and so on to the end; what it found is
+/// read as `read` does it, its syncs taken as whole. [`Error::ReadTooMany`] is here a match after 255 multiframes, and its place a
+/// bit.
+#[cfg(feature = "hunt")]
+pub fn read_bits(
+    octets: &[u8],
+    from: u64,
+    least: u64,
+    codebook: &[i32],
+    thresholds: &[i32],
+    index: &mut [u8],
+    report: &mut [u8],
+) -> Result<BitsReading, Error> {
+    let (mut answer, mut place) = ([0u64; 8], 0);
+    let number = unsafe {
+        library::dsr_read_bits(
+            octets.as_ptr(),
+            octets.len(),
+            from,
+            least,
+            codebook.as_ptr(),
+            codebook.len(),
+            thresholds.as_ptr(),
+            thresholds.len(),
+            index.as_mut_ptr(),
+            index.len(),
+            report.as_mut_ptr(),
+            report.len(),
+            answer.as_mut_ptr(),
+            answer.len(),
+            &mut place,
+        )
+    };
+    Error::check(number, place)?;
+    let [rate, kind, multiframes, speech, bad, end, outside, tested] = answer;
+    Ok(BitsReading { reading: Reading::of([rate, kind, multiframes, speech, bad, end]), outside, tested })
 }

@@ -1,4 +1,5 @@
 //! Talks to a driver (drive/*.c), which makes each call of the library and sends back what it left in the lent memory.
+use crate::reading::REPORT;
 use std::collections::BTreeMap;
 use std::io::{BufReader, BufWriter, Read, Write};
 use std::process::{Child, ChildStdin, ChildStdout, Command, Stdio};
@@ -45,6 +46,17 @@ impl Driver {
         *self.counts.entry(name.to_string()).or_default() += inputs;
     }
 
+    /// How often each kind of note was seen, so that a reader of the counts can tell what was tried.
+    pub fn count_notes(&mut self, report: &[u8]) {
+        let pairs = |note: u8| report.chunks(REPORT).flat_map(|part| &part[1..]).filter(|&&n| n == note).count();
+        for note in [1, 2] {
+            self.count(&format!("of these, pairs with note {note}"), pairs(note));
+        }
+        for note in report.iter().step_by(REPORT).filter(|&&note| note != 0) {
+            self.count(&format!("of these, headers with note {note:2}"), 1);
+        }
+    }
+
     /// Ends the driver and prints the counts.
     pub fn end(self, at_least: usize) {
         drop(self.to);
@@ -89,6 +101,12 @@ impl Call {
         self
     }
 
+    pub fn longs(mut self, slice: &[u64]) -> Call {
+        self.0.extend((slice.len() as u32).to_le_bytes());
+        self.0.extend(slice.iter().flat_map(|x| x.to_le_bytes()));
+        self
+    }
+
     pub fn signed(mut self, slice: &[i32]) -> Call {
         self.0.extend((slice.len() as u32).to_le_bytes());
         self.0.extend(slice.iter().flat_map(|x| x.to_le_bytes()));
@@ -116,7 +134,7 @@ impl Answer {
     }
 }
 
-/// The lent octets with `new` laid over their start.
-pub fn over(lent: &[u8], new: &[u8]) -> Vec<u8> {
+/// What was lent with `new` laid over its start.
+pub fn over<T: Clone>(lent: &[T], new: &[T]) -> Vec<T> {
     [new, &lent[new.len()..]].concat()
 }

@@ -1,7 +1,10 @@
-//! Document 01 written a second time, from its text alone, and the means to compare it with the library through a driver.
+//! Document 01, and C-13 of 02, written a second time, from their text alone, and the means to compare them with the library
+//! through a driver.
 pub mod chance;
 pub mod driver;
 pub mod header;
+pub mod hunting;
 pub mod reading;
 pub mod stream;
+pub mod utterance;
 pub mod writing;

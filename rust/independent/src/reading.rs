@@ -3,7 +3,7 @@ use crate::header::{Code, Read};
 use crate::stream::{frames_of, packets_of, right, FRAME, FRAMES, INDICES, PAIRS};
 use crate::writing::{Refusal, INVERSE, MULTIFRAME, SYNC};
 
-const MOST: usize = 255;
+pub const MOST: usize = 255;
 pub const REPORT: usize = 13;
 pub const CODEBOOK: usize = 1280;
 pub const THRESHOLDS: usize = 14;

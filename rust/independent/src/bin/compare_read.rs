@@ -3,64 +3,9 @@ use independent::chance::{Chance, SEED};
 use independent::driver::{over, Call, Driver, LENT};
 use independent::header::{encode, Code};
 use independent::reading::{read, CODEBOOK, REPORT, THRESHOLDS};
-use independent::stream::{packet_of, packets_of, stream_of, INDICES, PAIRS};
-use independent::writing::{INVERSE, MULTIFRAME, SYNC};
-
-/// One multiframe before it is sent: a header word and twelve packets.
-#[derive(Clone)]
-struct Part {
-    header: u32,
-    packets: [u128; PAIRS],
-}
-
-impl Part {
-    fn octets(&self) -> Vec<u8> {
-        [&SYNC[..], &self.header.to_le_bytes(), &stream_of(&self.packets)].concat()
-    }
-}
-
-fn message(rate: u16, kind: u16, position: usize) -> u16 {
-    rate | kind << 2 | ((position % 16) as u16) << 3
-}
-
-/// A clean utterance; the last multiframe ends in zero frames.
-fn utterance(chance: &mut Chance, m: usize) -> Vec<Part> {
-    let (rate, kind) = (chance.pick(&[0, 1, 3]), chance.pick(&[0, 1]));
-    let n = 24 * (m - 1) + chance.below(24);
-    let frames: Vec<[u8; 7]> = (0..24 * m).map(|f| if f < n { chance.frame() } else { [0; 7] }).collect();
-    let part = |k: usize| Part {
-        header: encode(message(rate, kind, k + 1)),
-        packets: std::array::from_fn(|p| packet_of(&frames[24 * k + 2 * p], &frames[24 * k + 2 * p + 1])),
-    };
-    (0..m).map(part).collect()
-}
-
-fn image(parts: &[Part]) -> Vec<u8> {
-    parts.iter().flat_map(Part::octets).collect()
-}
-
-#[derive(Clone)]
-struct Tables {
-    codebook: Vec<i32>,
-    thresholds: Vec<i32>,
-}
-
-/// Nothing but zeros; values that flag about a sixth, a half or most index pairs; the ends of 32 bits.
-fn tables(chance: &mut Chance) -> Tables {
-    let zeros = Tables { codebook: vec![0; CODEBOOK], thresholds: vec![0; THRESHOLDS] };
-    let small = |chance: &mut Chance, n: usize| (0..n).map(|_| chance.below(2001) as i32 - 1000).collect();
-    let ends = [i32::MIN, i32::MIN + 1, -1, 0, 1, i32::MAX - 1, i32::MAX];
-    let edge = |chance: &mut Chance, n: usize| (0..n).map(|_| chance.pick(&ends)).collect();
-    match chance.below(8) {
-        0 => zeros,
-        1 => Tables { thresholds: vec![-1; THRESHOLDS], ..zeros },
-        2 | 3 => Tables { codebook: small(chance, CODEBOOK), thresholds: small(chance, THRESHOLDS).into_iter().map(|t: i32| t + 500).collect() },
-        4 => Tables { codebook: small(chance, CODEBOOK), thresholds: vec![1100; THRESHOLDS] },
-        5 => Tables { codebook: small(chance, CODEBOOK), thresholds: small(chance, THRESHOLDS) },
-        6 => Tables { codebook: edge(chance, CODEBOOK), thresholds: edge(chance, THRESHOLDS) },
-        _ => Tables { codebook: edge(chance, CODEBOOK), thresholds: vec![chance.pick(&[i32::MAX, i32::MAX - 1, i32::MIN]); THRESHOLDS] },
-    }
-}
+use independent::stream::{packet_of, packets_of, INDICES, PAIRS};
+use independent::utterance::{bad_packet, image, tables, utterance, Part, Tables};
+use independent::writing::{INVERSE, MULTIFRAME};
 
 struct Check {
     driver: Driver,
@@ -78,7 +23,7 @@ impl Check {
         let got = (number, kept, answer, back.take(rooms.0).to_vec(), back.take(rooms.1).to_vec());
         let want = match read(&self.code, octets, &tables.codebook, &tables.thresholds, rooms.0, rooms.1) {
             Ok(reading) => {
-                self.count_notes(&reading.report);
+                self.driver.count_notes(&reading.report);
                 (0, 1, reading.answer, over(&index, &reading.index), over(&report, &reading.report))
             }
             Err(refusal) => {
@@ -99,49 +44,11 @@ impl Check {
         self.driver.count(&format!("of these answered with {number:2}"), 1);
     }
 
-    /// How often each kind of note was seen, so that a reader of the counts can tell what was tried.
-    fn count_notes(&mut self, report: &[u8]) {
-        let pairs = |note: u8| report.chunks(REPORT).flat_map(|part| &part[1..]).filter(|&&n| n == note).count();
-        for note in [1, 2] {
-            self.driver.count(&format!("of these, pairs with note {note}"), pairs(note));
-        }
-        for note in report.iter().step_by(REPORT).filter(|&&note| note != 0) {
-            self.driver.count(&format!("of these, headers with note {note:2}"), 1);
-        }
-    }
-
     /// With room to spare for as many multiframes as could be there.
     fn compare_roomy(&mut self, name: &str, octets: &[u8], tables: &Tables) {
         let m = octets.len() / MULTIFRAME;
         let spare = self.chance.below(3) * 20;
         self.compare(name, octets, tables, (INDICES * m + spare, REPORT * m + spare));
-    }
-
-    fn bad_packet(&mut self, packet: u128) -> u128 {
-        let at = self.chance.below(92);
-        match self.chance.below(3) {
-            0 => packet ^ 1 << at,
-            1 => packet ^ (((self.chance.below(15) as u128) + 1) << at.min(88)),
-            _ => packet ^ 1 << at ^ 1 << self.chance.below(92),
-        }
-    }
-
-    fn header_damage(&mut self, part: &mut Part, most: usize) {
-        let count = self.chance.below(most + 1);
-        for place in self.chance.places(count, 32) {
-            part.header ^= 1 << place;
-        }
-    }
-
-    /// Another message in the header: other settings, an expansion bit, rate 2, another counter.
-    fn other_header(&mut self, part: &mut Part) {
-        let bit = self.chance.below(16);
-        let was = part.header as u16;
-        part.header = encode(match self.chance.below(4) {
-            0 => self.chance.word() as u16,
-            1 => was & !3 | 2,
-            _ => was ^ 1 << bit,
-        });
     }
 
     fn clean(&mut self) {
@@ -161,9 +68,9 @@ impl Check {
             let most = 1 + self.chance.below(4);
             for part in &mut parts {
                 if self.chance.once_in(4) {
-                    self.other_header(part);
+                    part.other_header(&mut self.chance);
                 }
-                self.header_damage(part, most);
+                part.header_damage(&mut self.chance, most);
             }
             let tables = tables(&mut self.chance);
             self.compare_roomy("headers with other messages and 0 to 4 flips", &image(&parts), &tables);
@@ -172,7 +79,7 @@ impl Check {
             for _ in 0..600 {
                 let mut parts = utterance(&mut self.chance, 1);
                 if self.chance.once_in(2) {
-                    self.other_header(&mut parts[0]);
+                    parts[0].other_header(&mut self.chance);
                 }
                 for place in self.chance.places(flips, 32) {
                     parts[0].header ^= 1 << place;
@@ -220,7 +127,7 @@ impl Check {
             for k in 0..m {
                 for p in 0..PAIRS {
                     if self.chance.once_in(rare) {
-                        parts[k].packets[p] = self.bad_packet(parts[k].packets[p]);
+                        parts[k].packets[p] = bad_packet(&mut self.chance, parts[k].packets[p]);
                     }
                 }
             }
@@ -403,7 +310,7 @@ impl Check {
                     part.header = self.chance.word() as u32;
                 }
                 if self.chance.once_in(3) {
-                    self.other_header(part);
+                    part.other_header(&mut self.chance);
                 }
                 for p in 0..PAIRS {
                     if all_bad || self.chance.once_in(3) {
