@@ -1,11 +1,12 @@
 -- READS BACK (demand 2). "For every accepted utterance, with 01's tables (any codebook of 1,280 and any 14 thresholds) and room: reading the
 -- written image succeeds with the same settings, m, speech equal to n, no bad pair, end 1, all notes 0, and the index buffer holds the frames as
--- written and zeros after them." Octets beyond both parts stay.
+-- written and zeros after them." Octets beyond both parts stay. The same holds where only headers were damaged and still settle the
+-- settings, but for their notes.
 -- Assumes nothing.
 use mathlib.Core.Path.{_≡_, refl, sym, ap, ap₂, _∙_, subst}
 use mathlib.Core.Bool.{Bool, true, false}
 use mathlib.Core.List.{List, [], _∷_, _++_}
-use mathlib.Core.Logic.{inr, ⊎-elim}
+use mathlib.Core.Logic.{_⊎_, inr, ⊎-elim}
 use Prim.Native.Nat.{ℕ, zero, suc, _+_, _-_, _*_, _/_, _%_, _≤_, _<_}
 use native.Mathlib.Nat.{mul-zero, mul-suc}
 use native.Mathlib.Decide.{ℕ-discrete, decLt}
@@ -39,9 +40,9 @@ use Rattle.writer.specs.Writing.{frameCount, needed, writing}
 use Rattle.writer.specs.Writing as W
 use Rattle.writer.specs.Laws.{length-image}
 use Rattle.writer.specs.declared.Answer.the-variants.{Written}
-use Rattle.writer.specs.Made.{wordIn}
-use Rattle.writer.specs.Image.{Nonzero, last-speaks, Utterance, multiframesOf, imageOf, is-accepted, whole-frames, writes}
-use Rattle.demands.specs.Damage.{headerFlips}
+use Rattle.writer.specs.Made.{wordIn, packetIn}
+use Rattle.writer.specs.Image.{Nonzero, last-speaks, Utterance, multiframesOf, pairsOf, imageOf, is-accepted, whole-frames, writes}
+use Rattle.demands.specs.Damage.{Damage, headerFlips}
 use Rattle.demands.specs.Damages.{unharmed}
 use Rattle.demands.specs.Whole.{rowOf, Lent, nothing-replaced, all-zero-at}
 use Rattle.demands.specs.Received.{BadBefore, BadPair, Tells, is-so, not-so, tells-bad, sentCommon, rate-sent, kind-sent, note-of-header}
@@ -54,6 +55,10 @@ spoken u = record { rate = u .rate; kind = u .kind; multiframes = multiframesOf 
 -- the frames as written and zeros after them
 abbrev pub padded : Utterance → List ℕ
 padded u = u .indices ++ replicate (indexOctets * multiframesOf u - length (u .indices)) 0
+
+-- the report where only headers were mended: each header's flips, and no pair named
+abbrev pub mendedReport : Utterance → List ℕ → List ℕ
+mendedReport u s = joined (λ k. headerFlips (imageOf u) s k ∷ replicate multiframePairs 0) (multiframesOf u)
 
 -- ---- lists of zeros
 zeros : (l : List ℕ) → ((i : ℕ) → i < length l → getD l i 0 ≡ 0) → l ≡ replicate (length l) 0
@@ -150,31 +155,28 @@ module _ (u : Utterance) where
   end-is-1 : endOf m (padded u) ≡ 1
   end-is-1 = rw (zero-past (24 * m - 1) (omega arith) (omega arith))
 
--- ---- the image as the reader takes it: nothing is damaged in it
-module _ (u : Utterance) (codebook thresholds : List ℤ) (index report : List ℕ) (lent : Lent (multiframesOf u) codebook thresholds index report) where
-  abbrev s : List ℕ
-  s = imageOf u
-
+-- ---- the image as the reader takes it, with no pair damaged: so none is bad, whatever the tables
+module _ (u : Utterance) (s : List ℕ) (d : Damage (multiframesOf u) (imageOf u) s) (untouched : (q : ℕ) → q < pairsOf u → packetIn s q ≡ packetIn (imageOf u) q)
+    (headers : (2 ≤ multiframesOf u) ⊎ (headerFlips (imageOf u) s 0 ≡ 0)) (codebook thresholds : List ℤ) (index report : List ℕ)
+    (lent : Lent (multiframesOf u) codebook thresholds index report) where
   abbrev places : List ℕ
   places = rowOf (multiframesOf u)
 
   abbrev ns : List ℕ
   ns = pairNotes s places codebook thresholds
 
-  never-before : (q : ℕ) → BadBefore u s codebook thresholds q → ⊥
+  never-before : (q : ℕ) → q ≤ pairsOf u → BadBefore u s codebook thresholds q → ⊥
   unfolding BadBefore
-  never-before zero b = b
-  never-before (suc q) b = ⊎-elim (λ t. t refl) (λ r. ⊎-elim (λ x. x .1 refl) (never-before q) (r .1)) b
+  never-before zero h b = b
+  never-before (suc q) h b =
+      ⊎-elim (λ t. t (untouched q (omega arith))) (λ r. ⊎-elim (λ x. x .1 (untouched (suc q) (x .0))) (never-before q (omega arith)) (r .1)) b
 
-  never-bad : (q : ℕ) → BadPair u s codebook thresholds q → ⊥
+  never-bad : (q : ℕ) → q < pairsOf u → BadPair u s codebook thresholds q → ⊥
   unfolding BadBefore
-  never-bad q = never-before (suc q)
-
-  no-flips : (k : ℕ) → headerFlips s s k ≡ 0
-  no-flips k = ap ones (xor-self (wordIn s k)) ∙ omega (arith, ones-le 0 0 (lit< tt))
+  never-bad q h = never-before (suc q) (omega arith)
 
   premises : N.Premises u s codebook thresholds index report
-  premises = record { damage = unharmed u; headers = inr (no-flips 0); pair = 0; within = omega arith; not-bad = never-bad 0; lent = lent }
+  premises = record { damage = d; headers = headers; pair = 0; within = omega arith; not-bad = never-bad 0 (omega arith); lent = lent }
 
   rows : length places ≡ multiframesOf u
   rows = every-length 0 (multiframesOf u)
@@ -182,28 +184,32 @@ module _ (u : Utterance) (codebook thresholds : List ℤ) (index report : List �
   notes-size : length ns ≡ pairCount places
   notes-size = length-notes s places codebook thresholds
 
-  -- all notes are 0
+  -- all pair notes are 0
   pair-notes : (q : ℕ) → q < length ns → getD ns q 0 ≡ 0
-  pair-notes q h = by (tells-bad u s (unharmed u) codebook thresholds q (omega (arith, notes-size, rows)))
+  pair-notes q h = by (tells-bad u s d codebook thresholds q within)
     where
+      within : q < pairsOf u
+      within = omega (arith, notes-size, rows)
+
       by : Tells (BadPair u s codebook thresholds q) (bad (getD ns q 0)) → getD ns q 0 ≡ 0
-      by (is-so x e) = absurd (never-bad q x)
+      by (is-so x e) = absurd (never-bad q within x)
       by (not-so x e) = eqb-true (getD ns q 0) 0 (not-false (eqb (getD ns q 0) 0) e)
 
   note-row : (k : ℕ) → k < length places
-      → headerNote (sentCommon u) k (getD (readings s places) k Lost) ∷ part (firstPair k) multiframePairs ns ≡ replicate reportOctets 0
+      → headerNote (sentCommon u) k (getD (readings s places) k Lost) ∷ part (firstPair k) multiframePairs ns ≡ headerFlips (imageOf u) s k ∷ replicate multiframePairs 0
   note-row k h =
       let p = part (12 * k) 12 ns in
       let l : length p ≡ 12 = length-part ns (12 * k) 12 (omega (arith, notes-size)) in
-      ap₂ (λ (x : ℕ) (y : List ℕ). x ∷ y) (note-of-header u s (unharmed u) k (omega (arith, rows)) ∙ no-flips k)
+      ap₂ (λ (x : ℕ) (y : List ℕ). x ∷ y) (note-of-header u s d k (omega (arith, rows)))
       (zeros p (λ i j. getD-take 12 (drop (12 * k) ns) i 0 (omega (arith, l)) ∙ getD-drop (12 * k) ns i 0 ∙ pair-notes (12 * k + i) (omega (arith, l, notes-size)))
       ∙ ap (λ (w : ℕ). replicate w 0) l)
 
-  report-is : reportPart s places ns (sentCommon u) ≡ replicate (reportOctets * multiframesOf u) 0
+  report-is : reportPart s places ns (sentCommon u) ≡ mendedReport u s
   unfolding reportPart
   report-is =
-      same-joined (λ k. headerNote (sentCommon u) k (getD (readings s places) k Lost) ∷ part (firstPair k) multiframePairs ns) (λ k. replicate reportOctets 0) (length places) note-row
-      ∙ zero-rows reportOctets (length places) ∙ ap (λ (k : ℕ). replicate (reportOctets * k) 0) rows
+      same-joined (λ k. headerNote (sentCommon u) k (getD (readings s places) k Lost) ∷ part (firstPair k) multiframePairs ns)
+      (λ k. headerFlips (imageOf u) s k ∷ replicate multiframePairs 0) (length places) note-row
+      ∙ ap (joined (λ k. headerFlips (imageOf u) s k ∷ replicate multiframePairs 0)) rows
 
   -- nothing is replaced
   kept : replaced ns (allFrames s places) ≡ allFrames s places
@@ -246,13 +252,30 @@ module _ (u : Utterance) (codebook thresholds : List ℤ) (index report : List �
       ∙ ap₂ (λ (a b : ℕ). make (u .rate) (u .kind) (multiframesOf u) (frameCount (u .indices)) a b) z y in
       p
 
-  proof : reading s codebook thresholds index report
-      ≡ outcome (Read (spoken u)) (over index 0 (indexOctets * multiframesOf u) (padded u)) (over report 0 (reportOctets * multiframesOf u) (replicate (reportOctets * multiframesOf u) 0))
-  proof =
+  -- HEADERS MENDED: with no pair damaged and the settings settled, headers of at most two flips cost nothing but their notes
+  pub reads-mended : reading s codebook thresholds index report
+      ≡ outcome (Read (spoken u)) (over index 0 (indexOctets * multiframesOf u) (padded u)) (over report 0 (reportOctets * multiframesOf u) (mendedReport u s))
+  reads-mended =
       N.read-is u s codebook thresholds index report premises
       ∙ ap₂ (λ (a : Summary) (i : List ℕ). outcome (Read a) i (over report 0 (reportOctets * length places) (reportPart s places ns (sentCommon u)))) answer-is
       (ap₂ (λ (k : ℕ) (l : List ℕ). over index 0 (indexOctets * k) l) rows index-is)
       ∙ ap (outcome (Read (spoken u)) (over index 0 (indexOctets * multiframesOf u) (padded u))) (ap₂ (λ (k : ℕ) (l : List ℕ). over report 0 (reportOctets * k) l) rows report-is)
+
+-- ---- the image itself: nothing was mended, so its report is zeros
+no-flips : (s : List ℕ) (k : ℕ) → headerFlips s s k ≡ 0
+no-flips s k = ap ones (xor-self (wordIn s k)) ∙ omega (arith, ones-le 0 0 (lit< tt))
+
+report-clean : (u : Utterance) → mendedReport u (imageOf u) ≡ replicate (reportOctets * multiframesOf u) 0
+report-clean u =
+    same-joined (λ k. headerFlips (imageOf u) (imageOf u) k ∷ replicate multiframePairs 0) (λ k. replicate reportOctets 0) (multiframesOf u)
+    (λ k h. ap (λ (x : ℕ). x ∷ replicate multiframePairs 0) (no-flips (imageOf u) k)) ∙ zero-rows reportOctets (multiframesOf u)
+
+pub reads-image : (u : Utterance) (codebook thresholds : List ℤ) (index report : List ℕ) → Lent (multiframesOf u) codebook thresholds index report
+    → reading (imageOf u) codebook thresholds index report
+    ≡ outcome (Read (spoken u)) (over index 0 (indexOctets * multiframesOf u) (padded u)) (over report 0 (reportOctets * multiframesOf u) (replicate (reportOctets * multiframesOf u) 0))
+reads-image u codebook thresholds index report lent =
+    reads-mended u (imageOf u) (unharmed u) (λ q h. refl) (inr (no-flips (imageOf u) 0)) codebook thresholds index report lent
+    ∙ ap (λ (r : List ℕ). outcome (Read (spoken u)) (over index 0 (indexOctets * multiframesOf u) (padded u)) (over report 0 (reportOctets * multiframesOf u) r)) (report-clean u)
 
 -- ---- the theorem, over what the writer leaves in an output
 module _ (u : Utterance) (codebook thresholds : List ℤ) (output index report : List ℕ) where
@@ -286,7 +309,7 @@ module _ (u : Utterance) (codebook thresholds : List ℤ) (output index report :
   back : Premises → Back
   back p =
       let e : result ≡ outcome (Read (spoken u)) (over index 0 (indexOctets * multiframesOf u) (padded u)) (over report 0 (reportOctets * multiframesOf u) (replicate (reportOctets * multiframesOf u) 0)) =
-      ap (λ (i : List ℕ). reading i codebook thresholds index report) (image-back (p .output-room)) ∙ proof u codebook thresholds index report (p .lent) in
+      ap (λ (i : List ℕ). reading i codebook thresholds index report) (image-back (p .output-room)) ∙ reads-image u codebook thresholds index report (p .lent) in
       record {
         accepted = ap (λ (o : W.Outcome). o .answer) (writes u output (p .output-room));
         succeeds = ap (λ (o : Outcome). o .answer) e;
@@ -297,9 +320,3 @@ module _ (u : Utterance) (codebook thresholds : List ℤ) (output index report :
 pub reads-back : (u : Utterance) (codebook thresholds : List ℤ) (output index report : List ℕ) → Premises u codebook thresholds output index report
     → Back u codebook thresholds output index report
 reads-back = back
-
--- the same of the image itself, in one equation
-pub reads-image : (u : Utterance) (codebook thresholds : List ℤ) (index report : List ℕ) → Lent (multiframesOf u) codebook thresholds index report
-    → reading (imageOf u) codebook thresholds index report
-    ≡ outcome (Read (spoken u)) (over index 0 (indexOctets * multiframesOf u) (padded u)) (over report 0 (reportOctets * multiframesOf u) (replicate (reportOctets * multiframesOf u) 0))
-reads-image = proof
