@@ -3,24 +3,24 @@
 use Prim.Native.Nat.{ℕ, zero, suc, _+_, _-_, _*_, _/_, _%_, _^_, _≤_, _<_}
 use mathlib.Core.Path.{_≡_, refl, sym, ap, ap₂, _∙_, subst}
 use mathlib.Core.Bool.{Bool, true, false}
-use mathlib.Core.List.{List, [], _∷_}
+use mathlib.Core.List.{List}
 use native.Mathlib.Nat.{div-div-eq-div-mul, mod-lt}
 use native.Mathlib.Omega.{arith}
 use lib.Arith.{lt-one}
-use lib.Bits.{bitAnd, bitXor, and-mask, xor-lt, xor-shr, xor-mod}
+use lib.Bits.{bitAnd, bitXor, and-mask, xor-shr, xor-mod}
 use lib.Count.{ones, ones-step, ones-le}
-use lib.Dec.{ltb, leb, eqb, lit<}
+use lib.Dec.{leb, eqb, lit<}
 use lib.ListN.{length}
 use lib.Pow.{pow-add, pow-pos}
-use borrow.Author.Tests.{le-leb, lt-leb, lt-ltb, le-ltb, ltb-true}
+use borrow.Author.Tests.{le-leb, lt-leb, lt-ltb, le-ltb}
 use Rattle.gf2.specs.Xor.{digit, low}
-use Rattle.lists.specs.Tests.{when, both, by-test}
+use Rattle.lists.specs.Tests.{both}
 use Rattle.lists.specs.Parts.{part, length-part}
-use Rattle.bits.specs.Bits.{odd, field, value, fields, bits}
+use Rattle.bits.specs.Bits.{field, value, fields, bits}
 use Rattle.bits.specs.Laws.{length-bits, field-value, in-word}
 use Rattle.header.specs.Reading.{reading}
 use Rattle.hunt.specs.Hunt.{syncBits, multiframeBits, sync, fewestMatches, inRange, alike, matches, readable, passes, headPasses, searched, placesLeft, misses, found, huntedFrom, hunted}
-use Rattle.hunt.specs.Laws.{searched-le, searched-lt, misses-none, misses-hit, misses-on, misses-le}
+use Rattle.hunt.specs.Laws.{searched-le, misses-none, misses-hit, misses-on}
 use Rattle.hunt.specs.declared.Hunted.{Hunted}
 use Rattle.hunt.specs.declared.Hunted.the-variants.{Found, Refused}
 use Rattle.hunt.specs.declared.Refusal.the-variants.{MatchRange, Nowhere}

@@ -1,17 +1,19 @@
 -- What a reader of 02 would ask of the hunt: the place found is the smallest that passes, none is refused exactly if there is none, and so
 -- many places are tested.
 -- Assumes nothing.
-use Prim.Native.Nat.{ℕ, zero, suc, _+_, _-_, _*_, _/_, _%_, _^_, _≤_, _<_}
+use Prim.Native.Nat.{ℕ, zero, suc, _+_, _-_, _^_, _≤_, _<_}
 use mathlib.Core.Path.{_≡_, refl, sym, ap, ap₂, _∙_, subst}
 use mathlib.Core.Bool.{Bool, true, false}
-use mathlib.Core.List.{List, [], _∷_}
+use mathlib.Core.List.{List}
 use native.Mathlib.Omega.{arith}
 use native.Mathlib.Decide.{decLt}
+use mathlib.Core.Logic.{_↔_}
+use Rattle.bits.specs.Bits.{bits}
 use lib.ListN.{length}
 use lib.Dec.{ltb, leb}
 use borrow.Author.Tests.{le-leb, leb-true, le-ltb, ltb-true, ltb-false}
 use Rattle.lists.specs.Tests.{when, both, by-test, true-false}
-use Rattle.hunt.specs.Hunt.{multiframeBits, inRange, passes, placesLeft, searched, misses, found, huntedFrom}
+use Rattle.hunt.specs.Hunt.{multiframeBits, inRange, passes, placesLeft, searched, misses, found, huntedFrom, hunted}
 use Rattle.hunt.specs.declared.Hunted.{Hunted}
 use Rattle.hunt.specs.declared.Hunted.the-variants.{Found, Refused}
 use Rattle.hunt.specs.declared.Refusal.the-variants.{MatchRange, Nowhere}
@@ -128,3 +130,27 @@ once least l from (Refused (Nowhere f m)) (Found p n) a b = absurd (true-false (
 once least l from (Refused (Nowhere f m)) (Refused (Nowhere g n)) a b = ap₂ (λ (x y : ℕ). Refused (Nowhere x y)) (a .0 ∙ sym (b .0)) (a .2 ∙ sym (b .2))
 once least l from (Refused (Nowhere f m)) (Refused (MatchRange t)) a b = absurd b
 once least l from (Refused (MatchRange t)) s a b = absurd a
+
+-- 22 EXACTLY IF NO PLACE PASSES, and then all places were tested
+pub nowhere-exactly : (least : ℕ) (l : List Bool) (from : ℕ)
+    → (huntedFrom l from least ≡ Refused (Nowhere from (placesLeft l from))) ↔ ((t : ℕ) → from ≤ t → t + multiframeBits ≤ searched l → passes least l t ≡ false)
+nowhere-exactly least l from = (
+  λ e t h i. subst (Says least l from) e (says least l from) .1 t h i,
+  λ none. once least l from (huntedFrom l from least) (Refused (Nowhere from (placesLeft l from))) (says least l from) (refl, none, refl),
+)
+
+-- 21 EXACTLY IF T IS OUTSIDE ITS RANGE, and else the hunt is what was said above
+pub range-exactly : (s : List ℕ) (from least : ℕ) → (hunted s from least ≡ Refused (MatchRange least)) ↔ (inRange least ≡ false)
+unfolding hunted
+range-exactly s from least = (by (inRange least) refl, λ e. rw e)
+  where
+    other : (h : Hunted) → Says least (bits s) from h → h ≡ Refused (MatchRange least) → ⊥
+    other h a e = subst (Says least (bits s) from) e a
+
+    by : (b : Bool) → inRange least ≡ b → when b (huntedFrom (bits s) from least) (Refused (MatchRange least)) ≡ Refused (MatchRange least) → b ≡ false
+    by true r e = absurd (other (huntedFrom (bits s) from least) (says least (bits s) from) e)
+    by false r e = refl
+
+pub hunts : (s : List ℕ) (from least : ℕ) → inRange least ≡ true → hunted s from least ≡ huntedFrom (bits s) from least
+unfolding hunted
+hunts s from least e = rw e

@@ -1,2 +1,3 @@
 pub mod Hunt
 pub mod Laws
+pub mod Examples

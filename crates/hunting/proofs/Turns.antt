@@ -1,23 +1,22 @@
 -- The turns of `gather`: what is still to be found, laid behind the multiframes already taken, makes the whole.
 -- Assumes nothing.
-use Prim.Native.Nat.{ℕ, zero, suc, _+_, _-_, _*_, _^_, _≤_, _<_}
+use Prim.Native.Nat.{ℕ, zero, suc, _+_, _-_, _*_, _≤_, _<_}
 use mathlib.Core.Path.{_≡_, refl, sym, ap, ap₂, _∙_, subst}
 use mathlib.Core.List.{List, [], _∷_, _++_, append-assoc, append-nil}
 use mathlib.Core.Bool.{Bool}
 use native.Mathlib.Omega.{arith}
-use lib.ListN.{length, take, drop, length-append}
-use lib.Seq.{take-at}
-use Rattle.lists.specs.Parts.{part, over, length-over, take-over}
+use lib.ListN.{length, take, length-append}
+use Rattle.lists.specs.Parts.{over, length-over, take-over}
 use Rattle.layout.specs.Layout.{multiframeOctets, mostMultiframes}
 use Rattle.bits.specs.Bits.{bits}
-use Rattle.hunt.specs.Hunt.{multiframeBits, searched, placesLeft, huntedFrom, testedOf}
+use Rattle.hunt.specs.Hunt.{multiframeBits, searched, huntedFrom, testedOf}
 use Rattle.hunt.specs.Laws.{Says, says}
 use Rattle.hunt.specs.declared.Hunted.{Hunted}
 use Rattle.hunt.specs.declared.Hunted.the-variants as H
 use Rattle.hunt.specs.declared.Refusal.{Refusal}
 use Rattle.hunt.specs.declared.Refusal.the-variants as HR
 use Rattle.hunting.specs.Hunting.{Ending, whole, tooMany, Gathering, ended, prepend, step, last, gathering, aligned, imageOf, answeredBy, answered, LaidBy, Laid}
-use Rattle.hunting.specs.Laws.{length-aligned, length-image, image-more}
+use Rattle.hunting.specs.Laws.{length-aligned, image-more}
 use Rattle.hunting.specs.declared.Gathered.{Gathered}
 use Rattle.hunting.specs.declared.Gathered.the-variants as G
 

@@ -23,7 +23,6 @@ use Rattle.hunting.specs.declared.Gathered.{Gathered}
 use Rattle.hunting.specs.declared.Gathered.the-variants as G
 use Rattle.hunting.specs.declared.Refusal.{Refusal}
 use Rattle.hunting.specs.declared.Refusal.the-variants.{Octets, MatchRange, Nowhere, TooMany}
-use Rattle.hunting.specs.declared.Counted.{Counted}
 use Rattle.hunting.specs.declared.Answer.{Answer}
 use Rattle.hunting.specs.declared.Answer.the-variants.{Read, Refused}
 

@@ -1,7 +1,7 @@
 -- What a reader of 02 would ask of the hunting reading.
 -- Assumes nothing.
-use Prim.Native.Nat.{ℕ, zero, suc, _+_, _-_, _*_, _≤_, _<_}
-use mathlib.Core.Path.{_≡_, refl, sym, ap, ap₂, _∙_, subst}
+use Prim.Native.Nat.{ℕ, zero, suc, _+_, _*_, _≤_, _<_}
+use mathlib.Core.Path.{_≡_, refl, sym, ap, _∙_}
 use mathlib.Core.Logic.{_⊎_, inl, inr}
 use mathlib.Core.List.{List, [], _∷_, _++_, append-assoc}
 use mathlib.Core.Bool.{Bool, true}
@@ -11,7 +11,7 @@ use lib.ListN.{length, length-append}
 use Rattle.lists.specs.Tests.{true-false}
 use Rattle.layout.specs.Layout.{multiframeOctets}
 use Rattle.bits.specs.Laws.{length-octets}
-use Rattle.hunt.specs.Hunt.{multiframeBits, searched, passes, placesLeft, huntedFrom}
+use Rattle.hunt.specs.Hunt.{multiframeBits, searched, passes, huntedFrom}
 use Rattle.hunt.specs.Laws.{Says, says}
 use Rattle.hunt.specs.declared.Hunted.{Hunted}
 use Rattle.hunt.specs.declared.Hunted.the-variants as H
@@ -33,7 +33,7 @@ abbrev pub Ends : Ending → Type 0
 Ends whole = Unit
 Ends (tooMany p) = ⊥
 
-module _ (l : List Bool) (least t : ℕ) (room : t + multiframeBits ≤ searched l) (test : passes least l t ≡ true) where
+module _ (l : List Bool) (least t : ℕ) (room : t + multiframeBits ≤ searched l) (own : passes least l t ≡ true) where
   met : (at : ℕ) (h : Hunted) (on : ℕ → Gathering) → at ≤ t → Says least l at h
       → ((p : ℕ) → p + multiframeBits ≤ t → Ends (on p .ending) → Among t (on p .places) ⊎ Overlapped t (on p .places))
       → Ends (step h on .ending) → Among t (step h on .places) ⊎ Overlapped t (step h on .places)
@@ -42,7 +42,7 @@ module _ (l : List Bool) (least t : ℕ) (room : t + multiframeBits ≤ searched
         | yes q ↦ inl (inl q)
         | no d ↦
             elim (decLt t p) [
-              | yes y ↦ absurd (true-false (sym test ∙ s .3 t le y))
+              | yes y ↦ absurd (true-false (sym own ∙ s .3 t le y))
               | no y ↦
                   elim (decLt t (p + multiframeBits)) [
                     | yes z ↦ inr (inl (omega arith, z))
@@ -54,15 +54,15 @@ module _ (l : List Bool) (least t : ℕ) (room : t + multiframeBits ≤ searched
       beyond : Among t (on p .places) ⊎ Overlapped t (on p .places) → Among t (p ∷ on p .places) ⊎ Overlapped t (p ∷ on p .places)
       beyond (inl a) = inl (inr a)
       beyond (inr a) = inr (inr a)
-  met at (H.Refused (HR.Nowhere f n)) on le s next e = absurd (true-false (sym test ∙ s .1 t le room))
+  met at (H.Refused (HR.Nowhere f n)) on le s next e = absurd (true-false (sym own ∙ s .1 t le room))
   met at (H.Refused (HR.MatchRange k)) on le s next e = absurd s
 
   met-last : (at : ℕ) (h : Hunted) → at ≤ t → Says least l at h → Ends (last h .ending) → ⊥
   met-last at (H.Found p n) le s e = e
-  met-last at (H.Refused (HR.Nowhere f n)) le s e = absurd (true-false (sym test ∙ s .1 t le room))
+  met-last at (H.Refused (HR.Nowhere f n)) le s e = absurd (true-false (sym own ∙ s .1 t le room))
   met-last at (H.Refused (HR.MatchRange k)) le s e = s
 
-  -- A WHOLE MULTIFRAME whose own place test the test IS TAKEN, or an earlier one that was taken overlaps it
+  -- A WHOLE MULTIFRAME whose own place passes the test IS TAKEN, or an earlier one that was taken overlaps it
   pub taken : (k at : ℕ) → at ≤ t → Ends (gathering l least k at .ending) → Among t (gathering l least k at .places) ⊎ Overlapped t (gathering l least k at .places)
   unfolding gathering
   taken zero at le e = absurd (met-last at (huntedFrom l at least) le (says least l at) e)

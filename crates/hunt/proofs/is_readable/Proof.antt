@@ -1,5 +1,5 @@
 -- `is_readable` meets its contract. Assumes nothing.
-use mathlib.Core.Path.{_≡_, ap, sym, _∙_}
+use mathlib.Core.Path.{ap, sym, _∙_}
 use Rattle.hunt.specs.Hunt.{readable}
 use borrow.Author.Needs.{needs}
 use Rattle.hunt.proofs.is_readable.Statement.{statement}

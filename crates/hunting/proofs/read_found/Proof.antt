@@ -1,5 +1,4 @@
 -- `read_found` meets its contract by what `gather` answers (`Ends`). Assumes nothing.
-use Prim.Native.Nat.{_*_}
 use mathlib.Core.Path.{sym, _∙_}
 use native.Mathlib.Omega.{arith}
 use Rattle.hunting.proofs.Ends.{some-room, ends-many, ends-nowhere, ends-read}

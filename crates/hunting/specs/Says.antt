@@ -1,0 +1,363 @@
+-- What a hunting reading's answer says, case by case: which refusals occur and when, how many multiframes, bits outside and places tested there
+-- are, and that every whole multiframe whose place passes is read.
+-- Assumes nothing.
+use Prim.Native.Nat.{ℕ, zero, suc, _+_, _-_, _*_, _≤_, _<_}
+use mathlib.Core.Path.{_≡_, refl, sym, ap, ap₂, _∙_, subst}
+use mathlib.Core.Logic.{_⊎_, _↔_}
+use mathlib.Core.List.{List, [], _∷_, _++_}
+use mathlib.Core.Bool.{Bool, true, false}
+use native.Mathlib.Omega.{arith}
+use lib.Dec.{eqb, ltb}
+use lib.IntN.{ℤ}
+use lib.ListN.{length, getD}
+use lib.Seq.{getD-append-add}
+use borrow.Author.Tests.{eq-eqb, ne-eqb, eqb-true, eqb-false}
+use Rattle.lists.specs.Tests.{by-test, true-false}
+use Rattle.layout.specs.Layout.{mostMultiframes, codebookNumbers, thresholdNumbers}
+use Rattle.bits.specs.Bits.{bits}
+use Rattle.cutting.specs.Cutting.{Cutting, cutting, syncFirst, syncSecond, whole as uncut}
+use Rattle.cutting.specs.Laws.{every, every-length, whole-image}
+use Rattle.settling.specs.declared.Settings.{Settings}
+use Rattle.settling.specs.declared.Settings.the-variants as S
+use Rattle.header.specs.Message.{rateOf, expOf}
+use Rattle.hunt.specs.Hunt.{multiframeBits, inRange, searched, passes, placesLeft, huntedFrom}
+use Rattle.hunt.specs.Laws as Hunt
+use Rattle.hunt.specs.declared.Hunted.{Hunted}
+use Rattle.hunt.specs.declared.Hunted.the-variants as H
+use Rattle.hunt.specs.declared.Refusal.the-variants as HR
+use Rattle.reader.specs.Reading as R
+use Rattle.reader.specs.Reading.{roomVerdict, settledVerdict, wholeVerdict}
+use Rattle.reader.specs.declared.Verdict.{Verdict}
+use Rattle.reader.specs.declared.Verdict.the-variants.{Refuse, Accept}
+use Rattle.reader.specs.declared.Refusal.{Refusal as OctetRefusal}
+use Rattle.reader.specs.declared.Refusal.the-variants as RR
+use Rattle.reader.specs.declared.Summary.{Summary}
+use Rattle.reader.specs.declared.Answer.{Answer as OctetAnswer}
+use Rattle.reader.specs.declared.Answer.the-variants as RA
+use Rattle.hunting.specs.Hunting.{Ending, whole, tooMany, Gathering, ended, step, last, gathering, outsideOf, aligned, imageOf, withCounts, counted, Outcome, outcome, readingBy, readingFound, huntingReading, numberOf}
+use Rattle.hunting.specs.Laws.{Among, Overlapped, Apart, Ends, taken, apart, at-most, room-for, length-aligned, length-image}
+use Rattle.hunting.specs.declared.Counted.{Counted}
+use Rattle.hunting.specs.declared.Refusal.{Refusal}
+use Rattle.hunting.specs.declared.Refusal.the-variants.{Octets, MatchRange, Nowhere, TooMany}
+use Rattle.hunting.specs.declared.Answer.{Answer}
+use Rattle.hunting.specs.declared.Answer.the-variants.{Read, Refused}
+
+-- ---- the image put together is cut into just its multiframes
+sync-at : (s ps : List ℕ) (k : ℕ) → k < length ps → (getD (imageOf s ps) (144 * k) 0 ≡ syncFirst) × (getD (imageOf s ps) (144 * k + 1) 0 ≡ syncSecond)
+unfolding imageOf aligned
+sync-at s [] k h = absurd (omega arith)
+sync-at s (p ∷ ps) zero h = (refl, refl)
+sync-at s (p ∷ ps) (suc k) h =
+    let i = sync-at s ps k (omega arith) in
+    let n = length-aligned s p in
+    let a : 144 * suc k ≡ length (aligned s p) + 144 * k = omega (arith, n) in
+    let b : 144 * suc k + 1 ≡ length (aligned s p) + (144 * k + 1) = omega (arith, n) in (
+      ap (λ (j : ℕ). getD (aligned s p ++ imageOf s ps) j 0) a ∙ getD-append-add (aligned s p) (imageOf s ps) (144 * k) 0 ∙ i .0,
+      ap (λ (j : ℕ). getD (aligned s p ++ imageOf s ps) j 0) b ∙ getD-append-add (aligned s p) (imageOf s ps) (144 * k + 1) 0 ∙ i .1,
+    )
+
+pub image-cut : (s ps : List ℕ) → length ps ≤ mostMultiframes → cutting (imageOf s ps) ≡ record { places = every 0 (length ps); ending = uncut }
+image-cut s ps few = whole-image (imageOf s ps) (length ps) few (length-image s ps) (sync-at s ps)
+
+-- ---- so the octet reader refuses it with 16 to 20 only
+abbrev pub Late : OctetRefusal → Type 0
+Late RR.WrongTables = ⊥
+Late (RR.Unknown p) = ⊥
+Late (RR.CutShort p) = ⊥
+Late (RR.Empty n) = ⊥
+Late (RR.TooMany p) = ⊥
+Late RR.Unsettled = Unit
+Late RR.Unfit = Unit
+Late (RR.IndexShort n) = Unit
+Late (RR.ReportShort n) = Unit
+Late RR.AllBad = Unit
+
+abbrev LateVerdict : Verdict → Type 0
+LateVerdict (Refuse r) = Late r
+LateVerdict (Accept c) = Unit
+
+late-settled : (m bad pairs index report : ℕ) (s : Settings) → LateVerdict (settledVerdict m bad pairs index report s)
+unfolding settledVerdict roomVerdict
+late-settled m bad pairs index report S.Unsettled = tt
+late-settled m bad pairs index report (S.Settled c) =
+    by-test LateVerdict (eqb (rateOf c) 2) (λ e. tt) (λ e.
+    by-test LateVerdict (eqb (expOf c) 0) (λ e.
+    by-test LateVerdict (ltb index (168 * m)) (λ e. tt) (λ e.
+    by-test LateVerdict (ltb report (13 * m)) (λ e. tt) (λ e. by-test LateVerdict (eqb bad pairs) (λ e. tt) (λ e. tt)))) (λ e. tt))
+
+module _ (s ps : List ℕ) (some : 0 < length ps) (few : length ps ≤ mostMultiframes) (codebook thresholds : List ℤ) (index report : List ℕ)
+    (sc : length codebook ≡ codebookNumbers) (st : length thresholds ≡ thresholdNumbers) where
+  abbrev image : List ℕ
+  image = imageOf s ps
+
+  abbrev rows : List ℕ
+  rows = every 0 (length ps)
+
+  -- it is decided by its multiframes alone
+  decided : R.reading image codebook thresholds index report
+      ≡ R.finished image codebook thresholds index report rows (wholeVerdict image codebook thresholds (length index) (length report) rows)
+  unfolding R.reading R.verdict
+  decided =
+      rw (eq-eqb (length codebook) codebookNumbers sc, eq-eqb (length thresholds) thresholdNumbers st)
+      (ap (λ (w : Cutting). R.finished image codebook thresholds index report (w .places) (R.endVerdict image codebook thresholds (length index) (length report) (w .places) (w .ending)))
+      (image-cut s ps few))
+
+  late-whole : LateVerdict (wholeVerdict image codebook thresholds (length index) (length report) rows)
+  unfolding wholeVerdict
+  late-whole =
+      rw (ne-eqb (length rows) 0 (λ e. omega (arith, every-length 0 (length ps)))) (late-settled (length rows) _ _ (length index) (length report) _)
+
+  pub image-late : (r : OctetRefusal) → R.reading image codebook thresholds index report .answer ≡ RA.Refused r → Late r
+  image-late r e = by (wholeVerdict image codebook thresholds (length index) (length report) rows) late-whole (sym (ap (λ (o : R.Outcome). o .answer) decided) ∙ e)
+    where
+      by : (v : Verdict) → LateVerdict v → R.finished image codebook thresholds index report rows v .answer ≡ RA.Refused r → Late r
+      by (Refuse q) l f = let z : q ≡ r = cc in subst Late z l
+      by (Accept c) l f = let z : _≡_ {A = ℕ} 0 1 = cc in absurd (omega arith)
+
+  -- and its success answers as many multiframes as were put together
+  pub image-count : (g : Summary) → R.reading image codebook thresholds index report .answer ≡ RA.Read g → g .multiframes ≡ length ps
+  image-count g e = by (wholeVerdict image codebook thresholds (length index) (length report) rows) (sym (ap (λ (o : R.Outcome). o .answer) decided) ∙ e)
+    where
+      by : (v : Verdict) → R.finished image codebook thresholds index report rows v .answer ≡ RA.Read g → g .multiframes ≡ length ps
+      by (Refuse q) f = let z : _≡_ {A = ℕ} 0 1 = cc in absurd (omega arith)
+      by (Accept c) f =
+          let x = R.summary image rows (Rattle.pairs.specs.Pairs.pairNotes image rows codebook thresholds) c in
+          let z : x ≡ g = cc in
+          sym (ap (λ (y : Summary). y .multiframes) z) ∙ every-length 0 (length ps)
+
+-- ---- what gathering says
+-- the last of the places p and then ps
+abbrev pub lastOf : ℕ → List ℕ → ℕ
+lastOf p [] = p
+lastOf p (q ∷ ps) = lastOf q ps
+
+module _ (l : List Bool) (least : ℕ) where
+  abbrev pub NonePasses : ℕ → Type 0
+  NonePasses at = (t : ℕ) → at ≤ t → t + multiframeBits ≤ searched l → passes least l t ≡ false
+
+  -- PLACES TESTED from bit `at` on: with nothing found, all; else all up to the last multiframe's, but for those inside the multiframes before
+  -- it, and all behind it
+  abbrev pub Tested : ℕ → ℕ → List ℕ → Type 0
+  Tested at n [] = n ≡ placesLeft l at
+  Tested at n (p ∷ ps) = n + (multiframeBits - 1) * length ps ≡ (lastOf p ps + 1 - at) + placesLeft l (lastOf p ps + multiframeBits)
+
+  last-later : (at p : ℕ) (ps : List ℕ) → Apart l least at (p ∷ ps) → at ≤ lastOf p ps
+  last-later at p [] a = a .0
+  last-later at p (q ∷ ps) a = let i = last-later (p + multiframeBits) q ps (a .3) in omega (arith, a .0)
+
+  tested-more : (at p n more : ℕ) (ps : List ℕ) → at ≤ p → n ≡ suc p - at → Apart l least (p + multiframeBits) ps → Tested (p + multiframeBits) more ps → Tested at (n + more) (p ∷ ps)
+  tested-more at p n more [] le e a i = omega arith
+  tested-more at p n more (q ∷ ps) le e a i = omega (arith, last-later (p + multiframeBits) q ps a)
+
+  tested-done : (at : ℕ) (h : Hunted) → Hunt.Says least l at h → last h .ending ≡ whole → Tested at (last h .tested) (last h .places)
+  tested-done at (H.Found p n) a e = let z : _≡_ {A = ℕ} 0 1 = cc in absurd (omega arith)
+  tested-done at (H.Refused (HR.Nowhere q n)) a e = a .2
+  tested-done at (H.Refused (HR.MatchRange q)) a e = absurd a
+
+  tested-step : (at : ℕ) (h : Hunted) (on : ℕ → Gathering) → Hunt.Says least l at h → ((p : ℕ) → Apart l least (p + multiframeBits) (on p .places))
+      → ((p : ℕ) → on p .ending ≡ whole → Tested (p + multiframeBits) (on p .tested) (on p .places)) → step h on .ending ≡ whole
+      → Tested at (step h on .tested) (step h on .places)
+  tested-step at (H.Found p n) on a far next e = tested-more at p n (on p .tested) (on p .places) (a .0) (a .4) (far p) (next p e)
+  tested-step at (H.Refused (HR.Nowhere q n)) on a far next e = a .2
+  tested-step at (H.Refused (HR.MatchRange q)) on a far next e = absurd a
+
+  pub tested-says : (k at : ℕ) → gathering l least k at .ending ≡ whole → Tested at (gathering l least k at .tested) (gathering l least k at .places)
+  unfolding gathering
+  tested-says zero at e = tested-done at (huntedFrom l at least) (Hunt.says least l at) e
+  tested-says (suc k) at e =
+      tested-step at (huntedFrom l at least) (λ p. gathering l least k (p + multiframeBits)) (Hunt.says least l at) (λ p. apart l least k (p + multiframeBits))
+      (λ p. tested-says k (p + multiframeBits)) e
+
+  -- nothing is found exactly if no place passes
+  none-step : (at : ℕ) (h : Hunted) (on : ℕ → Gathering) → Hunt.Says least l at h → step h on .places ≡ [] → NonePasses at
+  none-step at (H.Found p n) on a e = let z : _≡_ {A = ℕ} 0 1 = cc in absurd (omega arith)
+  none-step at (H.Refused (HR.Nowhere q n)) on a e = a .1
+  none-step at (H.Refused (HR.MatchRange q)) on a e = absurd a
+
+  pub none-found : (k at : ℕ) → gathering l least (suc k) at .places ≡ [] → NonePasses at
+  unfolding gathering
+  none-found k at e = none-step at (huntedFrom l at least) (λ p. gathering l least k (p + multiframeBits)) (Hunt.says least l at) e
+
+  pub nothing-found : (k at : ℕ) → NonePasses at → gathering l least (suc k) at ≡ ended whole (placesLeft l at)
+  unfolding gathering
+  nothing-found k at none = ap (λ (h : Hunted). step h (λ p. gathering l least k (p + multiframeBits))) (Hunt.nowhere-exactly least l at .1 none)
+
+  -- 15 is for a whole match behind as many multiframes as may be taken
+  pub record Beyond (k at p : ℕ) (places : List ℕ) : Type 0 where
+    pub count : length places ≡ k
+    pub behind : at + multiframeBits * k ≤ p
+    pub room : p + multiframeBits ≤ searched l
+    pub matches : passes least l p ≡ true
+
+  many-done : (at p : ℕ) (h : Hunted) → Hunt.Says least l at h → last h .ending ≡ tooMany p → Beyond 0 at p (last h .places)
+  many-done at p (H.Found q n) a e =
+      let z : q ≡ p = cc in
+      record { count = refl; behind = omega (arith, a .0); room = omega (arith, a .1); matches = subst (λ (x : ℕ). passes least l x ≡ true) z (a .2) }
+  many-done at p (H.Refused r) a e = let z : _≡_ {A = ℕ} 0 1 = cc in absurd (omega arith)
+
+  many-step : (k at p : ℕ) (h : Hunted) (on : ℕ → Gathering) → Hunt.Says least l at h
+      → ((q : ℕ) → on q .ending ≡ tooMany p → Beyond k (q + multiframeBits) p (on q .places)) → step h on .ending ≡ tooMany p → Beyond (suc k) at p (step h on .places)
+  many-step k at p (H.Found q n) on a next e =
+      let i = next q e in
+      record { count = omega (arith, i .count); behind = omega (arith, a .0, i .behind); room = i .room; matches = i .matches }
+  many-step k at p (H.Refused r) on a next e = let z : _≡_ {A = ℕ} 0 1 = cc in absurd (omega arith)
+
+  pub many-says : (k at p : ℕ) → gathering l least k at .ending ≡ tooMany p → Beyond k at p (gathering l least k at .places)
+  unfolding gathering
+  many-says zero at p e = many-done at p (huntedFrom l at least) (Hunt.says least l at) e
+  many-says (suc k) at p e =
+      many-step k at p (huntedFrom l at least) (λ q. gathering l least k (q + multiframeBits)) (Hunt.says least l at) (λ q. many-says k (q + multiframeBits) p) e
+
+-- ---- the answer
+counted-read : (a : OctetAnswer) (n t : ℕ) (c : Counted) → withCounts a n t ≡ Read c → (a ≡ RA.Read (c .summary)) × (c .outside ≡ n) × (c .tested ≡ t)
+counted-read (RA.Read g) n t c e =
+    let z : record { summary = g; outside = n; tested = t } ≡ c = cc in
+    (ap (λ (x : Counted). RA.Read (x .summary)) z, sym (ap (λ (x : Counted). x .outside) z), sym (ap (λ (x : Counted). x .tested) z))
+counted-read (RA.Refused r) n t c e = let z : _≡_ {A = ℕ} 0 1 = cc in absurd (omega arith)
+
+counted-refused : (a : OctetAnswer) (n t : ℕ) (r : Refusal) → withCounts a n t ≡ Refused r → (q : OctetRefusal) × ((a ≡ RA.Refused q) × (Octets q ≡ r))
+counted-refused (RA.Read g) n t r e = let z : _≡_ {A = ℕ} 0 1 = cc in absurd (omega arith)
+counted-refused (RA.Refused q) n t r e = (q, (refl, cc))
+
+module _ (s : List ℕ) (from least : ℕ) (codebook thresholds : List ℤ) (index report : List ℕ) where
+  abbrev found : Gathering
+  found = gathering (bits s) least mostMultiframes from
+
+  abbrev result : Outcome
+  result = huntingReading s from least codebook thresholds index report
+
+  abbrev keeps : Refusal → Outcome
+  keeps r = outcome (Refused r) index report
+
+  -- HOW IT ENDS, in the order of the tests
+  pub data Fate : Type 0 where
+    tables : ((length codebook ≡ codebookNumbers) × (length thresholds ≡ thresholdNumbers) → ⊥) → result ≡ keeps (Octets RR.WrongTables) → Fate
+    range : inRange least ≡ false → result ≡ keeps (MatchRange least) → Fate
+    nowhere : NonePasses (bits s) least from → result ≡ keeps (Nowhere from (placesLeft (bits s) from)) → Fate
+    many : (p : ℕ) → Beyond (bits s) least mostMultiframes from p (found .places) → result ≡ keeps (TooMany p) → Fate
+    read : (length codebook ≡ codebookNumbers) × (length thresholds ≡ thresholdNumbers) → 0 < length (found .places) → found .ending ≡ whole
+        → result ≡ counted (R.reading (imageOf s (found .places)) codebook thresholds index report) (outsideOf (bits s) from (length (found .places))) (found .tested) → Fate
+
+  found-fate : length codebook ≡ codebookNumbers → length thresholds ≡ thresholdNumbers → result ≡ readingBy s from least codebook thresholds index report (found .places) (found .tested) (found .ending) → Fate
+  found-fate sc st e = by (found .places) (found .ending) refl refl e
+    where
+      by : (ps : List ℕ) (x : Ending) → found .places ≡ ps → found .ending ≡ x → result ≡ readingBy s from least codebook thresholds index report ps (found .tested) x → Fate
+      by [] whole ep ex e =
+          let n : found .tested ≡ placesLeft (bits s) from = subst (Tested (bits s) least from (found .tested)) ep (tested-says (bits s) least mostMultiframes from ex) in
+          nowhere (none-found (bits s) least 254 from ep) (e ∙ ap (λ (k : ℕ). keeps (Nowhere from k)) n)
+      by (p ∷ ps) whole ep ex e =
+          read (sc, st) (omega (arith, ap length ep)) ex
+          (e ∙ ap (λ (x : List ℕ). counted (R.reading (imageOf s x) codebook thresholds index report) (outsideOf (bits s) from (length x)) (found .tested)) (sym ep))
+      by [] (tooMany p) ep ex e = many p (many-says (bits s) least mostMultiframes from p ex) e
+      by (q ∷ ps) (tooMany p) ep ex e = many p (many-says (bits s) least mostMultiframes from p ex) e
+
+  pub fate : Fate
+  unfolding huntingReading readingFound
+  fate = by (eqb (length codebook) codebookNumbers) (eqb (length thresholds) thresholdNumbers) (inRange least) refl refl refl
+    where
+      by : (a b r : Bool) → eqb (length codebook) codebookNumbers ≡ a → eqb (length thresholds) thresholdNumbers ≡ b → inRange least ≡ r → Fate
+      by false b r ea eb er = tables (λ h. eqb-false (length codebook) codebookNumbers ea (h .0)) (rw ea)
+      by true false r ea eb er = tables (λ h. eqb-false (length thresholds) thresholdNumbers eb (h .1)) (rw (ea, eb))
+      by true true false ea eb er = range er (rw (ea, eb, er))
+      by true true true ea eb er = found-fate (eqb-true (length codebook) codebookNumbers ea) (eqb-true (length thresholds) thresholdNumbers eb) (rw (ea, eb, er))
+
+  -- 22 EXACTLY IF NO PLACE PASSES, where the tables have their lengths and T its range
+  pub nowhere-exactly : length codebook ≡ codebookNumbers → length thresholds ≡ thresholdNumbers → inRange least ≡ true
+      → (result ≡ keeps (Nowhere from (placesLeft (bits s) from))) ↔ NonePasses (bits s) least from
+  unfolding huntingReading readingFound
+  nowhere-exactly sc st er = (
+    λ e. by fate (ap (λ (o : Outcome). o .answer) e),
+    λ none.
+        rw (eq-eqb (length codebook) codebookNumbers sc, eq-eqb (length thresholds) thresholdNumbers st, er)
+        (ap (λ (g : Gathering). readingBy s from least codebook thresholds index report (g .places) (g .tested) (g .ending)) (nothing-found (bits s) least 254 from none)),
+  )
+    where
+      by : Fate → result .answer ≡ Refused (Nowhere from (placesLeft (bits s) from)) → NonePasses (bits s) least from
+      by (tables w e) f = absurd (w (sc, st))
+      by (range w e) f = absurd (true-false (sym er ∙ w))
+      by (nowhere n e) f = n
+      by (many p b e) f = let g = sym (ap (λ (o : Outcome). o .answer) e) ∙ f in let z : _≡_ {A = ℕ} 0 1 = cc in absurd (omega arith)
+      by (read t n w e) f =
+          let g = counted-refused (R.reading (imageOf s (found .places)) codebook thresholds index report .answer) (outsideOf (bits s) from (length (found .places))) (found .tested)
+          (Nowhere from (placesLeft (bits s) from)) (sym (ap (λ (o : Outcome). o .answer) e) ∙ f) in
+          let h = g .1 .1 in
+          let z : _≡_ {A = ℕ} 0 1 = cc in absurd (omega arith)
+
+  -- A SUCCESS, and what it says
+  pub record Success (c : Counted) : Type 0 where
+    -- it is the octet reader's of the multiframes found, put together
+    pub as-01-says : R.reading (imageOf s (found .places)) codebook thresholds index report ≡ R.outcome (RA.Read (c .summary)) (result .index) (result .report)
+    pub count : c .summary .multiframes ≡ length (found .places)
+    pub some : 0 < length (found .places)
+    pub few : length (found .places) ≤ mostMultiframes
+    -- "bits outside the multiframes found, inverse syncs and tail included"
+    pub bits-in-all : c .outside + multiframeBits * c .summary .multiframes ≡ searched (bits s) - from
+    pub begins : from ≤ searched (bits s)
+    pub places-tested : Tested (bits s) least from (c .tested) (found .places)
+    -- they stand apart from the first bit on, and each passes the test
+    pub stand-apart : Apart (bits s) least from (found .places)
+    -- "a whole multiframe from the given bit on, whose own place passes the test, is found [..] if no earlier match taken overlaps it"
+    pub all-taken : (t : ℕ) → from ≤ t → t + multiframeBits ≤ searched (bits s) → passes least (bits s) t ≡ true → Among t (found .places) ⊎ Overlapped t (found .places)
+
+  pub success : (c : Counted) → result .answer ≡ Read c → Success c
+  success c f = by fate
+    where
+      other : (r : Refusal) → result ≡ keeps r → Success c
+      other r e = let g = sym (ap (λ (o : Outcome). o .answer) e) ∙ f in let z : _≡_ {A = ℕ} 0 1 = cc in absurd (omega arith)
+
+      by : Fate → Success c
+      by (tables w e) = other (Octets RR.WrongTables) e
+      by (range w e) = other (MatchRange least) e
+      by (nowhere n e) = other (Nowhere from (placesLeft (bits s) from)) e
+      by (many p b e) = other (TooMany p) e
+      by (read t n w e) =
+          let o = R.reading (imageOf s (found .places)) codebook thresholds index report in
+          let a = counted-read (o .answer) (outsideOf (bits s) from (length (found .places))) (found .tested) c (sym (ap (λ (o : Outcome). o .answer) e) ∙ f) in
+          let few = at-most (bits s) least mostMultiframes from in
+          let m = image-count s (found .places) n few codebook thresholds index report (t .0) (t .1) (c .summary) (a .0) in
+          let far = apart (bits s) least mostMultiframes from in
+          let room = room-for (bits s) least from (found .places) far n in
+          record {
+            as-01-says = ap₂ (λ (x : OctetAnswer) (y : Outcome). R.outcome x (y .index) (y .report)) (a .0) (sym e);
+            count = m;
+            some = n;
+            few = few;
+            bits-in-all = omega (arith, a .1, m);
+            begins = omega arith;
+            places-tested = subst (λ (k : ℕ). Tested (bits s) least from k (found .places)) (sym (a .2)) (tested-says (bits s) least mostMultiframes from w);
+            stand-apart = far;
+            all-taken = λ u le inside passes. taken (bits s) least u inside passes mostMultiframes from le (subst Ends (sym w) tt);
+          }
+
+  -- 12 TO 14 NEVER COME
+  abbrev pub Comes : Refusal → Type 0
+  Comes r = (numberOf r ≡ 12 → ⊥) × (numberOf r ≡ 13 → ⊥) × (numberOf r ≡ 14 → ⊥)
+
+  late-comes : (q : OctetRefusal) → Late q → Comes (Octets q)
+  late-comes RR.WrongTables l = absurd l
+  late-comes (RR.Unknown p) l = absurd l
+  late-comes (RR.CutShort p) l = absurd l
+  late-comes (RR.Empty n) l = absurd l
+  late-comes (RR.TooMany p) l = absurd l
+  late-comes RR.Unsettled l = (λ e. omega arith, λ e. omega arith, λ e. omega arith)
+  late-comes RR.Unfit l = (λ e. omega arith, λ e. omega arith, λ e. omega arith)
+  late-comes (RR.IndexShort n) l = (λ e. omega arith, λ e. omega arith, λ e. omega arith)
+  late-comes (RR.ReportShort n) l = (λ e. omega arith, λ e. omega arith, λ e. omega arith)
+  late-comes RR.AllBad l = (λ e. omega arith, λ e. omega arith, λ e. omega arith)
+
+  pub never-12-to-14 : (r : Refusal) → result .answer ≡ Refused r → Comes r
+  never-12-to-14 r f = by fate
+    where
+      same : (x : Refusal) → result ≡ keeps x → Comes x → Comes r
+      same x e k = let g = sym (ap (λ (o : Outcome). o .answer) e) ∙ f in let z : x ≡ r = cc in subst Comes z k
+
+      by : Fate → Comes r
+      by (tables w e) = same (Octets RR.WrongTables) e (λ e. omega arith, λ e. omega arith, λ e. omega arith)
+      by (range w e) = same (MatchRange least) e (λ e. omega arith, λ e. omega arith, λ e. omega arith)
+      by (nowhere n e) = same (Nowhere from (placesLeft (bits s) from)) e (λ e. omega arith, λ e. omega arith, λ e. omega arith)
+      by (many p b e) = same (TooMany p) e (λ e. omega arith, λ e. omega arith, λ e. omega arith)
+      by (read t n w e) =
+          let o = R.reading (imageOf s (found .places)) codebook thresholds index report in
+          let g = counted-refused (o .answer) (outsideOf (bits s) from (length (found .places))) (found .tested) r (sym (ap (λ (o : Outcome). o .answer) e) ∙ f) in
+          subst Comes (g .1 .1)
+          (late-comes (g .0) (image-late s (found .places) n (at-most (bits s) least mostMultiframes from) codebook thresholds index report (t .0) (t .1) (g .0) (g .1 .0)))
