@@ -19,7 +19,7 @@ use Rattle.lists.specs.Parts.{part, length-part}
 use Rattle.bits.specs.Bits.{field, value, fields, bits}
 use Rattle.bits.specs.Laws.{length-bits, field-value, in-word}
 use Rattle.header.specs.Reading.{reading}
-use Rattle.hunt.specs.Hunt.{syncBits, multiframeBits, sync, fewestMatches, inRange, alike, matches, readable, passes, headPasses, searched, placesLeft, misses, found, huntedFrom, hunted}
+use Rattle.hunt.specs.Hunt.{syncBits, headerBits, multiframeBits, sync, fewestMatches, inRange, alike, matches, readable, passes, headPasses, searched, placesLeft, misses, found, huntedFrom, hunted}
 use Rattle.hunt.specs.Laws.{searched-le, misses-none, misses-hit, misses-on}
 use Rattle.hunt.specs.declared.Hunted.{Hunted}
 use Rattle.hunt.specs.declared.Hunted.the-variants.{Found, Refused}
@@ -60,42 +60,23 @@ matches-xor (suc w) a b ha hb =
     let d = alike-digit (a % 2) (b % 2) (low a) (low b) in
     omega (arith, x)
 
--- ---- the test of a place by two numbers
-sync-word : field 16 45703 ≡ sync
-unfolding field fields
-sync-word = refl
+-- the low sixteen bits against the sync's number
+pub all-bits : (head low sent : ℕ) → low ≡ head % 2 ^ syncBits → field syncBits sent ≡ sync → sent < 2 ^ syncBits
+    → matches (field syncBits (head % 2 ^ syncBits)) sync + ones (bitXor low sent) ≡ syncBits
+all-bits head low sent is-low is-sync small =
+    subst (λ (l : List Bool). matches (field 16 (head % 2 ^ 16)) l + ones (bitXor low sent) ≡ 16) is-sync
+    (subst (λ (x : ℕ). matches (field 16 (head % 2 ^ 16)) (field 16 sent) + ones (bitXor x sent) ≡ 16) (sym is-low)
+    (matches-xor 16 (head % 2 ^ 16) sent (mod-lt head (pow-pos 16)) small))
 
-module _ (least a : ℕ) (h : a < 2 ^ 16) where
-  all-bits : matches (field 16 a) sync + ones (bitXor a 45703) ≡ 16
-  all-bits = subst (λ (l : List Bool). matches (field 16 a) l + ones (bitXor a 45703) ≡ 16) sync-word (matches-xor 16 a 45703 h (lit< tt))
-
-  pub too-few : (b : ℕ) → 16 < least + ones (bitXor a 45703) → false ≡ headPasses least a b
+-- ---- the test of a place, where so many bits do not match
+module _ (least a b off : ℕ) (rest : matches (field syncBits a) sync + off ≡ syncBits) where
+  pub head-few : syncBits < least + off → false ≡ headPasses least a b
   unfolding headPasses
-  too-few b l = rw (lt-leb least (matches (field 16 a) sync) (omega (arith, all-bits)))
+  head-few h = rw (lt-leb least (matches (field 16 a) sync) (omega arith))
 
-  pub enough : (b : ℕ) (r : Bool) → least + ones (bitXor a 45703) ≤ 16 → r ≡ readable (reading b) → r ≡ headPasses least a b
+  pub head-enough : least + off ≤ syncBits → (r : Bool) (word : ℕ) → r ≡ readable (reading word) → word ≡ b → r ≡ headPasses least a b
   unfolding headPasses
-  enough b r l e = rw (le-leb least (matches (field 16 a) sync) (omega (arith, all-bits))) e
-
--- the same as the code masks them
-module _ (least head : ℕ) where
-  low-lt : head % 2 ^ 16 < 2 ^ 16
-  low-lt = mod-lt head (pow-pos 16)
-
-  off-is : ones (bitXor (bitAnd head 65535) 45703) ≡ ones (bitXor (head % 2 ^ 16) 45703)
-  off-is = ap (λ (x : ℕ). ones (bitXor x 45703)) (and-mask head 16)
-
-  pub off-le : ones (bitXor (bitAnd head 65535) 45703) ≤ 16
-  off-le = omega (arith, off-is, all-bits least (head % 2 ^ 16) low-lt)
-
-  pub head-few : 16 < least + ones (bitXor (bitAnd head 65535) 45703) → false ≡ headPasses least (head % 2 ^ 16) (head / 2 ^ 16 % 2 ^ 32)
-  head-few h = too-few least (head % 2 ^ 16) low-lt (head / 2 ^ 16 % 2 ^ 32) (omega (arith, off-is))
-
-  pub head-enough : (r : Bool) → least + ones (bitXor (bitAnd head 65535) 45703) ≤ 16 → r ≡ readable (reading (bitAnd (head / 2 ^ 16) 4294967295))
-      → r ≡ headPasses least (head % 2 ^ 16) (head / 2 ^ 16 % 2 ^ 32)
-  head-enough r h e =
-      enough least (head % 2 ^ 16) low-lt (head / 2 ^ 16 % 2 ^ 32) r (omega (arith, off-is))
-      (e ∙ ap (λ (x : ℕ). readable (reading x)) (and-mask (head / 2 ^ 16) 32))
+  head-enough h r word er ew = rw (le-leb least (matches (field 16 a) sync) (omega arith)) (er ∙ ap (λ (x : ℕ). readable (reading x)) ew)
 
 -- those numbers are the bits' at the place
 pub head-passes : (least : ℕ) (l : List Bool) (t : ℕ) → t + 16 ≤ length l

@@ -5,9 +5,9 @@ use layout::MultiframeLayout;
 ghost use mathlib.Core.Path.{_≡_};
 ghost use Prim.Native.Nat.{_+_, _*_, _/_, _%_, _^_, _≤_, _<_};
 ghost use lib.ListN.{length};
-ghost use Rattle.bits.specs.Bits.{bits};
+ghost use Rattle.bits.specs.Bits.{field, bits};
 ghost use Rattle.header.specs.Reading.{reading};
-ghost use Rattle.hunt.specs.Hunt.{syncBits, inRange, readable, headPasses, searched, placesLeft, huntedFrom, hunted, numberOf, placeOf, testedOf};
+ghost use Rattle.hunt.specs.Hunt.{syncBits, headerBits, sync, inRange, matches, readable, headPasses, searched, placesLeft, huntedFrom, hunted, numberOf, placeOf, testedOf};
 
 // The sync's sixteen bits as a number, first sent least significant, and how many they are.
 const SYNC: u32 = 256 * (cutting::SYNC_SECOND as u32) + (cutting::SYNC_FIRST as u32);
@@ -47,13 +47,19 @@ fn is_readable(word: u32) -> bool
     }
 }
 
+// How many of the first sixteen bits do not match the sync: the rest of the sixteen do.
+fn mismatches(head: u64) -> u32
+    ensures { λ r. ⌜ matches (field syncBits (head % 2 ^ syncBits)) sync + r ≡ syncBits ⌝ }
+{
+    u32::count_ones(((head & 0xffff) as u32) ^ SYNC)
+}
+
 // The test of a place, of the bits that stand there: sixteen of a sync and then 32 of a header.
 fn passes(head: u64, least: usize) -> bool
     requires { ⌜ least ≤ syncBits ⌝ }
-    ensures { λ r. ⌜ r ≡ headPasses least (head % 2 ^ 16) (head / 2 ^ 16 % 2 ^ 32) ⌝ }
+    ensures { λ r. ⌜ r ≡ headPasses least (head % 2 ^ syncBits) (head / 2 ^ syncBits % 2 ^ headerBits) ⌝ }
 {
-    let off = u32::count_ones(((head & 0xffff) as u32) ^ SYNC);
-    if SYNC_BITS < least + off as usize {
+    if SYNC_BITS < least + mismatches(head) as usize {
         return false;
     }
     is_readable(((head >> 16) & 0xffffffff) as u32)
