@@ -1,7 +1,7 @@
 -- `mismatches` meets its contract: the bits that do not match are those set in the difference. Assumes nothing.
 use mathlib.Core.Path.{refl}
-use native.Mathlib.Omega.{arith}
-use lib.Bits.{mask-lt, and-mask}
+use native.Mathlib.Nat.{lt-of-le-of-lt}
+use lib.Bits.{and-le-r, and-mask}
 use lib.Dec.{lit<}
 use Rattle.bits.specs.Bits.{field, fields}
 use Rattle.hunt.proofs.Steps.{all-bits}
@@ -11,7 +11,7 @@ use Rattle.hunt.proofs.mismatches.Reads as reads
 use Rattle.hunt.proofs.mismatches.Lts as lts
 
 cast-result : tie.Need-cast-result
-cast-result c = record { fits = omega (arith, mask-lt (c .args .head) 16) }
+cast-result c = record { fits = lt-of-le-of-lt (and-le-r (c .args .head) _) (lit< tt) }
 
 returns : tie.Need-returns
 unfolding field fields

@@ -1,7 +1,8 @@
 -- `passes` meets its contract: enough bits match, and then the header decides. Assumes nothing.
 use Prim.Native.Nat.{_/_, _^_}
-use native.Mathlib.Omega.{arith}
-use lib.Bits.{mask-lt, and-mask}
+use native.Mathlib.Nat.{lt-of-le-of-lt}
+use lib.Bits.{and-le-r, and-mask}
+use lib.Dec.{lit<}
 use Rattle.hunt.proofs.Steps.{head-few, head-enough}
 use borrow.Author.Needs.{needs}
 use Rattle.hunt.proofs.passes.Statement.{statement}
@@ -24,7 +25,7 @@ returns : tie.Need-returns
 returns c = head-few _ _ _ _ (c .before .mismatches .ensures) (c .if1 .taken)
 
 cast-is-readable : tie.Need-cast-is-readable
-cast-is-readable c = record { fits = omega (arith, mask-lt (c .before .before .args .head / 2 ^ 16) 32) }
+cast-is-readable c = record { fits = lt-of-le-of-lt (and-le-r (c .before .before .args .head / 2 ^ 16) _) (lit< tt) }
 
 is-readable-requires : tie.Need-is-readable-requires
 is-readable-requires c κs = search needs
