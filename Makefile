@@ -156,7 +156,7 @@ sample-check: $(BUILD)/literal/sample-make $(BUILD)/literal/sample-list target/b
 listing: $(BUILD)/literal/sample-list target/bin/dsrlist
 	.ci/listing crates/dsrlist/stdin $< $(LIBRARY_RUN) target/bin/dsrlist
 
-# The README's two programs, taken out of it as printed, built and held to what the README says they print.
+# The README's programs, taken out of it as printed, built and held to what the README says they print.
 README := $(BUILD)/readme/$(LIB)
 
 ifeq ($(LIB),library)
@@ -171,10 +171,11 @@ endif
 
 readme-c: $(README_WITH)
 	@mkdir -p $(README)/c
-	.ci/readme c 1 >$(README)/c/talk.c
-	.ci/readme c 1 next >$(README)/c/output
-	$(README_CC) $(WARN) -I c $(README)/c/talk.c $(README_WITH) -o $(README)/c/talk
-	$(RUN) $(README)/c/talk | diff - $(README)/c/output
+	for n in 1 2; do \
+	    .ci/readme c $$n >$(README)/c/talk$$n.c && \
+	    .ci/readme c $$n next >$(README)/c/output$$n && \
+	    $(README_CC) $(WARN) -I c $(README)/c/talk$$n.c $(README_WITH) -o $(README)/c/talk$$n && \
+	    $(RUN) $(README)/c/talk$$n | diff - $(README)/c/output$$n || exit 1; done
 
 readme-rust: $(README_WITH)
 	@mkdir -p $(README)/rust/src
