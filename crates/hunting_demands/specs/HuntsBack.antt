@@ -14,15 +14,13 @@ use lib.Dec.{lit<}
 use lib.IntN.{ℤ}
 use lib.ListN.{length, replicate, take}
 use lib.Seq.{drop-append-add}
-use borrow.Author.Tests.{le-leb}
-use Rattle.lists.specs.Tests.{both}
 use Rattle.lists.specs.Parts.{part, over, part-left}
 use Rattle.lists.specs.Rows.{joined, same-joined}
 use Rattle.layout.specs.Layout.{packetBits, multiframePairs, multiframeOctets, mostMultiframes, indexOctets, reportOctets, packetStart}
 use Rattle.bits.specs.Bits.{value, fields, field, bits}
 use Rattle.bits.specs.Laws.{length-bits, bits-part}
 use Rattle.header.specs.Reading.{reading}
-use Rattle.hunt.specs.Hunt.{fewestMatches, syncBits, multiframeBits, sync, matches, readable, passes, searched}
+use Rattle.hunt.specs.Hunt.{fewestMatches, syncBits, multiframeBits, sync, matches, passes, searched}
 use Rattle.reader.specs.Reading as R
 use Rattle.hunting.specs.Hunting as G
 use Rattle.hunting.specs.Hunting.{outsideOf, counted, outcome, huntingReading}
@@ -31,10 +29,10 @@ use Rattle.writer.specs.Laws.{few-multiframes, length-image}
 use Rattle.writer.specs.Made.{wordIn, streamIn, packetIn}
 use Rattle.writer.specs.Image as I
 use Rattle.writer.specs.Image.{Utterance, multiframesOf, pairsOf, imageOf, is-accepted}
-use Rattle.demands.specs.Damage.{Damage, headerFlips, header-read}
+use Rattle.demands.specs.Damage.{Damage, headerFlips, sentMessage, header-read}
 use Rattle.demands.specs.Whole.{Lent}
 use Rattle.demands.specs.ReadsBack.{spoken, padded, reads-mended}
-use Rattle.hunting_demands.specs.Standing.{placeOf, row, InARow, testedOf, reads-in-a-row, syncAt, wordAt, streamAt, image-size, image-small, image-sync, image-word, image-stream}
+use Rattle.hunting_demands.specs.Standing.{placeOf, row, passes-there, InARow, testedOf, reads-in-a-row, syncAt, wordAt, streamAt, image-size, image-small, image-sync, image-word, image-stream}
 
 -- in how many bits the header of multiframe k, standing from bit `at` on, differs from the one written
 abbrev pub receivedFlips : Utterance → List ℕ → ℕ → ℕ → ℕ
@@ -82,10 +80,9 @@ module _ (u : Utterance) (s : List ℕ) (from at least : ℕ) (c : Carried u s f
 
   -- and each passes the test
   stands : (k : ℕ) → k < m → passes least (bits s) (placeOf at k) ≡ true
-  unfolding passes
   stands k h =
-      ap₂ both (le-leb least (matches (syncAt (bits s) (placeOf at k)) sync) (c .syncs k h))
-      (ap (λ (w : ℕ). readable (reading w)) (sym (image-word s at m (c .inside) k h)) ∙ ap readable (header-read u got damage k h))
+      passes-there least (bits s) (placeOf at k) (sentMessage u k) (headerFlips (imageOf u) got k) (c .syncs k h)
+      (ap reading (sym (image-word s at m (c .inside) k h)) ∙ header-read u got damage k h)
 
   pub in-a-row : InARow (bits s) from at least m
   in-a-row = record { begins = c .begins; inside = c .inside; stand = stands; none-before = c .none-before; none-behind = c .none-behind }
@@ -99,7 +96,7 @@ module _ (u : Utterance) (s : List ℕ) (from at least : ℕ) (codebook threshol
       (over index 0 (indexOctets * multiframesOf u) (padded u))
       (over report 0 (reportOctets * multiframesOf u) (joined (λ k. notes k ∷ replicate multiframePairs 0) (multiframesOf u)))
 
-  same-notes : (f g : ℕ → ℕ) → ((k : ℕ) → k < multiframesOf u → f k ≡ g k) → heard f ≡ heard g
+  pub same-notes : (f g : ℕ → ℕ) → ((k : ℕ) → k < multiframesOf u → f k ≡ g k) → heard f ≡ heard g
   same-notes f g e =
       ap
       (λ (l : List ℕ). outcome (heard f .answer) (over index 0 (indexOctets * multiframesOf u) (padded u)) (over report 0 (reportOctets * multiframesOf u) l))

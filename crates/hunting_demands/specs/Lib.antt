@@ -1,2 +1,3 @@
 pub mod Standing
 pub mod HuntsBack
+pub mod Laid

@@ -9,12 +9,17 @@ use native.Mathlib.Omega.{arith}
 use lib.IntN.{ℤ}
 use lib.ListN.{length, take, drop}
 use lib.Seq.{drop-drop, take-add}
-use borrow.Author.Tests.{eq-eqb}
+use lib.Dec.{leb}
+use borrow.Author.Tests.{eq-eqb, le-leb, lt-leb}
+use Rattle.lists.specs.Tests.{both}
 use Rattle.lists.specs.Parts.{part, length-part}
 use Rattle.layout.specs.Layout.{streamOctets, multiframeOctets, mostMultiframes, codebookNumbers, thresholdNumbers}
 use Rattle.bits.specs.Bits.{field, value, bits, octets}
 use Rattle.bits.specs.Laws.{field-value, value-lt, bits-octets, octets-append}
-use Rattle.hunt.specs.Hunt.{fewestMatches, syncBits, headerBits, multiframeBits, passes, searched, placesLeft, huntedFrom}
+use Rattle.header.specs.Reading.{reading}
+use Rattle.header.specs.declared.Header.{Header}
+use Rattle.header.specs.declared.Header.the-variants.{Codeword, Lost}
+use Rattle.hunt.specs.Hunt.{fewestMatches, syncBits, headerBits, multiframeBits, sync, matches, readable, passes, searched, placesLeft, huntedFrom}
 use Rattle.hunt.specs.Laws.{in-range, searched-le, says, once}
 use Rattle.hunt.specs.declared.Hunted.{Hunted}
 use Rattle.hunt.specs.declared.Hunted.the-variants as H
@@ -45,6 +50,34 @@ row-more q zero = let z : q ≡ q + 1152 * 0 = omega arith in ap (λ (i : ℕ). 
 row-more q (suc n) =
     let z : q + 1152 + 1152 * n ≡ q + 1152 * suc n = omega arith in
     ap (λ (l : List ℕ). q ∷ l) (row-more (q + multiframeBits) n) ∙ ap (λ (i : ℕ). q ∷ (row (q + multiframeBits) n ++ (i ∷ []))) z
+
+-- ---- what stands at a place: sixteen bits where the sync should be, the header's word, and the stream's bits
+abbrev pub syncAt : List Bool → ℕ → List Bool
+syncAt l p = part p syncBits l
+
+abbrev pub wordAt : List Bool → ℕ → ℕ
+wordAt l p = value (part (p + syncBits) headerBits l)
+
+abbrev pub streamAt : List Bool → ℕ → List Bool
+streamAt l p = part (p + syncBits + headerBits) (8 * streamOctets) l
+
+-- how such a place passes the test, and two ways to fail it
+module _ (least : ℕ) (l : List Bool) (p : ℕ) where
+  pub passes-there : (c f : ℕ) → least ≤ matches (syncAt l p) sync → reading (wordAt l p) ≡ Codeword c f → passes least l p ≡ true
+  unfolding passes
+  passes-there c f h e = ap₂ both (le-leb least (matches (syncAt l p) sync) h) (ap readable e)
+
+  pub unlike-fails : matches (syncAt l p) sync < least → passes least l p ≡ false
+  unfolding passes
+  unlike-fails h = rw (lt-leb least (matches (syncAt l p) sync) h)
+
+  pub lost-fails : reading (wordAt l p) ≡ Lost → passes least l p ≡ false
+  unfolding passes
+  lost-fails e = ap (λ (h : Header). both (leb least (matches (syncAt l p) sync)) (readable h)) e ∙ by (leb least (matches (syncAt l p) sync))
+    where
+      by : (b : Bool) → both b false ≡ false
+      by true = refl
+      by false = refl
 
 -- ---- m multiframes of bits l found from bit `from` on: at bit `at` and in a row
 pub record InARow (l : List Bool) (from at least m : ℕ) : Type 0 where
@@ -142,16 +175,7 @@ module _ (s : List ℕ) (from least : ℕ) (codebook thresholds : List ℤ) (ind
       → huntingReading s from least codebook thresholds index report ≡ outcome (Refused (Nowhere from (placesLeft (bits s) from))) index report
   nothing-found none = found-next [] whole (placesLeft (bits s) from) (none-gathered (bits s) from least mostMultiframes none)
 
--- ---- what stands at a place: sixteen bits where the sync should be, the header's word, and the stream's bits
-abbrev pub syncAt : List Bool → ℕ → List Bool
-syncAt l p = part p syncBits l
-
-abbrev pub wordAt : List Bool → ℕ → ℕ
-wordAt l p = value (part (p + syncBits) headerBits l)
-
-abbrev pub streamAt : List Bool → ℕ → List Bool
-streamAt l p = part (p + syncBits + headerBits) (8 * streamOctets) l
-
+-- ---- put together on octets
 aligned-framed : (s : List ℕ) (p : ℕ) → p + multiframeBits ≤ length (bits s) → aligned s p ≡ framed (wordAt (bits s) p) (streamAt (bits s) p)
 unfolding aligned
 aligned-framed s p room =
