@@ -1,3 +1,4 @@
 pub mod Standing
 pub mod HuntsBack
 pub mod Laid
+pub mod Met
