@@ -22,6 +22,14 @@ use Rattle.hunting_demands.specs.Standing.{placeOf, syncAt, wordAt, stre
 abbrev pub laidMultiframe : List Bool → ℕ → List Bool → List Bool
 laidMultiframe y w x = y ++ (field headerBits w ++ x)
 
+module _ (y : List Bool) (w : ℕ) (x : List Bool) (size : length y ≡ syncBits) where
+  pub sync-in : part 0 syncBits (laidMultiframe y w x) ≡ y
+  sync-in = take-at y (field headerBits w ++ x) syncBits size
+
+  pub word-in : w < 2 ^ headerBits → value (part syncBits headerBits (laidMultiframe y w x)) ≡ w
+  word-in h =
+      ap value (part-right y (field 32 w ++ x) 16 32 size ∙ take-at (field 32 w) x 32 (length-field 32 w)) ∙ value-field 32 w ∙ mod-eq-of-lt h
+
 module _ (front : List Bool) (y : ℕ → List Bool) (w : ℕ → ℕ) (x : ℕ → List Bool) (m : ℕ) (behind : List Bool) where
   abbrev pub laidBits : List Bool
   laidBits = front ++ (joined (λ k. laidMultiframe (y k) (w k) (x k)) m ++ behind)
@@ -78,14 +86,10 @@ module _ (front : List Bool) (y : ℕ → List Bool) (w : ℕ → ℕ) (x : ℕ 
           ∙ part-within laidBits (placeOf (length front) k) multiframeBits a v (omega (arith, size-bits, z .around)) l ∙ ap (part a v) whole-at
 
       pub laid-sync : syncAt (bits (laidOctets n)) (placeOf (length front) k) ≡ y k
-      laid-sync = inside 0 16 (length front + 1152 * k) (omega arith) (omega arith) ∙ take-at (y k) (field 32 (w k) ++ x k) 16 (z .syncs k)
+      laid-sync = inside 0 16 (length front + 1152 * k) (omega arith) (omega arith) ∙ sync-in (y k) (w k) (x k) (z .syncs k)
 
       pub laid-word : wordAt (bits (laidOctets n)) (placeOf (length front) k) ≡ w k
-      laid-word =
-          ap value
-          (inside 16 32 (length front + 1152 * k + 16) (omega arith) (omega arith) ∙ part-right (y k) (field 32 (w k) ++ x k) 16 32 (z .syncs k)
-          ∙ take-at (field 32 (w k)) (x k) 32 (length-field 32 (w k)))
-          ∙ value-field 32 (w k) ∙ mod-eq-of-lt (z .words k)
+      laid-word = ap value (inside 16 32 (length front + 1152 * k + 16) (omega arith) (omega arith)) ∙ word-in (y k) (w k) (x k) (z .syncs k) (z .words k)
 
       pub laid-stream : streamAt (bits (laidOctets n)) (placeOf (length front) k) ≡ x k
       laid-stream =

@@ -140,7 +140,7 @@ module _ (u : Utterance) where
       (I.image-word (u .rate) (u .kind) (u .indices) m k h)
       ∙ flips-of (sentMessage u k) 3 ∙ e
 
-  stream-kept : (k : ℕ) → k < m → keptStream k ≡ bits (streamIn (imageOf u) k)
+  pub stream-kept : (k : ℕ) → k < m → keptStream k ≡ bits (streamIn (imageOf u) k)
   stream-kept k h =
       sym (ap bits (I.image-stream (u .rate) (u .kind) (u .indices) m k h) ∙ bits-octets streamOctets (keptStream k) (length-stream (u .indices) (firstPair k) multiframePairs))
 
