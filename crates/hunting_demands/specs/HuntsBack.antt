@@ -32,22 +32,22 @@ use Rattle.writer.specs.Image.{Utterance, multiframesOf, pairsOf, imageOf, is-a
 use Rattle.demands.specs.Damage.{Damage, headerFlips, sentMessage, header-read}
 use Rattle.demands.specs.Whole.{Lent}
 use Rattle.demands.specs.ReadsBack.{spoken, padded, reads-mended}
-use Rattle.hunting_demands.specs.Standing.{placeOf, row, passes-there, InARow, testedOf, reads-in-a-row, syncAt, wordAt, streamAt, image-size, image-small, image-sync, image-word, image-stream}
+use Rattle.hunting_demands.specs.Standing.{placeInRow, row, passes-there, InARow, testedInRow, reads-in-a-row, syncAt, wordAt, streamAt, image-size, image-small, image-sync, image-word, image-stream}
 
 -- in how many bits the header of multiframe k, standing from bit `at` on, differs from the one written
 abbrev pub receivedFlips : Utterance → List ℕ → ℕ → ℕ → ℕ
-receivedFlips u s at k = ones (bitXor (wordAt (bits s) (placeOf at k)) (wordIn (imageOf u) k))
+receivedFlips u s at k = ones (bitXor (wordAt (bits s) (placeInRow at k)) (wordIn (imageOf u) k))
 
 -- a written image standing at bit `at` of octets searched from bit `from` on, where a sync must match in `least` bits
 pub record Carried (u : Utterance) (s : List ℕ) (from at least : ℕ) : Type 0 where
   pub begins : from ≤ at
   pub inside : at + multiframeBits * multiframesOf u ≤ searched (bits s)
   -- "at least T of the 16 bits match the sync"
-  pub syncs : (k : ℕ) → k < multiframesOf u → least ≤ matches (syncAt (bits s) (placeOf at k)) sync
+  pub syncs : (k : ℕ) → k < multiframesOf u → least ≤ matches (syncAt (bits s) (placeInRow at k)) sync
   -- at most two flips in each header
   pub headers : (k : ℕ) → k < multiframesOf u → receivedFlips u s at k ≤ 2
   -- and the streams as they were written
-  pub streams : (k : ℕ) → k < multiframesOf u → streamAt (bits s) (placeOf at k) ≡ bits (streamIn (imageOf u) k)
+  pub streams : (k : ℕ) → k < multiframesOf u → streamAt (bits s) (placeInRow at k) ≡ bits (streamIn (imageOf u) k)
   -- no match that could be taken instead, before it or behind
   pub none-before : (t : ℕ) → from ≤ t → t < at → passes least (bits s) t ≡ false
   pub none-behind : (t : ℕ) → at + multiframeBits * multiframesOf u ≤ t → t + multiframeBits ≤ searched (bits s) → passes least (bits s) t ≡ false
@@ -79,9 +79,9 @@ module _ (u : Utterance) (s : List ℕ) (from at least : ℕ) (c : Carried u s f
   }
 
   -- and each passes the test
-  stands : (k : ℕ) → k < m → passes least (bits s) (placeOf at k) ≡ true
+  stands : (k : ℕ) → k < m → passes least (bits s) (placeInRow at k) ≡ true
   stands k h =
-      passes-there least (bits s) (placeOf at k) (sentMessage u k) (headerFlips (imageOf u) got k) (c .syncs k h)
+      passes-there least (bits s) (placeInRow at k) (sentMessage u k) (headerFlips (imageOf u) got k) (c .syncs k h)
       (ap reading (sym (image-word s at m (c .inside) k h)) ∙ header-read u got damage k h)
 
   pub in-a-row : InARow (bits s) from at least m
@@ -92,7 +92,7 @@ module _ (u : Utterance) (s : List ℕ) (from at least : ℕ) (codebook threshol
   -- what is read: the settings, count and frames written, the bits outside and the places tested, and these header notes
   abbrev pub heard : (ℕ → ℕ) → G.Outcome
   heard notes =
-      outcome (Read (record { summary = spoken u; outside = outsideOf (bits s) from (multiframesOf u); tested = testedOf (bits s) from at (multiframesOf u) }))
+      outcome (Read (record { summary = spoken u; outside = outsideOf (bits s) from (multiframesOf u); tested = testedInRow (bits s) from at (multiframesOf u) }))
       (over index 0 (indexOctets * multiframesOf u) (padded u))
       (over report 0 (reportOctets * multiframesOf u) (joined (λ k. notes k ∷ replicate multiframePairs 0) (multiframesOf u)))
 
@@ -122,12 +122,12 @@ module _ (u : Utterance) (s : List ℕ) (from at least : ℕ) (codebook threshol
       let headers : (2 ≤ n) ⊎ (headerFlips (imageOf u) g 0 ≡ 0) = ⊎-elim inl (λ e. inr (flips-are u s from at least c 0 (omega arith) ∙ e)) (p .settled) in
       reads-in-a-row s from least codebook thresholds index report (p .low) (p .high) (p .lent .codebook-size) (p .lent .thresholds-size) at n
       (in-a-row u s from at least c) (omega arith) few
-      ∙ ap (λ (o : R.Outcome). counted o (outsideOf (bits s) from n) (testedOf (bits s) from at n))
+      ∙ ap (λ (o : R.Outcome). counted o (outsideOf (bits s) from n) (testedInRow (bits s) from at n))
       (reads-mended u g (damage u s from at least c) (packets-kept u s from at least c) headers codebook thresholds index report (p .lent))
       ∙ same-notes (headerFlips (imageOf u) g) (receivedFlips u s at) (flips-are u s from at least c)
 
 -- ---- an image that is only shifted: any bits in front of it and behind, and nothing damaged
-all-match : matches sync sync ≡ syncBits
+pub all-match : matches sync sync ≡ syncBits
 unfolding matches fields field
 all-match = refl
 
@@ -153,14 +153,14 @@ module _ (u : Utterance) (s : List ℕ) (from least : ℕ) (front behind : List 
         ∙ part-left (bits img) behind (8 * i) (8 * n) (omega (arith, length-bits img)) ∙ sym (bits-part i n img le)
 
     module _ (k : ℕ) (l : k < multiframesOf u) where
-      sync-whole : syncAt (bits s) (placeOf (length front) k) ≡ sync
+      sync-whole : syncAt (bits s) (placeInRow (length front) k) ≡ sync
       sync-whole =
           bits-of (144 * k) 2 (length front + 1152 * k) (omega (arith, size)) (omega arith)
           ∙ ap bits (I.image-sync (u .rate) (u .kind) (u .indices) (multiframesOf u) k l)
 
       no-flips : receivedFlips u s (length front) k ≡ 0
       no-flips =
-          let w : wordAt (bits s) (placeOf (length front) k) ≡ wordIn img k =
+          let w : wordAt (bits s) (placeInRow (length front) k) ≡ wordIn img k =
           ap value (bits-of (144 * k + 2) 4 (length front + 1152 * k + 16) (omega (arith, size)) (omega arith)) in
           ap (λ (x : ℕ). ones (bitXor x (wordIn img k))) w ∙ ap ones (xor-self (wordIn img k)) ∙ omega (arith, ones-le 0 0 (lit< tt))
 

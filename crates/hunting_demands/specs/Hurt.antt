@@ -27,7 +27,7 @@ use Rattle.hunt.specs.Laws.{searched-all}
 use Rattle.writer.specs.Laws.{few-multiframes}
 use Rattle.writer.specs.Image.{image-word, image-stream, Utterance, multiframesOf, is-accepted}
 use Rattle.demands.specs.Damage.{sentMessage}
-use Rattle.hunting_demands.specs.Standing.{placeOf, syncAt, wordAt, passes-there}
+use Rattle.hunting_demands.specs.Standing.{placeInRow, syncAt, wordAt, passes-there}
 use Rattle.hunting_demands.specs.Laid.{laidMultiframe, laidOctets, Sizes, bits-laid, size-laid, laid-behind, laid-sync, laid-word, laid-stream}
 use Rattle.hunting_demands.specs.HuntsBack.{receivedFlips, Carried}
 
@@ -81,10 +81,10 @@ module _ (u : Utterance) (front : List Bool) (y : ℕ → List Bool) (flips : �
     behind-there = laid-behind front y hurtWord keptStream m behind n sizes
 
     module _ (k : ℕ) (h : k < multiframesOf u) where
-      pub sync-there : syncAt (bits hurt) (placeOf (length front) k) ≡ y k
+      pub sync-there : syncAt (bits hurt) (placeInRow (length front) k) ≡ y k
       sync-there = laid-sync front y hurtWord keptStream m behind n sizes k h
 
-      word-there : wordAt l (placeOf at k) ≡ hurtWord k
+      word-there : wordAt l (placeInRow at k) ≡ hurtWord k
       word-there = laid-word front y hurtWord keptStream m behind n sizes k h
 
       pub flips-there : receivedFlips u hurt (length front) k ≡ ones (flips k)
@@ -92,20 +92,20 @@ module _ (u : Utterance) (front : List Bool) (y : ℕ → List Bool) (flips : �
       flips-there =
           ap₂ (λ (a b : ℕ). ones (bitXor a b)) word-there (image-word (u .rate) (u .kind) (u .indices) m k h) ∙ flips-of (sentMessage u k) (flips k)
 
-      pub mended-there : ones (flips k) ≤ 2 → reading (wordAt (bits hurt) (placeOf (length front) k)) ≡ Codeword (sentMessage u k) (ones (flips k))
+      pub mended-there : ones (flips k) ≤ 2 → reading (wordAt (bits hurt) (placeInRow (length front) k)) ≡ Codeword (sentMessage u k) (ones (flips k))
       mended-there le = ap reading word-there ∙ mended (sentMessage u k) (flips k) (message-lt (u .rate) (u .kind) (k + 1) 0) le
 
-      pub lost-there : ones (flips k) ≡ 3 → reading (wordAt (bits hurt) (placeOf (length front) k)) ≡ Lost
+      pub lost-there : ones (flips k) ≡ 3 → reading (wordAt (bits hurt) (placeInRow (length front) k)) ≡ Lost
       lost-there e = ap reading word-there ∙ three-lost (sentMessage u k) (flips k) (message-lt (u .rate) (u .kind) (k + 1) 0) e
 
-      pub match-there : (least : ℕ) → least ≤ matches (y k) sync → least ≤ matches (syncAt (bits hurt) (placeOf (length front) k)) sync
+      pub match-there : (least : ℕ) → least ≤ matches (y k) sync → least ≤ matches (syncAt (bits hurt) (placeInRow (length front) k)) sync
       match-there least = subst (λ (x : List Bool). least ≤ matches x sync) (sym sync-there)
 
-      pub passes-hurt : (least : ℕ) → least ≤ matches (y k) sync → ones (flips k) ≤ 2 → passes least (bits hurt) (placeOf (length front) k) ≡ true
-      passes-hurt least match le = passes-there least l (placeOf at k) (sentMessage u k) (ones (flips k)) (match-there least match) (mended-there le)
+      pub passes-hurt : (least : ℕ) → least ≤ matches (y k) sync → ones (flips k) ≤ 2 → passes least (bits hurt) (placeInRow (length front) k) ≡ true
+      passes-hurt least match le = passes-there least l (placeInRow at k) (sentMessage u k) (ones (flips k)) (match-there least match) (mended-there le)
 
     pub hurt-carried : (from least : ℕ) → from ≤ length front
-        → ((k : ℕ) → k < multiframesOf u → least ≤ matches (syncAt (bits hurt) (placeOf (length front) k)) sync)
+        → ((k : ℕ) → k < multiframesOf u → least ≤ matches (syncAt (bits hurt) (placeInRow (length front) k)) sync)
         → ((k : ℕ) → k < multiframesOf u → receivedFlips u hurt (length front) k ≤ 2)
         → ((t : ℕ) → from ≤ t → t < length front → passes least (bits hurt) t ≡ false)
         → ((t : ℕ) → length front + multiframeBits * multiframesOf u ≤ t → t + multiframeBits ≤ searched (bits hurt) → passes least (bits hurt) t ≡ false)

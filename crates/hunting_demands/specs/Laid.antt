@@ -16,7 +16,7 @@ use Rattle.bits.specs.Bits.{field, value, bits, octets}
 use Rattle.bits.specs.Laws.{length-field, value-field, bits-octets}
 use Rattle.hunt.specs.Hunt.{syncBits, headerBits, multiframeBits}
 use Rattle.writer.specs.Made.{part-within}
-use Rattle.hunting_demands.specs.Standing.{placeOf, syncAt, wordAt, streamAt}
+use Rattle.hunting_demands.specs.Standing.{placeInRow, syncAt, wordAt, streamAt}
 
 -- sixteen bits, a header word and a stream
 abbrev pub laidMultiframe : List Bool → ℕ → List Bool → List Bool
@@ -74,24 +74,24 @@ module _ (front : List Bool) (y : ℕ → List Bool) (w : ℕ → ℕ) (x : ℕ 
 
     -- and in multiframe k
     module _ (k : ℕ) (h : k < m) where
-      whole-at : part (placeOf (length front) k) multiframeBits laidBits ≡ each k
+      whole-at : part (placeInRow (length front) k) multiframeBits laidBits ≡ each k
       whole-at =
           ap (take multiframeBits) (drop-append-add front (joined each m ++ behind) (multiframeBits * k))
           ∙ part-left (joined each m) behind (multiframeBits * k) multiframeBits (omega (arith, size-joined))
           ∙ joined-part each multiframeBits m k (λ i l. size-each i) h
 
-      inside : (a v t : ℕ) → a + v ≤ multiframeBits → t ≡ placeOf (length front) k + a → part t v (bits (laidOctets n)) ≡ part a v (each k)
+      inside : (a v t : ℕ) → a + v ≤ multiframeBits → t ≡ placeInRow (length front) k + a → part t v (bits (laidOctets n)) ≡ part a v (each k)
       inside a v t l e =
           ap (part t v) bits-laid ∙ ap (λ (i : ℕ). part i v laidBits) e
-          ∙ part-within laidBits (placeOf (length front) k) multiframeBits a v (omega (arith, size-bits, z .around)) l ∙ ap (part a v) whole-at
+          ∙ part-within laidBits (placeInRow (length front) k) multiframeBits a v (omega (arith, size-bits, z .around)) l ∙ ap (part a v) whole-at
 
-      pub laid-sync : syncAt (bits (laidOctets n)) (placeOf (length front) k) ≡ y k
+      pub laid-sync : syncAt (bits (laidOctets n)) (placeInRow (length front) k) ≡ y k
       laid-sync = inside 0 16 (length front + 1152 * k) (omega arith) (omega arith) ∙ sync-in (y k) (w k) (x k) (z .syncs k)
 
-      pub laid-word : wordAt (bits (laidOctets n)) (placeOf (length front) k) ≡ w k
+      pub laid-word : wordAt (bits (laidOctets n)) (placeInRow (length front) k) ≡ w k
       laid-word = ap value (inside 16 32 (length front + 1152 * k + 16) (omega arith) (omega arith)) ∙ word-in (y k) (w k) (x k) (z .syncs k) (z .words k)
 
-      pub laid-stream : streamAt (bits (laidOctets n)) (placeOf (length front) k) ≡ x k
+      pub laid-stream : streamAt (bits (laidOctets n)) (placeInRow (length front) k) ≡ x k
       laid-stream =
           inside 48 1104 (length front + 1152 * k + 16 + 32) (omega arith) (omega arith)
           ∙ ap (take 1104)

@@ -11,23 +11,26 @@ use native.Mathlib.Omega.{arith}
 use lib.Count.{ones, onesIn}
 use lib.Dec.{lit<, lit≤}
 use lib.IntN.{ℤ}
-use lib.ListN.{length, take, drop, replicate, length-replicate, take-append-drop, replicate-append-replicate}
-use lib.Seq.{take-add, take-at}
+use lib.ListN.{length, take, drop, replicate, length-replicate, length-append, take-append-drop, replicate-append-replicate}
+use lib.Seq.{take-add, take-at, take-append-le}
 use Rattle.gf2.specs.Light.{ones-in}
 use Rattle.lists.specs.Parts.{part, over, part-left, part-right}
 use Rattle.lists.specs.Rows.{joined}
-use Rattle.layout.specs.Layout.{multiframePairs, indexOctets, reportOctets}
-use Rattle.bits.specs.Bits.{field, fields, bits}
+use Rattle.layout.specs.Layout.{multiframePairs, multiframeOctets, indexOctets, reportOctets}
+use Rattle.bits.specs.Bits.{field, fields, bits, octets}
+use Rattle.bits.specs.Laws.{length-bits, bits-part, bits-octets}
 use Rattle.crc.specs.Crc.{flip}
 use Rattle.hunt.specs.Hunt.{syncBits, multiframeBits, fewestMatches, sync, matches, passes, searched}
+use Rattle.hunt.specs.Laws.{searched-all}
 use Rattle.hunting.specs.Hunting.{outsideOf, Outcome, outcome, huntingReading}
 use Rattle.hunting.specs.declared.Answer.the-variants.{Read}
-use Rattle.writer.specs.Image.{Utterance, multiframesOf}
+use Rattle.writer.specs.Laws.{few-multiframes, length-image}
+use Rattle.writer.specs.Image.{image-sync, Utterance, multiframesOf, imageOf, is-accepted}
 use Rattle.demands.specs.Whole.{Lent}
 use Rattle.demands.specs.ReadsBack.{spoken, padded}
 use Rattle.demands.specs.Met.{zeroBook, zeroThresholds, indexFor, reportFor, lent-zeros, says24, two-multiframes}
-use Rattle.hunting_demands.specs.Standing.{testedOf, syncAt, unlike-fails}
-use Rattle.hunting_demands.specs.HuntsBack.{receivedFlips, Carried, same-notes, Premises, hunts-back}
+use Rattle.hunting_demands.specs.Standing.{testedInRow, syncAt, unlike-fails}
+use Rattle.hunting_demands.specs.HuntsBack.{receivedFlips, Carried, same-notes, Premises, hunts-back, Shifted}
 use Rattle.hunting_demands.specs.Hurt as H
 
 -- a sync with as many flips as T = 12 allows
@@ -38,7 +41,7 @@ worst-matches : matches worstSync sync ≡ fewestMatches
 unfolding matches fields field
 worst-matches = refl
 
--- behind three zeros, no place before it has twelve matches
+-- behind three zeros, no place before it has twelve matches, nor before a whole sync
 abbrev pub threeZeros : List Bool
 threeZeros = replicate 3 false
 
@@ -49,7 +52,23 @@ earlier (suc zero) h = lit< tt
 earlier (suc (suc zero)) h = lit< tt
 earlier (suc (suc (suc t))) h = absurd (omega arith)
 
--- nor have sixteen zeros
+whole-earlier : (t : ℕ) → t < 3 → matches (part t syncBits (threeZeros ++ sync)) sync < fewestMatches
+unfolding matches fields field
+whole-earlier zero h = lit< tt
+whole-earlier (suc zero) h = lit< tt
+whole-earlier (suc (suc zero)) h = lit< tt
+whole-earlier (suc (suc (suc t))) h = absurd (omega arith)
+
+-- so no place before it passes, whatever follows
+fails-before : (l y : List Bool) (least : ℕ) → take 19 l ≡ threeZeros ++ y → length y ≡ syncBits → fewestMatches ≤ least
+    → ((t : ℕ) → t < 3 → matches (part t syncBits (threeZeros ++ y)) sync < fewestMatches) → (t : ℕ) → 0 ≤ t → t < 3 → passes least l t ≡ false
+fails-before l y least head size low unlike t a h =
+    let n : length (take 19 l) ≡ 19 = ap length head ∙ length-append threeZeros y ∙ ap (λ (i : ℕ). 3 + i) size in
+    let e : syncAt l t ≡ part t 16 (threeZeros ++ y) =
+    ap (part t 16) (sym (take-append-drop 19 l)) ∙ part-left (take 19 l) (drop 19 l) t 16 (omega arith) ∙ ap (part t 16) head in
+    unlike-fails least l t (subst (λ (x : List Bool). matches x sync < least) (sym e) (omega (arith, unlike t h)))
+
+-- nor have sixteen zeros twelve
 zeros-match : matches (replicate syncBits false) sync < fewestMatches
 unfolding matches fields field
 zeros-match = lit< tt
@@ -61,6 +80,10 @@ zeros-part n j h =
     ap (λ (i : ℕ). part j 16 (replicate i false)) e ∙ ap (part j 16) (sym (replicate-append-replicate j (16 + r) false))
     ∙ part-right (replicate j false) (replicate (16 + r) false) j 16 (length-replicate j false)
     ∙ ap (take 16) (sym (replicate-append-replicate 16 r false)) ∙ take-at (replicate 16 false) (replicate r false) 16 refl
+
+pub sync-size : length sync ≡ syncBits
+unfolding fields field
+sync-size = refl
 
 two-ones : ones 3 ≡ 2
 unfolding onesIn
@@ -92,12 +115,7 @@ module _ (u : Utterance) where
       (H.sync-there u threeZeros (λ k. worstSync) (λ k. 3) manyZeros 151 fits 0 (omega arith))
 
   not-before : (t : ℕ) → 0 ≤ t → t < 3 → passes fewestMatches l t ≡ false
-  unfolding fields field
-  not-before t a h =
-      let size : length (take 19 l) ≡ 19 = ap length head-is in
-      let e : syncAt l t ≡ part t 16 (threeZeros ++ worstSync) =
-      ap (part t 16) (sym (take-append-drop 19 l)) ∙ part-left (take 19 l) (drop 19 l) t 16 (omega arith) ∙ ap (part t 16) head-is in
-      unlike-fails fewestMatches l t (subst (λ (x : List Bool). matches x sync < fewestMatches) (sym e) (earlier t h))
+  not-before = fails-before l worstSync fewestMatches head-is (fits .syncs 0) (lit≤ tt) earlier
 
   not-behind : (t : ℕ) → 3 + multiframeBits * m ≤ t → t + multiframeBits ≤ searched l → passes fewestMatches l t ≡ false
   not-behind t h r =
@@ -129,7 +147,7 @@ module _ (u : Utterance) where
     two-hunted two lent =
         let n = H.searched-are u threeZeros (λ k. worstSync) (λ k. 3) manyZeros 151 fits in
         let out : outsideOf l 0 m ≡ 1208 = omega arith in
-        let tested : testedOf l 0 3 m ≡ 59 = omega arith in
+        let tested : testedInRow l 0 3 m ≡ 59 = omega arith in
         hunts-back u carriedOctets 0 3 fewestMatches codebook thresholds index report (hunts-back-met (le-of-eq (sym two)) lent)
         ∙ same-notes u carriedOctets 0 3 fewestMatches codebook thresholds index report (receivedFlips u carriedOctets 3) (λ k. 2) two-flips
         ∙ ap₂
@@ -154,3 +172,39 @@ met-says24 = hunts-back-met says24 zeroBook zeroThresholds index24 report24 (le-
 pub hunts-says24 : huntingReading (carriedOctets says24) 0 fewestMatches zeroBook zeroThresholds index24 report24 .answer
     ≡ Read (record { summary = spoken says24; outside = 1208; tested = 59 })
 hunts-says24 = ap (λ (o : Outcome). o .answer) (two-hunted says24 zeroBook zeroThresholds index24 report24 two-multiframes (lent-zeros (multiframesOf says24)))
+
+-- ---- THE SHIFTED IMAGE: every utterance's, behind three zeros and before five
+abbrev pub fiveZeros : List Bool
+fiveZeros = replicate 5 false
+
+module _ (u : Utterance) where
+  abbrev pub shiftedOctets : List ℕ
+  shiftedOctets = octets (1 + multiframeOctets * multiframesOf u) (threeZeros ++ (bits (imageOf u) ++ fiveZeros))
+
+  image-bits : length (bits (imageOf u)) ≡ multiframeBits * multiframesOf u
+  image-bits = length-bits (imageOf u) ∙ omega (arith, length-image (u .rate) (u .kind) (u .indices) (multiframesOf u))
+
+  shifted-size : length (threeZeros ++ (bits (imageOf u) ++ fiveZeros)) ≡ 8 * (1 + multiframeOctets * multiframesOf u)
+  shifted-size =
+      length-append threeZeros (bits (imageOf u) ++ fiveZeros) ∙ omega (arith, length-append (bits (imageOf u)) fiveZeros, image-bits)
+
+  pub shifted-met : (least : ℕ) → fewestMatches ≤ least → Shifted u shiftedOctets 0 least threeZeros fiveZeros
+  shifted-met least low =
+      let same : bits shiftedOctets ≡ threeZeros ++ (bits (imageOf u) ++ fiveZeros) =
+      bits-octets (1 + multiframeOctets * multiframesOf u) (threeZeros ++ (bits (imageOf u) ++ fiveZeros)) shifted-size in
+      let few : multiframesOf u ≤ 255 = few-multiframes (u .rate) (u .kind) (u .indices) (is-accepted u .sizes) in
+      let size : length (bits shiftedOctets) ≡ 8 * (1 + 144 * multiframesOf u) = ap length same ∙ shifted-size in
+      let all : searched (bits shiftedOctets) ≡ 8 * (1 + 144 * multiframesOf u) = searched-all (bits shiftedOctets) (omega arith) ∙ size in
+      let first : take 16 (bits (imageOf u)) ≡ sync =
+      sym (bits-part 0 2 (imageOf u) (omega (arith, length-image (u .rate) (u .kind) (u .indices) (multiframesOf u))))
+      ∙ ap bits (image-sync (u .rate) (u .kind) (u .indices) (multiframesOf u) 0 (omega arith)) in
+      let head : take 19 (bits shiftedOctets) ≡ threeZeros ++ sync =
+      ap (take 19) same
+      ∙ ap (λ (x : List Bool). threeZeros ++ x) (take-append-le 16 (bits (imageOf u)) fiveZeros (omega (arith, image-bits)) ∙ first) in
+      record {
+        same = same;
+        begins = lit≤ tt;
+        inside = omega arith;
+        none-before = fails-before (bits shiftedOctets) sync least head sync-size low whole-earlier;
+        none-behind = λ t a h. absurd (omega arith);
+      }

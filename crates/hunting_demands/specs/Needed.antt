@@ -46,11 +46,11 @@ use Rattle.demands.specs.Whole.{Lent, rowOf, readings-are, refuses-16}
 use Rattle.demands.specs.Instances.{lone, says1}
 use Rattle.demands.specs.Met.{zeroBook, zeroThresholds, lent-zeros, says24, two-multiframes}
 use Rattle.demands.specs.Needed.{says1At11}
-use Rattle.hunting_demands.specs.Standing.{placeOf, row, syncAt, wordAt, passes-there, unlike-fails, lost-fails, InARow, testedOf, nothing-found, reads-in-a-row, image-size, image-sync, image-word}
+use Rattle.hunting_demands.specs.Standing.{placeInRow, row, syncAt, wordAt, passes-there, unlike-fails, lost-fails, InARow, testedInRow, nothing-found, reads-in-a-row, image-size, image-sync, image-word}
 use Rattle.hunting_demands.specs.Laid.{laidMultiframe, sync-in, word-in}
-use Rattle.hunting_demands.specs.HuntsBack.{receivedFlips, Premises}
+use Rattle.hunting_demands.specs.HuntsBack.{receivedFlips, Premises, all-match}
 use Rattle.hunting_demands.specs.Hurt as H
-use Rattle.hunting_demands.specs.Met.{worstSync, index24, report24}
+use Rattle.hunting_demands.specs.Met.{worstSync, sync-size, index24, report24}
 
 -- but for one premise all are met, and the reading is refused, and both buffers stay
 pub record Needed (missing : Type 0) (u : Utterance) (s : List ℕ) (from at least : ℕ) (codebook thresholds : List ℤ) (index report : List ℕ) (r : Refusal) : Type 0 where
@@ -60,7 +60,7 @@ pub record Needed (missing : Type 0) (u : Utterance) (s : List ℕ) (from at lea
 -- the premises that can be missing
 module _ (u : Utterance) (s : List ℕ) (from at least : ℕ) where
   abbrev pub Syncs : Type 0
-  Syncs = (k : ℕ) → k < multiframesOf u → least ≤ matches (syncAt (bits s) (placeOf at k)) sync
+  Syncs = (k : ℕ) → k < multiframesOf u → least ≤ matches (syncAt (bits s) (placeInRow at k)) sync
 
   abbrev pub Headers : Type 0
   Headers = (k : ℕ) → k < multiframesOf u → receivedFlips u s at k ≤ 2
@@ -88,35 +88,27 @@ module _ (s : List ℕ) (from at least m : ℕ) (r : InARow (bits s) from at lea
   unsettled : settling (readings got (rowOf m)) ≡ S.Unsettled → huntingReading s from least codebook thresholds index report ≡ outcome (Refused (Octets Unsettled)) index report
   unsettled e =
       reads-in-a-row s from least codebook thresholds index report low high (lent .codebook-size) (lent .thresholds-size) at m r some few
-      ∙ ap (λ (o : R.Outcome). counted o (outsideOf (bits s) from m) (testedOf (bits s) from at m))
+      ∙ ap (λ (o : R.Outcome). counted o (outsideOf (bits s) from m) (testedInRow (bits s) from at m))
       (refuses-16 got m few (image-size s at m (r .inside)) (image-sync s at m (r .inside)) codebook thresholds index report some lent e)
 
-  header-found : (k : ℕ) → k < m → reading (wordIn got k) ≡ reading (wordAt (bits s) (placeOf at k))
+  header-found : (k : ℕ) → k < m → reading (wordIn got k) ≡ reading (wordAt (bits s) (placeInRow at k))
   header-found k h = ap reading (image-word s at m (r .inside) k h)
 
   -- so with an only header that was mended
-  mended-alone : (c f : ℕ) → m ≡ 1 → reading (wordAt (bits s) (placeOf at 0)) ≡ Codeword c f → (f ≡ 0 → ⊥)
+  mended-alone : (c f : ℕ) → m ≡ 1 → reading (wordAt (bits s) (placeInRow at 0)) ≡ Codeword c f → (f ≡ 0 → ⊥)
       → huntingReading s from least codebook thresholds index report ≡ outcome (Refused (Octets Unsettled)) index report
   mended-alone c f one e touched =
       unsettled (ap settling (readings-are got m ∙ ap (each (λ k. reading (wordIn got k))) one) ∙ ap (λ (h : Header). settling (h ∷ [])) (header-found 0 some ∙ e)
       ∙ only-mended c f touched)
 
   -- and with two of different common bits
-  two-differ : (a b f g : ℕ) → m ≡ 2 → reading (wordAt (bits s) (placeOf at 0)) ≡ Codeword a f → reading (wordAt (bits s) (placeOf at 1)) ≡ Codeword b g
+  two-differ : (a b f g : ℕ) → m ≡ 2 → reading (wordAt (bits s) (placeInRow at 0)) ≡ Codeword a f → reading (wordAt (bits s) (placeInRow at 1)) ≡ Codeword b g
       → (commonBits b ≡ commonBits a → ⊥) → huntingReading s from least codebook thresholds index report ≡ outcome (Refused (Octets Unsettled)) index report
   two-differ a b f g two ea eb differ =
       unsettled (ap settling (readings-are got m ∙ ap (each (λ k. reading (wordIn got k))) two)
       ∙ ap₂ (λ (h i : Header). settling (h ∷ i ∷ [])) (header-found 0 some ∙ ea) (header-found 1 (omega arith) ∙ eb) ∙ unlike a b f g differ)
 
 -- ---- syncs and flips
-sync-size : length sync ≡ syncBits
-unfolding fields field
-sync-size = refl
-
-sync-match : matches sync sync ≡ syncBits
-unfolding matches fields field
-sync-match = refl
-
 -- the sync with five bits flipped
 abbrev pub fiveSync : List Bool
 fiveSync = flip worstSync 1
@@ -126,7 +118,7 @@ unfolding fields field
 five-size = refl
 
 sync-enough : (least : ℕ) → least ≤ syncBits → least ≤ matches sync sync
-sync-enough least = subst (λ (n : ℕ). least ≤ n) (sym sync-match)
+sync-enough least = subst (λ (n : ℕ). least ≤ n) (sym all-match)
 
 five-match : matches fiveSync sync < fewestMatches
 unfolding matches fields field
@@ -155,7 +147,7 @@ first-alone s least room e none = record {
   none-behind = none;
 }
   where
-    first : (k : ℕ) → k < 1 → passes least (bits s) (placeOf 0 k) ≡ true
+    first : (k : ℕ) → k < 1 → passes least (bits s) (placeInRow 0 k) ≡ true
     first zero h = e
     first (suc k) h = absurd (omega arith)
 
@@ -411,7 +403,7 @@ module _ (codebook thresholds : List ℤ) (index report : List ℕ) where
             (record {
               begins = lit≤ tt;
               inside = omega arith;
-              stand = both-of (λ (k : ℕ). passes least (bits followed) (placeOf 0 k) ≡ true)
+              stand = both-of (λ (k : ℕ). passes least (bits followed) (placeInRow 0 k) ≡ true)
                   (H.passes-hurt says1 [] (λ k. sync) (λ k. 0) other 144 f 0 (lit< tt) least (sync-enough least high) few)
                   (passes-there least (bits followed) 1152 (sentMessage says1At11 0) (ones 0) match second);
               none-before = λ t a h. absurd (omega arith);

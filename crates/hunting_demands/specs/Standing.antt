@@ -33,8 +33,8 @@ use Rattle.writer.specs.Made.{Small, syncIn, wordIn, streamIn, framed, made, le
 
 -- ---- places
 -- the k-th of multiframes that stand one behind the other from bit `at` on
-abbrev pub placeOf : ℕ → ℕ → ℕ
-placeOf at k = at + multiframeBits * k
+abbrev pub placeInRow : ℕ → ℕ → ℕ
+placeInRow at k = at + multiframeBits * k
 
 -- n places from q on, a multiframe apart
 abbrev pub row : ℕ → ℕ → List ℕ
@@ -45,7 +45,7 @@ length-row : (q n : ℕ) → length (row q n) ≡ n
 length-row q zero = refl
 length-row q (suc n) = ap suc (length-row (q + multiframeBits) n)
 
-row-more : (q n : ℕ) → row q (suc n) ≡ row q n ++ (placeOf q n ∷ [])
+row-more : (q n : ℕ) → row q (suc n) ≡ row q n ++ (placeInRow q n ∷ [])
 row-more q zero = let z : q ≡ q + 1152 * 0 = omega arith in ap (λ (i : ℕ). i ∷ []) z
 row-more q (suc n) =
     let z : q + 1152 + 1152 * n ≡ q + 1152 * suc n = omega arith in
@@ -83,7 +83,7 @@ module _ (least : ℕ) (l : List Bool) (p : ℕ) where
 pub record InARow (l : List Bool) (from at least m : ℕ) : Type 0 where
   pub begins : from ≤ at
   pub inside : at + multiframeBits * m ≤ searched l
-  pub stand : (k : ℕ) → k < m → passes least l (placeOf at k) ≡ true
+  pub stand : (k : ℕ) → k < m → passes least l (placeInRow at k) ≡ true
   pub none-before : (t : ℕ) → from ≤ t → t < at → passes least l t ≡ false
   pub none-behind : (t : ℕ) → at + multiframeBits * m ≤ t → t + multiframeBits ≤ searched l → passes least l t ≡ false
 
@@ -100,13 +100,13 @@ none-gathered l from least zero none = ap last (none-hunted l from least none)
 none-gathered l from least (suc k) none = ap (λ (h : Hunted). step h (λ p. gathering l least k (p + multiframeBits))) (none-hunted l from least none)
 
 -- the places tested where m multiframes stand in a row: those before, theirs, and those left behind
-abbrev pub testedOf : List Bool → ℕ → ℕ → ℕ → ℕ
-testedOf l from at m = (at - from) + m + placesLeft l (at + multiframeBits * m)
+abbrev pub testedInRow : List Bool → ℕ → ℕ → ℕ → ℕ
+testedInRow l from at m = (at - from) + m + placesLeft l (at + multiframeBits * m)
 
 module _ (l : List Bool) (from at least m : ℕ) (r : InARow l from at least m) where
   -- from a place on, before which none passes, multiframe j is the next to be taken
-  taken-next : (f j k : ℕ) → j < m → f ≤ placeOf at j → ((t : ℕ) → f ≤ t → t < placeOf at j → passes least l t ≡ false)
-      → gathering l least (suc k) f ≡ prepend (placeOf at j) (suc (placeOf at j) - f) (gathering l least k (placeOf at j + multiframeBits))
+  taken-next : (f j k : ℕ) → j < m → f ≤ placeInRow at j → ((t : ℕ) → f ≤ t → t < placeInRow at j → passes least l t ≡ false)
+      → gathering l least (suc k) f ≡ prepend (placeInRow at j) (suc (placeInRow at j) - f) (gathering l least k (placeInRow at j + multiframeBits))
   unfolding gathering
   taken-next f j k h le none =
       let p = at + 1152 * j in
@@ -116,7 +116,7 @@ module _ (l : List Bool) (from at least m : ℕ) (r : InARow l from at least m) 
 
   -- the multiframes from number j on
   found-on : (n j k : ℕ) → j + n ≡ m → n ≤ k
-      → gathering l least k (placeOf at j) ≡ record { places = row (placeOf at j) n; ending = whole; tested = n + placesLeft l (at + multiframeBits * m) }
+      → gathering l least k (placeInRow at j) ≡ record { places = row (placeInRow at j) n; ending = whole; tested = n + placesLeft l (at + multiframeBits * m) }
   found-on zero j k e h =
       let z : j ≡ m = omega arith in
       ap (λ (i : ℕ). gathering l least k (at + 1152 * i)) z ∙ none-gathered l (at + 1152 * m) least k (r .none-behind)
@@ -132,10 +132,10 @@ module _ (l : List Bool) (from at least m : ℕ) (r : InARow l from at least m) 
 
   -- FOUND IN A ROW: they are taken, and no others
   pub found-in-a-row : 0 < m → m ≤ mostMultiframes
-      → gathering l least mostMultiframes from ≡ record { places = row at m; ending = whole; tested = testedOf l from at m }
+      → gathering l least mostMultiframes from ≡ record { places = row at m; ending = whole; tested = testedInRow l from at m }
   found-in-a-row some few = by m refl
     where
-      by : (n : ℕ) → n ≡ m → gathering l least mostMultiframes from ≡ record { places = row at m; ending = whole; tested = testedOf l from at m }
+      by : (n : ℕ) → n ≡ m → gathering l least mostMultiframes from ≡ record { places = row at m; ending = whole; tested = testedInRow l from at m }
       by zero e = absurd (omega arith)
       by (suc n) e =
           let z : at + 1152 * 0 ≡ at = omega arith in
@@ -161,14 +161,14 @@ module _ (s : List ℕ) (from least : ℕ) (codebook thresholds : List ℤ) (ind
   -- READ IN A ROW: what is put together is read as 01 says, with the bits outside and the places tested
   pub reads-in-a-row : (at m : ℕ) → InARow (bits s) from at least m → 0 < m → m ≤ mostMultiframes
       → huntingReading s from least codebook thresholds index report
-      ≡ counted (R.reading (imageOf s (row at m)) codebook thresholds index report) (outsideOf (bits s) from m) (testedOf (bits s) from at m)
-  reads-in-a-row at m r some few = found-next (row at m) whole (testedOf (bits s) from at m) (found-in-a-row (bits s) from at least m r some few) ∙ by m some
+      ≡ counted (R.reading (imageOf s (row at m)) codebook thresholds index report) (outsideOf (bits s) from m) (testedInRow (bits s) from at m)
+  reads-in-a-row at m r some few = found-next (row at m) whole (testedInRow (bits s) from at m) (found-in-a-row (bits s) from at least m r some few) ∙ by m some
     where
-      by : (n : ℕ) → 0 < n → readingBy s from least codebook thresholds index report (row at n) (testedOf (bits s) from at m) whole
-          ≡ counted (R.reading (imageOf s (row at n)) codebook thresholds index report) (outsideOf (bits s) from n) (testedOf (bits s) from at m)
+      by : (n : ℕ) → 0 < n → readingBy s from least codebook thresholds index report (row at n) (testedInRow (bits s) from at m) whole
+          ≡ counted (R.reading (imageOf s (row at n)) codebook thresholds index report) (outsideOf (bits s) from n) (testedInRow (bits s) from at m)
       by zero h = absurd (omega arith)
       by (suc n) h =
-          ap (λ (i : ℕ). counted (R.reading (imageOf s (row at (suc n))) codebook thresholds index report) (outsideOf (bits s) from i) (testedOf (bits s) from at m)) (length-row at (suc n))
+          ap (λ (i : ℕ). counted (R.reading (imageOf s (row at (suc n))) codebook thresholds index report) (outsideOf (bits s) from i) (testedInRow (bits s) from at m)) (length-row at (suc n))
 
   -- NOTHING FOUND: 22, and both buffers stay
   pub nothing-found : ((t : ℕ) → from ≤ t → t + multiframeBits ≤ searched (bits s) → passes least (bits s) t ≡ false)
@@ -194,20 +194,20 @@ module _ (s : List ℕ) (at m : ℕ) (inside : at + multiframeBits * m ≤ searc
   within = let h = searched-le (bits s) in omega arith
 
   abbrev words : ℕ → ℕ
-  words k = wordAt (bits s) (placeOf at k)
+  words k = wordAt (bits s) (placeInRow at k)
 
   abbrev streams : ℕ → List Bool
-  streams k = streamAt (bits s) (placeOf at k)
+  streams k = streamAt (bits s) (placeInRow at k)
 
   made-first : (n : ℕ) → n ≤ m → imageOf s (row at n) ≡ made words streams n
   unfolding imageOf
   made-first zero h = refl
   made-first (suc n) h =
-      ap (imageOf s) (row-more at n) ∙ image-more s (row at n) (placeOf at n)
+      ap (imageOf s) (row-more at n) ∙ image-more s (row at n) (placeInRow at n)
       ∙ ap₂ (λ (x y : List ℕ). x ++ y) (made-first n (omega arith)) (aligned-framed s (at + 1152 * n) (omega (arith, within)))
 
   -- PUT TOGETHER they are multiframes made of those headers and streams
-  pub image-made : imageOf s (row at m) ≡ made (λ k. wordAt (bits s) (placeOf at k)) (λ k. streamAt (bits s) (placeOf at k)) m
+  pub image-made : imageOf s (row at m) ≡ made (λ k. wordAt (bits s) (placeInRow at k)) (λ k. streamAt (bits s) (placeInRow at k)) m
   image-made = made-first m (omega arith)
 
   pub image-size : length (imageOf s (row at m)) ≡ multiframeOctets * m
@@ -220,13 +220,13 @@ module _ (s : List ℕ) (at m : ℕ) (inside : at + multiframeBits * m ≤ searc
     pub image-sync : syncIn (imageOf s (row at m)) k ≡ 0x87 ∷ 0xB2 ∷ []
     image-sync = ap (λ (x : List ℕ). syncIn x k) image-made ∙ made-sync words streams m k h
 
-    pub image-word : wordIn (imageOf s (row at m)) k ≡ wordAt (bits s) (placeOf at k)
+    pub image-word : wordIn (imageOf s (row at m)) k ≡ wordAt (bits s) (placeInRow at k)
     image-word =
         let size : length (part (at + 1152 * k + 16) 32 (bits s)) ≡ 32 = length-part (bits s) (at + 1152 * k + 16) 32 (omega (arith, within)) in
         ap (λ (x : List ℕ). wordIn x k) image-made
         ∙ made-word words streams m k h (subst (λ (n : ℕ). words k < 2 ^ n) size (value-lt (part (at + 1152 * k + 16) 32 (bits s))))
 
-    pub image-stream : bits (streamIn (imageOf s (row at m)) k) ≡ streamAt (bits s) (placeOf at k)
+    pub image-stream : bits (streamIn (imageOf s (row at m)) k) ≡ streamAt (bits s) (placeInRow at k)
     image-stream =
         ap (λ (x : List ℕ). bits (streamIn x k)) image-made ∙ ap bits (made-stream words streams m k h)
         ∙ bits-octets 138 (streams k) (length-part (bits s) (at + 1152 * k + 16 + 32) 1104 (omega (arith, within)))
