@@ -1,5 +1,5 @@
 -- The premises of HUNTS BACK are met: by every utterance of two multiframes or more, at bit 3, with four flips in every sync, two in every
--- header, and zeros in front and behind.
+-- header, and zeros in front and behind; and by every utterance at bit 3, undamaged.
 -- Assumes nothing.
 use Prim.Native.Nat.{ℕ, zero, suc, _+_, _-_, _*_, _≤_, _<_}
 use mathlib.Core.Path.{_≡_, refl, sym, ap, ap₂, _∙_, subst}
