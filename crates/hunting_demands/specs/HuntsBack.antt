@@ -1,0 +1,185 @@
+-- HUNTS BACK (demand 2's reading back, for 02's C-13). A written image standing at any bit of octets, behind bits in which no place passes the
+-- test and followed by any in which none does, its syncs damaged as far as the test allows and its headers by at most two flips each, is found
+-- and read with the same settings, frames and count, and each header's note is the number of bits flipped there.
+-- Assumes nothing.
+use Prim.Native.Nat.{ℕ, _+_, _*_, _/_, _≤_, _<_}
+use mathlib.Core.Path.{_≡_, refl, sym, ap, ap₂, _∙_, subst}
+use mathlib.Core.List.{List, _∷_, _++_}
+use mathlib.Core.Bool.{Bool, true, false}
+use mathlib.Core.Logic.{_⊎_, inl, inr, ⊎-elim}
+use native.Mathlib.Omega.{arith}
+use lib.Bits.{bitXor, xor-self}
+use lib.Count.{ones, ones-le}
+use lib.Dec.{lit<}
+use lib.IntN.{ℤ}
+use lib.ListN.{length, replicate, take}
+use lib.Seq.{drop-append-add}
+use Rattle.lists.specs.Parts.{part, over, part-left}
+use Rattle.lists.specs.Rows.{joined, same-joined}
+use Rattle.layout.specs.Layout.{packetBits, multiframePairs, multiframeOctets, mostMultiframes, indexOctets, reportOctets, packetStart}
+use Rattle.bits.specs.Bits.{value, fields, field, bits}
+use Rattle.bits.specs.Laws.{length-bits, bits-part}
+use Rattle.header.specs.Reading.{reading}
+use Rattle.hunt.specs.Hunt.{fewestMatches, syncBits, multiframeBits, sync, matches, passes, searched}
+use Rattle.reader.specs.Reading as R
+use Rattle.hunting.specs.Hunting as G
+use Rattle.hunting.specs.Hunting.{outsideOf, counted, outcome, huntingReading}
+use Rattle.hunting.specs.declared.Answer.the-variants.{Read}
+use Rattle.writer.specs.Laws.{few-multiframes, length-image}
+use Rattle.writer.specs.Made.{wordIn, streamIn, packetIn}
+use Rattle.writer.specs.Image as I
+use Rattle.writer.specs.Image.{Utterance, multiframesOf, pairsOf, imageOf, is-accepted}
+use Rattle.demands.specs.Damage.{Damage, headerFlips, sentMessage, header-read}
+use Rattle.demands.specs.Whole.{Lent}
+use Rattle.demands.specs.ReadsBack.{spoken, padded, reads-mended}
+use Rattle.hunting_demands.specs.Standing.{placeInRow, row, passes-there, InARow, testedInRow, reads-in-a-row, syncAt, wordAt, streamAt, image-size, image-small, image-sync, image-word, image-stream}
+
+-- in how many bits the header of multiframe k, standing from bit `at` on, differs from the one written
+abbrev pub receivedFlips : Utterance → List ℕ → ℕ → ℕ → ℕ
+receivedFlips u s at k = ones (bitXor (wordAt (bits s) (placeInRow at k)) (wordIn (imageOf u) k))
+
+-- a written image standing at bit `at` of octets searched from bit `from` on, where a sync must match in `least` bits
+pub record Carried (u : Utterance) (s : List ℕ) (from at least : ℕ) : Type 0 where
+  pub begins : from ≤ at
+  pub inside : at + multiframeBits * multiframesOf u ≤ searched (bits s)
+  -- "at least T of the 16 bits match the sync"
+  pub syncs : (k : ℕ) → k < multiframesOf u → least ≤ matches (syncAt (bits s) (placeInRow at k)) sync
+  -- at most two flips in each header
+  pub headers : (k : ℕ) → k < multiframesOf u → receivedFlips u s at k ≤ 2
+  -- and the streams as they were written
+  pub streams : (k : ℕ) → k < multiframesOf u → streamAt (bits s) (placeInRow at k) ≡ bits (streamIn (imageOf u) k)
+  -- no match that could be taken instead, before it or behind
+  pub none-before : (t : ℕ) → from ≤ t → t < at → passes least (bits s) t ≡ false
+  pub none-behind : (t : ℕ) → at + multiframeBits * multiframesOf u ≤ t → t + multiframeBits ≤ searched (bits s) → passes least (bits s) t ≡ false
+
+module _ (u : Utterance) (s : List ℕ) (from at least : ℕ) (c : Carried u s from at least) where
+  abbrev m : ℕ
+  m = multiframesOf u
+
+  -- the multiframes found, put together
+  abbrev got : List ℕ
+  got = G.imageOf s (row at m)
+
+  flips-are : (k : ℕ) → k < m → headerFlips (imageOf u) got k ≡ receivedFlips u s at k
+  flips-are k h = ap (λ (w : ℕ). ones (bitXor w (wordIn (imageOf u) k))) (image-word s at m (c .inside) k h)
+
+  packets-kept : (q : ℕ) → q < pairsOf u → packetIn got q ≡ packetIn (imageOf u) q
+  packets-kept q h =
+      let k : q / 12 < m = omega arith in
+      ap (part (packetStart q) packetBits) (image-stream s at m (c .inside) (q / 12) k ∙ c .streams (q / 12) k)
+
+  -- they are the image with damaged headers
+  pub damage : Damage m (imageOf u) got
+  damage = record {
+    size = image-size s at m (c .inside) ∙ sym (length-image (u .rate) (u .kind) (u .indices) m);
+    small = image-small s at m (c .inside);
+    syncs = λ k h. image-sync s at m (c .inside) k h ∙ sym (I.image-sync (u .rate) (u .kind) (u .indices) m k h);
+    headers = λ k h. subst (λ (n : ℕ). n ≤ 2) (sym (flips-are k h)) (c .headers k h);
+    packets = λ q h. inl (packets-kept q h);
+  }
+
+  -- and each passes the test
+  stands : (k : ℕ) → k < m → passes least (bits s) (placeInRow at k) ≡ true
+  stands k h =
+      passes-there least (bits s) (placeInRow at k) (sentMessage u k) (headerFlips (imageOf u) got k) (c .syncs k h)
+      (ap reading (sym (image-word s at m (c .inside) k h)) ∙ header-read u got damage k h)
+
+  pub in-a-row : InARow (bits s) from at least m
+  in-a-row = record { begins = c .begins; inside = c .inside; stand = stands; none-before = c .none-before; none-behind = c .none-behind }
+
+-- ---- the theorem
+module _ (u : Utterance) (s : List ℕ) (from at least : ℕ) (codebook thresholds : List ℤ) (index report : List ℕ) where
+  -- what is read: the settings, count and frames written, the bits outside and the places tested, and these header notes
+  abbrev pub heard : (ℕ → ℕ) → G.Outcome
+  heard notes =
+      outcome (Read (record { summary = spoken u; outside = outsideOf (bits s) from (multiframesOf u); tested = testedInRow (bits s) from at (multiframesOf u) }))
+      (over index 0 (indexOctets * multiframesOf u) (padded u))
+      (over report 0 (reportOctets * multiframesOf u) (joined (λ k. notes k ∷ replicate multiframePairs 0) (multiframesOf u)))
+
+  pub same-notes : (f g : ℕ → ℕ) → ((k : ℕ) → k < multiframesOf u → f k ≡ g k) → heard f ≡ heard g
+  same-notes f g e =
+      ap
+      (λ (l : List ℕ). outcome (heard f .answer) (over index 0 (indexOctets * multiframesOf u) (padded u)) (over report 0 (reportOctets * multiframesOf u) l))
+      (same-joined (λ k. f k ∷ replicate multiframePairs 0) (λ k. g k ∷ replicate multiframePairs 0) (multiframesOf u)
+      (λ k h. ap (λ (x : ℕ). x ∷ replicate multiframePairs 0) (e k h)))
+
+  pub record Premises : Type 0 where
+    pub carried : Carried u s from at least
+    -- "T is the caller's, 12 to 16"
+    pub low : fewestMatches ≤ least
+    pub high : least ≤ syncBits
+    -- two multiframes or more, or an only header that is untouched
+    pub settled : (2 ≤ multiframesOf u) ⊎ (receivedFlips u s at 0 ≡ 0)
+    -- 01's tables and room
+    pub lent : Lent (multiframesOf u) codebook thresholds index report
+
+  pub hunts-back : Premises → huntingReading s from least codebook thresholds index report ≡ heard (receivedFlips u s at)
+  hunts-back p =
+      let c = p .carried in
+      let n = multiframesOf u in
+      let g = G.imageOf s (row at n) in
+      let few : n ≤ mostMultiframes = few-multiframes (u .rate) (u .kind) (u .indices) (is-accepted u .sizes) in
+      let headers : (2 ≤ n) ⊎ (headerFlips (imageOf u) g 0 ≡ 0) = ⊎-elim inl (λ e. inr (flips-are u s from at least c 0 (omega arith) ∙ e)) (p .settled) in
+      reads-in-a-row s from least codebook thresholds index report (p .low) (p .high) (p .lent .codebook-size) (p .lent .thresholds-size) at n
+      (in-a-row u s from at least c) (omega arith) few
+      ∙ ap (λ (o : R.Outcome). counted o (outsideOf (bits s) from n) (testedInRow (bits s) from at n))
+      (reads-mended u g (damage u s from at least c) (packets-kept u s from at least c) headers codebook thresholds index report (p .lent))
+      ∙ same-notes (headerFlips (imageOf u) g) (receivedFlips u s at) (flips-are u s from at least c)
+
+-- ---- an image that is only shifted: any bits in front of it and behind, and nothing damaged
+pub all-match : matches sync sync ≡ syncBits
+unfolding matches fields field
+all-match = refl
+
+module _ (u : Utterance) (s : List ℕ) (from least : ℕ) (front behind : List Bool) where
+  pub record Shifted : Type 0 where
+    pub same : bits s ≡ front ++ (bits (imageOf u) ++ behind)
+    pub begins : from ≤ length front
+    pub inside : length front + multiframeBits * multiframesOf u ≤ searched (bits s)
+    pub none-before : (t : ℕ) → from ≤ t → t < length front → passes least (bits s) t ≡ false
+    pub none-behind : (t : ℕ) → length front + multiframeBits * multiframesOf u ≤ t → t + multiframeBits ≤ searched (bits s) → passes least (bits s) t ≡ false
+
+  module _ (h : Shifted) where
+    abbrev img : List ℕ
+    img = imageOf u
+
+    size : length img ≡ multiframeOctets * multiframesOf u
+    size = length-image (u .rate) (u .kind) (u .indices) (multiframesOf u)
+
+    -- octets of the image are bits of s
+    bits-of : (i n t : ℕ) → i + n ≤ length img → t ≡ length front + 8 * i → part t (8 * n) (bits s) ≡ bits (part i n img)
+    bits-of i n t le e =
+        ap₂ (λ (j : ℕ) (l : List Bool). part j (8 * n) l) e (h .same) ∙ ap (take (8 * n)) (drop-append-add front (bits img ++ behind) (8 * i))
+        ∙ part-left (bits img) behind (8 * i) (8 * n) (omega (arith, length-bits img)) ∙ sym (bits-part i n img le)
+
+    module _ (k : ℕ) (l : k < multiframesOf u) where
+      sync-whole : syncAt (bits s) (placeInRow (length front) k) ≡ sync
+      sync-whole =
+          bits-of (144 * k) 2 (length front + 1152 * k) (omega (arith, size)) (omega arith)
+          ∙ ap bits (I.image-sync (u .rate) (u .kind) (u .indices) (multiframesOf u) k l)
+
+      no-flips : receivedFlips u s (length front) k ≡ 0
+      no-flips =
+          let w : wordAt (bits s) (placeInRow (length front) k) ≡ wordIn img k =
+          ap value (bits-of (144 * k + 2) 4 (length front + 1152 * k + 16) (omega (arith, size)) (omega arith)) in
+          ap (λ (x : ℕ). ones (bitXor x (wordIn img k))) w ∙ ap ones (xor-self (wordIn img k)) ∙ omega (arith, ones-le 0 0 (lit< tt))
+
+    pub shifted-carried : least ≤ syncBits → Carried u s from (length front) least
+    shifted-carried high = record {
+      begins = h .begins;
+      inside = h .inside;
+      syncs = λ k l. subst (λ (n : ℕ). least ≤ n) (sym (ap (λ (x : List Bool). matches x sync) (sync-whole k l) ∙ all-match)) high;
+      headers = λ k l. omega (arith, no-flips k l);
+      streams = λ k l. bits-of (144 * k + 2 + 4) 138 (length front + 1152 * k + 16 + 32) (omega (arith, size)) (omega arith);
+      none-before = h .none-before;
+      none-behind = h .none-behind;
+    }
+
+    -- it is read with the same settings, frames and count, and all notes 0
+    pub hunts-shifted : (codebook thresholds : List ℤ) (index report : List ℕ) → fewestMatches ≤ least → least ≤ syncBits
+        → Lent (multiframesOf u) codebook thresholds index report
+        → huntingReading s from least codebook thresholds index report ≡ heard u s from (length front) least codebook thresholds index report (λ k. 0)
+    hunts-shifted codebook thresholds index report low high lent =
+        hunts-back u s from (length front) least codebook thresholds index report
+        (record { carried = shifted-carried high; low = low; high = high; settled = inr (no-flips 0 (omega arith)); lent = lent })
+        ∙ same-notes u s from (length front) least codebook thresholds index report (receivedFlips u s (length front)) (λ k. 0) no-flips

@@ -1,0 +1,123 @@
+-- Any utterance with any sixteen bits for each sync and any flips in each header, behind any bits and before any: what stands where in it, and
+-- what is left to ask of it before HUNTS BACK speaks of it.
+-- Assumes nothing.
+use Prim.Native.Nat.{ℕ, _+_, _-_, _*_, _^_, _≤_, _<_}
+use mathlib.Core.Path.{_≡_, sym, ap, ap₂, _∙_, subst}
+use mathlib.Core.List.{List, _++_}
+use mathlib.Core.Bool.{Bool, true, false}
+use native.Mathlib.Omega.{arith}
+use lib.Bits.{bitXor, xor-lt}
+use lib.Count.{ones}
+use lib.ListN.{length}
+use Rattle.lists.specs.Parts.{part, part-left}
+use Rattle.lists.specs.Rows.{joined}
+use Rattle.layout.specs.Layout.{multiframePairs, streamOctets, firstPair}
+use Rattle.bits.specs.Bits.{bits}
+use Rattle.bits.specs.Laws.{bits-octets}
+use Rattle.packet.specs.Packet.{stream}
+use Rattle.packet.specs.Laws.{length-stream}
+use Rattle.header_code.specs.Code.{codeword, flipsTo}
+use Rattle.header_code.specs.Code.Distance.{codeword-lt}
+use Rattle.header.specs.Message.Laws.{message-lt}
+use Rattle.header.specs.Reading.{reading}
+use Rattle.header.specs.Reading.Laws.{flips-of, mended, three-lost}
+use Rattle.header.specs.declared.Header.the-variants.{Codeword, Lost}
+use Rattle.hunt.specs.Hunt.{syncBits, headerBits, multiframeBits, sync, matches, passes, searched}
+use Rattle.hunt.specs.Laws.{searched-all}
+use Rattle.writer.specs.Laws.{few-multiframes}
+use Rattle.writer.specs.Image.{image-word, image-stream, Utterance, multiframesOf, is-accepted}
+use Rattle.demands.specs.Damage.{sentMessage}
+use Rattle.hunting_demands.specs.Standing.{placeInRow, syncAt, wordAt, passes-there}
+use Rattle.hunting_demands.specs.Laid.{laidMultiframe, laidOctets, Sizes, bits-laid, size-laid, laid-behind, laid-sync, laid-word, laid-stream}
+use Rattle.hunting_demands.specs.HuntsBack.{receivedFlips, Carried}
+
+module _ (u : Utterance) (front : List Bool) (y : ℕ → List Bool) (flips : ℕ → ℕ) (behind : List Bool) (n : ℕ) where
+  abbrev pub hurtWord : ℕ → ℕ
+  hurtWord k = bitXor (codeword (sentMessage u k)) (flips k)
+
+  abbrev pub keptStream : ℕ → List Bool
+  keptStream k = stream (u .indices) (firstPair k) multiframePairs
+
+  abbrev pub hurt : List ℕ
+  hurt = laidOctets front y hurtWord keptStream (multiframesOf u) behind n
+
+  pub record Fits : Type 0 where
+    pub syncs : (k : ℕ) → length (y k) ≡ syncBits
+    pub headers : (k : ℕ) → flips k < 2 ^ headerBits
+    pub around : length front + length behind ≡ 8 * n
+    pub few : n ≤ 2 ^ 32
+
+  module _ (f : Fits) where
+    abbrev m : ℕ
+    m = multiframesOf u
+
+    abbrev at : ℕ
+    at = length front
+
+    abbrev l : List Bool
+    l = bits hurt
+
+    sizes : Sizes front y hurtWord keptStream m behind n
+    sizes = record {
+      syncs = f .syncs;
+      words = λ k. xor-lt 32 (codeword (sentMessage u k)) (flips k) (codeword-lt (sentMessage u k) (message-lt (u .rate) (u .kind) (k + 1) 0)) (f .headers k);
+      streams = λ k. length-stream (u .indices) (firstPair k) multiframePairs;
+      around = f .around;
+    }
+
+    pub searched-are : searched (bits hurt) ≡ 8 * n + multiframeBits * multiframesOf u
+    searched-are =
+        let size : length l ≡ 8 * n + 1152 * m = size-laid front y hurtWord keptStream m behind n sizes in
+        let few : m ≤ 255 = few-multiframes (u .rate) (u .kind) (u .indices) (is-accepted u .sizes) in
+        searched-all l (omega (arith, f .few)) ∙ size
+
+    pub front-there : (a v : ℕ) → a + v ≤ length front → part a v (bits hurt) ≡ part a v front
+    front-there a v h =
+        ap (part a v) (bits-laid front y hurtWord keptStream m behind n sizes)
+        ∙ part-left front (joined (λ k. laidMultiframe (y k) (hurtWord k) (keptStream k)) m ++ behind) a v h
+
+    pub behind-there : (t v : ℕ) → length front + multiframeBits * multiframesOf u ≤ t
+        → part t v (bits hurt) ≡ part (t - (length front + multiframeBits * multiframesOf u)) v behind
+    behind-there = laid-behind front y hurtWord keptStream m behind n sizes
+
+    module _ (k : ℕ) (h : k < multiframesOf u) where
+      pub sync-there : syncAt (bits hurt) (placeInRow (length front) k) ≡ y k
+      sync-there = laid-sync front y hurtWord keptStream m behind n sizes k h
+
+      word-there : wordAt l (placeInRow at k) ≡ hurtWord k
+      word-there = laid-word front y hurtWord keptStream m behind n sizes k h
+
+      pub flips-there : receivedFlips u hurt (length front) k ≡ ones (flips k)
+      unfolding flipsTo
+      flips-there =
+          ap₂ (λ (a b : ℕ). ones (bitXor a b)) word-there (image-word (u .rate) (u .kind) (u .indices) m k h) ∙ flips-of (sentMessage u k) (flips k)
+
+      pub mended-there : ones (flips k) ≤ 2 → reading (wordAt (bits hurt) (placeInRow (length front) k)) ≡ Codeword (sentMessage u k) (ones (flips k))
+      mended-there le = ap reading word-there ∙ mended (sentMessage u k) (flips k) (message-lt (u .rate) (u .kind) (k + 1) 0) le
+
+      pub lost-there : ones (flips k) ≡ 3 → reading (wordAt (bits hurt) (placeInRow (length front) k)) ≡ Lost
+      lost-there e = ap reading word-there ∙ three-lost (sentMessage u k) (flips k) (message-lt (u .rate) (u .kind) (k + 1) 0) e
+
+      pub match-there : (least : ℕ) → least ≤ matches (y k) sync → least ≤ matches (syncAt (bits hurt) (placeInRow (length front) k)) sync
+      match-there least = subst (λ (x : List Bool). least ≤ matches x sync) (sym sync-there)
+
+      pub passes-hurt : (least : ℕ) → least ≤ matches (y k) sync → ones (flips k) ≤ 2 → passes least (bits hurt) (placeInRow (length front) k) ≡ true
+      passes-hurt least match le = passes-there least l (placeInRow at k) (sentMessage u k) (ones (flips k)) (match-there least match) (mended-there le)
+
+    pub hurt-carried : (from least : ℕ) → from ≤ length front
+        → ((k : ℕ) → k < multiframesOf u → least ≤ matches (syncAt (bits hurt) (placeInRow (length front) k)) sync)
+        → ((k : ℕ) → k < multiframesOf u → receivedFlips u hurt (length front) k ≤ 2)
+        → ((t : ℕ) → from ≤ t → t < length front → passes least (bits hurt) t ≡ false)
+        → ((t : ℕ) → length front + multiframeBits * multiframesOf u ≤ t → t + multiframeBits ≤ searched (bits hurt) → passes least (bits hurt) t ≡ false)
+        → Carried u hurt from (length front) least
+    hurt-carried from least begins syncs headers none-before none-behind = record {
+      begins = begins;
+      inside = omega (arith, searched-are, f .around);
+      syncs = syncs;
+      headers = headers;
+      streams = λ k h.
+          laid-stream front y hurtWord keptStream m behind n sizes k h
+          ∙ sym (ap bits (image-stream (u .rate) (u .kind) (u .indices) m k h) ∙ bits-octets streamOctets (keptStream k) (length-stream (u .indices) (firstPair k) multiframePairs));
+      none-before = none-before;
+      none-behind = none-behind;
+    }

@@ -1,0 +1,210 @@
+-- The premises of HUNTS BACK are met: by every utterance of two multiframes or more, at bit 3, with four flips in every sync, two in every
+-- header, and zeros in front and behind; and by every utterance at bit 3, undamaged.
+-- Assumes nothing.
+use Prim.Native.Nat.{ℕ, zero, suc, _+_, _-_, _*_, _≤_, _<_}
+use mathlib.Core.Path.{_≡_, refl, sym, ap, ap₂, _∙_, subst}
+use mathlib.Core.List.{List, _∷_, _++_}
+use mathlib.Core.Logic.{inl}
+use mathlib.Core.Bool.{Bool, false}
+use native.Mathlib.Nat.{le-of-eq}
+use native.Mathlib.Omega.{arith}
+use lib.Count.{ones, onesIn}
+use lib.Dec.{lit<, lit≤}
+use lib.IntN.{ℤ}
+use lib.ListN.{length, take, drop, replicate, length-replicate, length-append, take-append-drop, replicate-append-replicate}
+use lib.Seq.{take-add, take-at, take-append-le}
+use Rattle.gf2.specs.Light.{ones-in}
+use Rattle.lists.specs.Parts.{part, over, part-left, part-right}
+use Rattle.lists.specs.Rows.{joined}
+use Rattle.layout.specs.Layout.{multiframePairs, multiframeOctets, indexOctets, reportOctets}
+use Rattle.bits.specs.Bits.{field, fields, bits, octets}
+use Rattle.bits.specs.Laws.{length-bits, bits-part, bits-octets}
+use Rattle.crc.specs.Crc.{flip}
+use Rattle.hunt.specs.Hunt.{syncBits, multiframeBits, fewestMatches, sync, matches, passes, searched}
+use Rattle.hunt.specs.Laws.{searched-all}
+use Rattle.hunting.specs.Hunting.{outsideOf, Outcome, outcome, huntingReading}
+use Rattle.hunting.specs.declared.Answer.the-variants.{Read}
+use Rattle.writer.specs.Laws.{few-multiframes, length-image}
+use Rattle.writer.specs.Image.{image-sync, Utterance, multiframesOf, imageOf, is-accepted}
+use Rattle.demands.specs.Whole.{Lent}
+use Rattle.demands.specs.ReadsBack.{spoken, padded}
+use Rattle.demands.specs.Met.{zeroBook, zeroThresholds, indexFor, reportFor, lent-zeros, says24, two-multiframes}
+use Rattle.hunting_demands.specs.Standing.{testedInRow, syncAt, unlike-fails}
+use Rattle.hunting_demands.specs.HuntsBack.{receivedFlips, Carried, same-notes, Premises, hunts-back, Shifted}
+use Rattle.hunting_demands.specs.Hurt as H
+
+-- a sync with as many flips as T = 12 allows
+abbrev pub worstSync : List Bool
+worstSync = flip (flip (flip (flip sync 0) 5) 10) 15
+
+worst-matches : matches worstSync sync ≡ fewestMatches
+unfolding matches fields field
+worst-matches = refl
+
+-- behind three zeros, no place before it has twelve matches, nor before a whole sync
+abbrev pub threeZeros : List Bool
+threeZeros = replicate 3 false
+
+earlier : (t : ℕ) → t < 3 → matches (part t syncBits (threeZeros ++ worstSync)) sync < fewestMatches
+unfolding matches fields field
+earlier zero h = lit< tt
+earlier (suc zero) h = lit< tt
+earlier (suc (suc zero)) h = lit< tt
+earlier (suc (suc (suc t))) h = absurd (omega arith)
+
+whole-earlier : (t : ℕ) → t < 3 → matches (part t syncBits (threeZeros ++ sync)) sync < fewestMatches
+unfolding matches fields field
+whole-earlier zero h = lit< tt
+whole-earlier (suc zero) h = lit< tt
+whole-earlier (suc (suc zero)) h = lit< tt
+whole-earlier (suc (suc (suc t))) h = absurd (omega arith)
+
+-- so no place before it passes, whatever follows
+fails-before : (l y : List Bool) (least : ℕ) → take 19 l ≡ threeZeros ++ y → length y ≡ syncBits → fewestMatches ≤ least
+    → ((t : ℕ) → t < 3 → matches (part t syncBits (threeZeros ++ y)) sync < fewestMatches) → (t : ℕ) → 0 ≤ t → t < 3 → passes least l t ≡ false
+fails-before l y least head size low unlike t a h =
+    let n : length (take 19 l) ≡ 19 = ap length head ∙ length-append threeZeros y ∙ ap (λ (i : ℕ). 3 + i) size in
+    let e : syncAt l t ≡ part t 16 (threeZeros ++ y) =
+    ap (part t 16) (sym (take-append-drop 19 l)) ∙ part-left (take 19 l) (drop 19 l) t 16 (omega arith) ∙ ap (part t 16) head in
+    unlike-fails least l t (subst (λ (x : List Bool). matches x sync < least) (sym e) (omega (arith, unlike t h)))
+
+-- nor have sixteen zeros twelve
+zeros-match : matches (replicate syncBits false) sync < fewestMatches
+unfolding matches fields field
+zeros-match = lit< tt
+
+zeros-part : (n j : ℕ) → j + syncBits ≤ n → part j syncBits (replicate n false) ≡ replicate syncBits false
+zeros-part n j h =
+    let r = n - j - 16 in
+    let e : n ≡ j + (16 + r) = omega arith in
+    ap (λ (i : ℕ). part j 16 (replicate i false)) e ∙ ap (part j 16) (sym (replicate-append-replicate j (16 + r) false))
+    ∙ part-right (replicate j false) (replicate (16 + r) false) j 16 (length-replicate j false)
+    ∙ ap (take 16) (sym (replicate-append-replicate 16 r false)) ∙ take-at (replicate 16 false) (replicate r false) 16 refl
+
+pub sync-size : length sync ≡ syncBits
+unfolding fields field
+sync-size = refl
+
+two-ones : ones 3 ≡ 2
+unfolding onesIn
+two-ones = sym (ones-in 2 3 (lit< tt))
+
+-- ---- an utterance so carried
+abbrev pub manyZeros : List Bool
+manyZeros = replicate 1205 false
+
+module _ (u : Utterance) where
+  abbrev pub carriedOctets : List ℕ
+  carriedOctets = H.hurt u threeZeros (λ k. worstSync) (λ k. 3) manyZeros 151
+
+  abbrev m : ℕ
+  m = multiframesOf u
+
+  abbrev l : List Bool
+  l = bits carriedOctets
+
+  fits : H.Fits u threeZeros (λ k. worstSync) (λ k. 3) manyZeros 151
+  unfolding fields field
+  fits = record { syncs = λ k. refl; headers = λ k. lit< tt; around = ap (λ (n : ℕ). 3 + n) (length-replicate 1205 false); few = lit≤ tt }
+
+  -- what stands before the first header
+  head-is : take 19 l ≡ threeZeros ++ worstSync
+  head-is =
+      take-add 3 16 l
+      ∙ ap₂ (λ (x y : List Bool). x ++ y) (H.front-there u threeZeros (λ k. worstSync) (λ k. 3) manyZeros 151 fits 0 3 (lit≤ tt))
+      (H.sync-there u threeZeros (λ k. worstSync) (λ k. 3) manyZeros 151 fits 0 (omega arith))
+
+  not-before : (t : ℕ) → 0 ≤ t → t < 3 → passes fewestMatches l t ≡ false
+  not-before = fails-before l worstSync fewestMatches head-is (fits .syncs 0) (lit≤ tt) earlier
+
+  not-behind : (t : ℕ) → 3 + multiframeBits * m ≤ t → t + multiframeBits ≤ searched l → passes fewestMatches l t ≡ false
+  not-behind t h r =
+      let n = H.searched-are u threeZeros (λ k. worstSync) (λ k. 3) manyZeros 151 fits in
+      let e : syncAt l t ≡ replicate syncBits false =
+      H.behind-there u threeZeros (λ k. worstSync) (λ k. 3) manyZeros 151 fits t 16 h ∙ zeros-part 1205 (t - (3 + multiframeBits * m)) (omega arith) in
+      unlike-fails fewestMatches l t (subst (λ (x : List Bool). matches x sync < fewestMatches) (sym e) zeros-match)
+
+  two-flips : (k : ℕ) → k < m → receivedFlips u carriedOctets 3 k ≡ 2
+  two-flips k h = H.flips-there u threeZeros (λ k. worstSync) (λ k. 3) manyZeros 151 fits k h ∙ two-ones
+
+  pub carried : Carried u carriedOctets 0 3 fewestMatches
+  carried =
+      H.hurt-carried u threeZeros (λ k. worstSync) (λ k. 3) manyZeros 151 fits 0 fewestMatches (lit≤ tt)
+      (λ k h. H.match-there u threeZeros (λ k. worstSync) (λ k. 3) manyZeros 151 fits k h fewestMatches (le-of-eq (sym worst-matches))) (λ k h. le-of-eq (two-flips k h))
+      not-before not-behind
+
+  module _ (codebook thresholds : List ℤ) (index report : List ℕ) where
+    pub hunts-back-met : 2 ≤ multiframesOf u → Lent (multiframesOf u) codebook thresholds index report
+        → Premises u carriedOctets 0 3 fewestMatches codebook thresholds index report
+    hunts-back-met two lent = record { carried = carried; low = lit≤ tt; high = lit≤ tt; settled = inl two; lent = lent }
+
+    -- two multiframes so carried are read with their settings, frames and count, every header's two flips are noted, 1,208 bits stand outside,
+    -- and 59 places were tested: three before them, their two, and the 54 behind them with a multiframe's bits left
+    pub two-hunted : multiframesOf u ≡ 2 → Lent (multiframesOf u) codebook thresholds index report
+        → huntingReading carriedOctets 0 fewestMatches codebook thresholds index report
+        ≡ outcome (Read (record { summary = spoken u; outside = 1208; tested = 59 })) (over index 0 (indexOctets * 2) (padded u))
+        (over report 0 (reportOctets * 2) ((2 ∷ replicate multiframePairs 0) ++ (2 ∷ replicate multiframePairs 0)))
+    two-hunted two lent =
+        let n = H.searched-are u threeZeros (λ k. worstSync) (λ k. 3) manyZeros 151 fits in
+        let out : outsideOf l 0 m ≡ 1208 = omega arith in
+        let tested : testedInRow l 0 3 m ≡ 59 = omega arith in
+        hunts-back u carriedOctets 0 3 fewestMatches codebook thresholds index report (hunts-back-met (le-of-eq (sym two)) lent)
+        ∙ same-notes u carriedOctets 0 3 fewestMatches codebook thresholds index report (receivedFlips u carriedOctets 3) (λ k. 2) two-flips
+        ∙ ap₂
+        (λ (a b : ℕ). outcome (Read (record { summary = spoken u; outside = a; tested = b })) (over index 0 (indexOctets * m) (padded u))
+        (over report 0 (reportOctets * m) (joined (λ k. 2 ∷ replicate multiframePairs 0) m)))
+        out tested
+        ∙ ap
+        (λ (n : ℕ). outcome (Read (record { summary = spoken u; outside = 1208; tested = 59 })) (over index 0 (indexOctets * n) (padded u))
+        (over report 0 (reportOctets * n) (joined (λ k. 2 ∷ replicate multiframePairs 0) n)))
+        two
+
+-- ---- and there is such an utterance
+abbrev pub index24 : List ℕ
+index24 = indexFor (multiframesOf says24)
+
+abbrev pub report24 : List ℕ
+report24 = reportFor (multiframesOf says24)
+
+pub met-says24 : Premises says24 (carriedOctets says24) 0 3 fewestMatches zeroBook zeroThresholds index24 report24
+met-says24 = hunts-back-met says24 zeroBook zeroThresholds index24 report24 (le-of-eq (sym two-multiframes)) (lent-zeros (multiframesOf says24))
+
+pub hunts-says24 : huntingReading (carriedOctets says24) 0 fewestMatches zeroBook zeroThresholds index24 report24 .answer
+    ≡ Read (record { summary = spoken says24; outside = 1208; tested = 59 })
+hunts-says24 = ap (λ (o : Outcome). o .answer) (two-hunted says24 zeroBook zeroThresholds index24 report24 two-multiframes (lent-zeros (multiframesOf says24)))
+
+-- ---- THE SHIFTED IMAGE: every utterance's, behind three zeros and before five
+abbrev pub fiveZeros : List Bool
+fiveZeros = replicate 5 false
+
+module _ (u : Utterance) where
+  abbrev pub shiftedOctets : List ℕ
+  shiftedOctets = octets (1 + multiframeOctets * multiframesOf u) (threeZeros ++ (bits (imageOf u) ++ fiveZeros))
+
+  image-bits : length (bits (imageOf u)) ≡ multiframeBits * multiframesOf u
+  image-bits = length-bits (imageOf u) ∙ omega (arith, length-image (u .rate) (u .kind) (u .indices) (multiframesOf u))
+
+  shifted-size : length (threeZeros ++ (bits (imageOf u) ++ fiveZeros)) ≡ 8 * (1 + multiframeOctets * multiframesOf u)
+  shifted-size =
+      length-append threeZeros (bits (imageOf u) ++ fiveZeros) ∙ omega (arith, length-append (bits (imageOf u)) fiveZeros, image-bits)
+
+  pub shifted-met : (least : ℕ) → fewestMatches ≤ least → Shifted u shiftedOctets 0 least threeZeros fiveZeros
+  shifted-met least low =
+      let same : bits shiftedOctets ≡ threeZeros ++ (bits (imageOf u) ++ fiveZeros) =
+      bits-octets (1 + multiframeOctets * multiframesOf u) (threeZeros ++ (bits (imageOf u) ++ fiveZeros)) shifted-size in
+      let few : multiframesOf u ≤ 255 = few-multiframes (u .rate) (u .kind) (u .indices) (is-accepted u .sizes) in
+      let size : length (bits shiftedOctets) ≡ 8 * (1 + 144 * multiframesOf u) = ap length same ∙ shifted-size in
+      let all : searched (bits shiftedOctets) ≡ 8 * (1 + 144 * multiframesOf u) = searched-all (bits shiftedOctets) (omega arith) ∙ size in
+      let first : take 16 (bits (imageOf u)) ≡ sync =
+      sym (bits-part 0 2 (imageOf u) (omega (arith, length-image (u .rate) (u .kind) (u .indices) (multiframesOf u))))
+      ∙ ap bits (image-sync (u .rate) (u .kind) (u .indices) (multiframesOf u) 0 (omega arith)) in
+      let head : take 19 (bits shiftedOctets) ≡ threeZeros ++ sync =
+      ap (take 19) same
+      ∙ ap (λ (x : List Bool). threeZeros ++ x) (take-append-le 16 (bits (imageOf u)) fiveZeros (omega (arith, image-bits)) ∙ first) in
+      record {
+        same = same;
+        begins = lit≤ tt;
+        inside = omega arith;
+        none-before = fails-before (bits shiftedOctets) sync least head sync-size low whole-earlier;
+        none-behind = λ t a h. absurd (omega arith);
+      }
