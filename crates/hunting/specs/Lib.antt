@@ -1,3 +1,4 @@
 pub mod Hunting
 pub mod Laws
 pub mod Says
+pub mod Examples

@@ -14,6 +14,7 @@ use Rattle.hunt.specs.Hunt as H
 use Rattle.hunt.specs.declared.Hunted.{Hunted}
 use Rattle.hunt.specs.declared.Hunted.the-variants as HA
 use Rattle.hunt.specs.declared.Refusal.{Refusal as HuntRefusal}
+use Rattle.hunt.specs.declared.Refusal.the-variants as HR
 use Rattle.hunting.specs.Hunting.{Outcome, outcome, numberOf, placeOf}
 use Rattle.hunting.specs.declared.Counted.{Counted}
 use Rattle.hunting.specs.declared.Refusal.{Refusal}
@@ -61,6 +62,26 @@ bitsAnswered a p i r (Refused x) = bitsReturned (numberOf x) i r a (placeOf x)
 -- with no room for eight numbers nothing is read, and all stays
 unfoldable pub bitsReturning : List ℕ → ℕ → List ℕ → List ℕ → Outcome → BitsReturned
 bitsReturning a p i r o = when (ltb (length a) countedNumbers) (bitsReturned 99 i r a p) (bitsAnswered a p (o .index) (o .report) (o .answer))
+
+-- the eight numbers in their order
+pub numbers-in-order : numbersOf (record { summary = record { rate = 1; kind = 0; multiframes = 2; speech = 24; bad = 3; end = 1 }; outside = 7; tested = 9 })
+    ≡ 1 ∷ 0 ∷ 2 ∷ 24 ∷ 3 ∷ 1 ∷ 7 ∷ 9 ∷ []
+numbers-in-order = refl
+
+-- seven numbers are too few, whatever was read
+pub seven-too-few : (p : ℕ) (i r : List ℕ) (o : Outcome) → bitsReturning (0 ∷ 0 ∷ 0 ∷ 0 ∷ 0 ∷ 0 ∷ 0 ∷ []) p i r o ≡ bitsReturned 99 i r (0 ∷ 0 ∷ 0 ∷ 0 ∷ 0 ∷ 0 ∷ 0 ∷ []) p
+unfolding bitsReturning
+seven-too-few p i r o = refl
+
+-- a hunt that found bit 11 after twelve places, and one that found none of nine from bit 5 on, where 3 and 4 had been lent
+pub found-in-numbers : huntReturning 3 4 (HA.Found 11 12) ≡ huntReturned 0 11 12 4
+found-in-numbers = refl
+
+pub nowhere-in-numbers : huntReturning 3 4 (HA.Refused (HR.Nowhere 5 9)) ≡ huntReturned 22 3 9 5
+nowhere-in-numbers = refl
+
+pub range-in-numbers : huntReturning 3 4 (HA.Refused (HR.MatchRange 17)) ≡ huntReturned 21 3 0 17
+range-in-numbers = refl
 
 -- ---- the entries' ends
 pub hunt-found : (f p q n : ℕ) (h : Hunted) → HA.Found q n ≡ h → huntReturned 0 q n p ≡ huntReturning f p h
