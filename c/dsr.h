@@ -37,7 +37,7 @@ extern "C" {
 #define DSR_ANSWER_NUMBERS 6
 /* DSR_BITS_ANSWER_NUMBERS is the length of the answer of a reading that hunts: those six, then two of its own. */
 #define DSR_BITS_ANSWER_NUMBERS 8
-/* DSR_MULTIFRAME_BITS is the size of a multiframe in bits, and how many have to be left where a hunt ends. */
+/* DSR_MULTIFRAME_BITS is the size of a multiframe in bits, and how many have to be left at the place found. */
 #define DSR_MULTIFRAME_BITS 1152
 /* DSR_LEAST_MATCH and DSR_MOST_MATCH are the range of `least`, the number of the sync's 16 bits that have to match in a hunt. */
 #define DSR_LEAST_MATCH 12
@@ -123,7 +123,8 @@ enum dsr_note {
     DSR_HEADER_CLEAN = 0,
     /* DSR_HEADER_LOST: no codeword differs from the header in at most two bits. */
     DSR_HEADER_LOST = 3,
-    /* DSR_HEADER_COUNTER: added to a readable header's note if its counter is not its position (from 1) modulo 16. */
+    /* DSR_HEADER_COUNTER: added to a readable header's note if its counter is not its position (from 1) modulo 16; in
+     * dsr_read_bits its position among the multiframes found. */
     DSR_HEADER_COUNTER = 4,
     /* DSR_HEADER_DIFFERS: added to a readable header's note if its common bits differ from the settled ones. */
     DSR_HEADER_DIFFERS = 8,
@@ -164,7 +165,7 @@ uint32_t dsr_read(const uint8_t *octets, size_t octets_len, const int32_t *codeb
 
 /* dsr_hunt looks for a multiframe at any bit. Bit t is in octet t / 8, with value 2^(t % 8). A place passes if 1,152 bits are left there,
  * at least `least` of its first 16 bits match the sync, and the header behind them is readable. Octets from the 2^61st on are not
- * searched: their bits have no number of 64 bits.
+ * searched: the number of bits has to fit 64 bits.
  *   DSR_DONE          *found is the smallest place from bit `from` on that passes, *tested how many were tested, found - from + 1;
  *                     *place stays.
  *   DSR_HUNT_MATCH    *place is least and *tested 0; *found stays.
@@ -175,9 +176,11 @@ uint32_t dsr_hunt(const uint8_t *octets, size_t octets_len, uint64_t from, uint6
 
 /* dsr_read_bits hunts from bit `from` on, takes the 1,152 bits found, hunts on right behind them, and so on to the end; then it reads the
  * multiframes found as dsr_read does, their syncs taken as whole. DSR_DONE, and answer holds the eight numbers of enum dsr_answer, index
- * the first 168m octets and report the first 13m (octets beyond them stay), and *place stays; or a refusal, the first of 11, 21, 22 and
+ * the first 168m octets and report the first 13m (octets beyond them stay, numbers beyond the eighth too), and *place stays; or a refusal, the first of 11, 21, 22 and
  * 15 to 20 that applies, and *place is its place and answer, index and report stay as they came. Lend an answer of
- * DSR_BITS_ANSWER_NUMBERS numbers; fewer are refused before all else with DSR_READ_ANSWER_SHORT, and then *place stays too. */
+ * DSR_BITS_ANSWER_NUMBERS numbers; fewer are refused before all else with DSR_READ_ANSWER_SHORT, and then *place stays too.
+ * A refusal gives no number of places tested: dsr_hunt does. An answer that is used again still holds the last success: look at the
+ * number returned. */
 uint32_t dsr_read_bits(const uint8_t *octets, size_t octets_len, uint64_t from, uint64_t least, const int32_t *codebook,
                        size_t codebook_len, const int32_t *thresholds, size_t thresholds_len, uint8_t *index, size_t index_len,
                        uint8_t *report, size_t report_len, uint64_t *answer, size_t answer_len, uint64_t *place);

@@ -66,7 +66,7 @@ passes least l t =
 
 -- ---- the hunt
 
--- of how many bits: their numbers have to fit 64 bits, so that octets from the 2^61st on are not searched
+-- of how many bits: their number has to fit 64 bits, so that octets from the 2^61st on are not searched
 abbrev pub searched : List Bool → ℕ
 searched l = when (ltb (2 ^ 64 - 8) (length l)) (2 ^ 64 - 8) (length l)
 
@@ -74,7 +74,7 @@ searched l = when (ltb (2 ^ 64 - 8) (length l)) (2 ^ 64 - 8) (length l)
 abbrev pub placesLeft : List Bool → ℕ → ℕ
 placesLeft l t = searched l + 1 - (multiframeBits + t)
 
--- how many of n places from t on fail the test before the first that test it: all n if none does
+-- how many of n places from t on fail the test before the first that passes it: all n if none does
 unfoldable pub misses : (ℕ → Bool) → ℕ → ℕ → ℕ
 misses test zero t = 0
 misses test (suc n) t = when (test t) 0 (suc (misses test n (t + 1)))

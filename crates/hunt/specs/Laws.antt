@@ -1,4 +1,4 @@
--- What a reader of 02 would ask of the hunt: the place found is the smallest that passes, none is refused exactly if there is none, and so
+-- What a reader of 02 would ask of the hunt: the place found is the smallest that passes, it is refused exactly if there is none, and so
 -- many places are tested.
 -- Assumes nothing.
 use Prim.Native.Nat.{ℕ, zero, suc, _+_, _-_, _^_, _≤_, _<_}
@@ -77,7 +77,7 @@ module _ (test : ℕ → Bool) where
       from false e next zero l = let z : t + 0 ≡ t = omega arith in ap test z ∙ e
       from false e next (suc j) l = let z : t + 1 + j ≡ t + suc j = omega arith in ap test (sym z) ∙ next j (omega arith)
 
-  -- and behind the misses, if there are fewer than places, stands one that test it
+  -- and behind the misses, if there are fewer than places, stands one that passes it
   pub misses-pass : (n t : ℕ) → misses test n t < n → test (t + misses test n t) ≡ true
   unfolding misses
   misses-pass zero t h = absurd (omega arith)
@@ -92,7 +92,7 @@ module _ (test : ℕ → Bool) where
 
 -- ---- the hunt
 
--- the smallest place from `from` on that has a whole multiframe's bits left and test the test, tested with all before it; or none is one,
+-- the smallest place from `from` on that has a whole multiframe's bits left and passes the test, tested with all before it; or none is one,
 -- and all were tested
 abbrev pub Says : ℕ → List Bool → ℕ → Hunted → Type 0
 Says least l from (Found p n) =

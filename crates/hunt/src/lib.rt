@@ -19,7 +19,7 @@ const BITS: usize = 8 * MultiframeLayout::OCTETS;
 // How few matching bits a caller may ask for; the most are all of them.
 const FEWEST: usize = 12;
 
-// A bit's number has to fit 64 bits: octets beyond these are not searched.
+// The number of bits has to fit 64 bits: octets beyond these are not searched.
 const MOST: usize = 0x1fffffffffffffff;
 
 // Why a hunt is refused; `numberOf` and `placeOf` give 02's numbers and places.
@@ -65,7 +65,7 @@ fn passes(head: u64, least: usize) -> bool
     is_readable(((head >> 16) & 0xffffffff) as u32)
 }
 
-// searched_bits gives how many bits are searched: their numbers have to fit 64 bits.
+// searched_bits gives how many bits are searched: their number has to fit 64 bits.
 pub fn searched_bits(octets: &[u8]) -> usize
     ensures { λ r. ⌜ r ≡ searched (bits (now (octets .entry))) ⌝ }
 {

@@ -57,10 +57,14 @@ module _ (codebook thresholds : List ℤ) (index report : List ℕ) where
   abbrev refused : Refusal → Outcome
   refused r = outcome (Refused r) index report
 
-  -- 11 comes before 21
-  pub tables-before-range : huntingReading [] 0 17 [] thresholds index report ≡ refused (Octets RR.WrongTables)
+  -- 11 comes before 21, for either table
+  pub codebook-before-range : huntingReading [] 0 17 [] thresholds index report ≡ refused (Octets RR.WrongTables)
   unfolding huntingReading
-  tables-before-range = refl
+  codebook-before-range = refl
+
+  pub thresholds-before-range : length codebook ≡ codebookNumbers → huntingReading [] 0 17 codebook [] index report ≡ refused (Octets RR.WrongTables)
+  unfolding huntingReading
+  thresholds-before-range sc = rw (eq-eqb (length codebook) codebookNumbers sc)
 
   module _ (sc : length codebook ≡ codebookNumbers) (st : length thresholds ≡ thresholdNumbers) where
     -- 21 comes before 22, on either side of 12 to 16

@@ -3,7 +3,7 @@
 -- Assumes nothing.
 use Prim.Native.Nat.{ℕ, zero, suc, _+_, _-_, _*_, _≤_, _<_}
 use mathlib.Core.Path.{_≡_, refl, sym, ap, ap₂, _∙_, subst}
-use mathlib.Core.Logic.{_⊎_, _↔_}
+use mathlib.Core.Logic.{_⊎_, inl, inr, _↔_}
 use mathlib.Core.List.{List, [], _∷_, _++_}
 use mathlib.Core.Bool.{Bool, true, false}
 use native.Mathlib.Omega.{arith}
@@ -182,31 +182,42 @@ module _ (l : List Bool) (least : ℕ) where
   unfolding gathering
   nothing-found k at none = ap (λ (h : Hunted). step h (λ p. gathering l least k (p + multiframeBits))) (Hunt.nowhere-exactly least l at .1 none)
 
-  -- 15 is for a whole match behind as many multiframes as may be taken
+  -- the end of the last of the places, or `at` if there is none
+  abbrev pub endOf : ℕ → List ℕ → ℕ
+  endOf at [] = at
+  endOf at (p ∷ ps) = endOf (p + multiframeBits) ps
+
+  -- 15 is for the first whole match behind as many multiframes as may be taken
   pub record Beyond (k at p : ℕ) (places : List ℕ) : Type 0 where
     pub count : length places ≡ k
-    pub behind : at + multiframeBits * k ≤ p
+    pub behind : endOf at places ≤ p
+    pub first : (t : ℕ) → endOf at places ≤ t → t < p → passes least l t ≡ false
     pub room : p + multiframeBits ≤ searched l
     pub matches : passes least l p ≡ true
 
   many-done : (at p : ℕ) (h : Hunted) → Hunt.Says least l at h → last h .ending ≡ tooMany p → Beyond 0 at p (last h .places)
   many-done at p (H.Found q n) a e =
       let z : q ≡ p = cc in
-      record { count = refl; behind = omega (arith, a .0); room = omega (arith, a .1); matches = subst (λ (x : ℕ). passes least l x ≡ true) z (a .2) }
+      record {
+        count = refl;
+        behind = omega (arith, a .0);
+        first = λ t h i. a .3 t h (omega arith);
+        room = omega (arith, a .1);
+        matches = subst (λ (x : ℕ). passes least l x ≡ true) z (a .2);
+      }
   many-done at p (H.Refused r) a e = let z : _≡_ {A = ℕ} 0 1 = cc in absurd (omega arith)
 
-  many-step : (k at p : ℕ) (h : Hunted) (on : ℕ → Gathering) → Hunt.Says least l at h
-      → ((q : ℕ) → on q .ending ≡ tooMany p → Beyond k (q + multiframeBits) p (on q .places)) → step h on .ending ≡ tooMany p → Beyond (suc k) at p (step h on .places)
-  many-step k at p (H.Found q n) on a next e =
+  many-step : (k at p : ℕ) (h : Hunted) (on : ℕ → Gathering) → ((q : ℕ) → on q .ending ≡ tooMany p → Beyond k (q + multiframeBits) p (on q .places)) → step h on .ending ≡ tooMany p
+      → Beyond (suc k) at p (step h on .places)
+  many-step k at p (H.Found q n) on next e =
       let i = next q e in
-      record { count = omega (arith, i .count); behind = omega (arith, a .0, i .behind); room = i .room; matches = i .matches }
-  many-step k at p (H.Refused r) on a next e = let z : _≡_ {A = ℕ} 0 1 = cc in absurd (omega arith)
+      record { count = omega (arith, i .count); behind = i .behind; first = i .first; room = i .room; matches = i .matches }
+  many-step k at p (H.Refused r) on next e = let z : _≡_ {A = ℕ} 0 1 = cc in absurd (omega arith)
 
   pub many-says : (k at p : ℕ) → gathering l least k at .ending ≡ tooMany p → Beyond k at p (gathering l least k at .places)
   unfolding gathering
   many-says zero at p e = many-done at p (huntedFrom l at least) (Hunt.says least l at) e
-  many-says (suc k) at p e =
-      many-step k at p (huntedFrom l at least) (λ q. gathering l least k (q + multiframeBits)) (Hunt.says least l at) (λ q. many-says k (q + multiframeBits) p) e
+  many-says (suc k) at p e = many-step k at p (huntedFrom l at least) (λ q. gathering l least k (q + multiframeBits)) (λ q. many-says k (q + multiframeBits) p) e
 
 -- ---- the answer
 counted-read : (a : OctetAnswer) (n t : ℕ) (c : Counted) → withCounts a n t ≡ Read c → (a ≡ RA.Read (c .summary)) × (c .outside ≡ n) × (c .tested ≡ t)
@@ -229,27 +240,30 @@ module _ (s : List ℕ) (from least : ℕ) (codebook thresholds : List ℤ) (ind
   abbrev keeps : Refusal → Outcome
   keeps r = outcome (Refused r) index report
 
-  -- HOW IT ENDS, in the order of the tests
+  abbrev pub Tables : Type 0
+  Tables = (length codebook ≡ codebookNumbers) × (length thresholds ≡ thresholdNumbers)
+
+  -- HOW IT ENDS: each case says that the tests before it passed
   pub data Fate : Type 0 where
-    tables : ((length codebook ≡ codebookNumbers) × (length thresholds ≡ thresholdNumbers) → ⊥) → result ≡ keeps (Octets RR.WrongTables) → Fate
-    range : inRange least ≡ false → result ≡ keeps (MatchRange least) → Fate
-    nowhere : NonePasses (bits s) least from → result ≡ keeps (Nowhere from (placesLeft (bits s) from)) → Fate
-    many : (p : ℕ) → Beyond (bits s) least mostMultiframes from p (found .places) → result ≡ keeps (TooMany p) → Fate
-    read : (length codebook ≡ codebookNumbers) × (length thresholds ≡ thresholdNumbers) → 0 < length (found .places) → found .ending ≡ whole
+    tables : (Tables → ⊥) → result ≡ keeps (Octets RR.WrongTables) → Fate
+    range : Tables → inRange least ≡ false → result ≡ keeps (MatchRange least) → Fate
+    nowhere : Tables → inRange least ≡ true → NonePasses (bits s) least from → result ≡ keeps (Nowhere from (placesLeft (bits s) from)) → Fate
+    many : (p : ℕ) → Tables → inRange least ≡ true → found .ending ≡ tooMany p → Beyond (bits s) least mostMultiframes from p (found .places) → result ≡ keeps (TooMany p) → Fate
+    read : Tables → inRange least ≡ true → 0 < length (found .places) → found .ending ≡ whole
         → result ≡ counted (R.reading (imageOf s (found .places)) codebook thresholds index report) (outsideOf (bits s) from (length (found .places))) (found .tested) → Fate
 
-  found-fate : length codebook ≡ codebookNumbers → length thresholds ≡ thresholdNumbers → result ≡ readingBy s from least codebook thresholds index report (found .places) (found .tested) (found .ending) → Fate
-  found-fate sc st e = by (found .places) (found .ending) refl refl e
+  found-fate : Tables → inRange least ≡ true → result ≡ readingBy s from least codebook thresholds index report (found .places) (found .tested) (found .ending) → Fate
+  found-fate ts er e = by (found .places) (found .ending) refl refl e
     where
       by : (ps : List ℕ) (x : Ending) → found .places ≡ ps → found .ending ≡ x → result ≡ readingBy s from least codebook thresholds index report ps (found .tested) x → Fate
       by [] whole ep ex e =
           let n : found .tested ≡ placesLeft (bits s) from = subst (Tested (bits s) least from (found .tested)) ep (tested-says (bits s) least mostMultiframes from ex) in
-          nowhere (none-found (bits s) least 254 from ep) (e ∙ ap (λ (k : ℕ). keeps (Nowhere from k)) n)
+          nowhere ts er (none-found (bits s) least 254 from ep) (e ∙ ap (λ (k : ℕ). keeps (Nowhere from k)) n)
       by (p ∷ ps) whole ep ex e =
-          read (sc, st) (omega (arith, ap length ep)) ex
+          read ts er (omega (arith, ap length ep)) ex
           (e ∙ ap (λ (x : List ℕ). counted (R.reading (imageOf s x) codebook thresholds index report) (outsideOf (bits s) from (length x)) (found .tested)) (sym ep))
-      by [] (tooMany p) ep ex e = many p (many-says (bits s) least mostMultiframes from p ex) e
-      by (q ∷ ps) (tooMany p) ep ex e = many p (many-says (bits s) least mostMultiframes from p ex) e
+      by [] (tooMany p) ep ex e = many p ts er ex (many-says (bits s) least mostMultiframes from p ex) e
+      by (q ∷ ps) (tooMany p) ep ex e = many p ts er ex (many-says (bits s) least mostMultiframes from p ex) e
 
   pub fate : Fate
   unfolding huntingReading readingFound
@@ -258,8 +272,9 @@ module _ (s : List ℕ) (from least : ℕ) (codebook thresholds : List ℤ) (ind
       by : (a b r : Bool) → eqb (length codebook) codebookNumbers ≡ a → eqb (length thresholds) thresholdNumbers ≡ b → inRange least ≡ r → Fate
       by false b r ea eb er = tables (λ h. eqb-false (length codebook) codebookNumbers ea (h .0)) (rw ea)
       by true false r ea eb er = tables (λ h. eqb-false (length thresholds) thresholdNumbers eb (h .1)) (rw (ea, eb))
-      by true true false ea eb er = range er (rw (ea, eb, er))
-      by true true true ea eb er = found-fate (eqb-true (length codebook) codebookNumbers ea) (eqb-true (length thresholds) thresholdNumbers eb) (rw (ea, eb, er))
+      by true true false ea eb er = range (eqb-true (length codebook) codebookNumbers ea, eqb-true (length thresholds) thresholdNumbers eb) er (rw (ea, eb, er))
+      by true true true ea eb er =
+          found-fate (eqb-true (length codebook) codebookNumbers ea, eqb-true (length thresholds) thresholdNumbers eb) er (rw (ea, eb, er))
 
   -- 22 EXACTLY IF NO PLACE PASSES, where the tables have their lengths and T its range
   pub nowhere-exactly : length codebook ≡ codebookNumbers → length thresholds ≡ thresholdNumbers → inRange least ≡ true
@@ -274,10 +289,10 @@ module _ (s : List ℕ) (from least : ℕ) (codebook thresholds : List ℤ) (ind
     where
       by : Fate → result .answer ≡ Refused (Nowhere from (placesLeft (bits s) from)) → NonePasses (bits s) least from
       by (tables w e) f = absurd (w (sc, st))
-      by (range w e) f = absurd (true-false (sym er ∙ w))
-      by (nowhere n e) f = n
-      by (many p b e) f = let g = sym (ap (λ (o : Outcome). o .answer) e) ∙ f in let z : _≡_ {A = ℕ} 0 1 = cc in absurd (omega arith)
-      by (read t n w e) f =
+      by (range ts w e) f = absurd (true-false (sym er ∙ w))
+      by (nowhere ts r n e) f = n
+      by (many p ts r x b e) f = let g = sym (ap (λ (o : Outcome). o .answer) e) ∙ f in let z : _≡_ {A = ℕ} 0 1 = cc in absurd (omega arith)
+      by (read t r n w e) f =
           let g = counted-refused (R.reading (imageOf s (found .places)) codebook thresholds index report .answer) (outsideOf (bits s) from (length (found .places))) (found .tested)
           (Nowhere from (placesLeft (bits s) from)) (sym (ap (λ (o : Outcome). o .answer) e) ∙ f) in
           let h = g .1 .1 in
@@ -307,10 +322,10 @@ module _ (s : List ℕ) (from least : ℕ) (codebook thresholds : List ℤ) (ind
 
       by : Fate → Success c
       by (tables w e) = other (Octets RR.WrongTables) e
-      by (range w e) = other (MatchRange least) e
-      by (nowhere n e) = other (Nowhere from (placesLeft (bits s) from)) e
-      by (many p b e) = other (TooMany p) e
-      by (read t n w e) =
+      by (range t w e) = other (MatchRange least) e
+      by (nowhere t r n e) = other (Nowhere from (placesLeft (bits s) from)) e
+      by (many p t r x b e) = other (TooMany p) e
+      by (read t r n w e) =
           let o = R.reading (imageOf s (found .places)) codebook thresholds index report in
           let a = counted-read (o .answer) (outsideOf (bits s) from (length (found .places))) (found .tested) c (sym (ap (λ (o : Outcome). o .answer) e) ∙ f) in
           let few = at-most (bits s) least mostMultiframes from in
@@ -329,35 +344,48 @@ module _ (s : List ℕ) (from least : ℕ) (codebook thresholds : List ℤ) (ind
             all-taken = λ u le inside passes. taken (bits s) least u inside passes mostMultiframes from le (subst Ends (sym w) tt);
           }
 
-  -- 12 TO 14 NEVER COME
+  -- 12 TO 14 NEVER COME, and 15 only with a bit for its place: of the octet reader's refusals only 11 and 16 to 20 do
   abbrev pub Comes : Refusal → Type 0
-  Comes r = (numberOf r ≡ 12 → ⊥) × (numberOf r ≡ 13 → ⊥) × (numberOf r ≡ 14 → ⊥)
+  Comes (Octets q) = (q ≡ RR.WrongTables) ⊎ Late q
+  Comes (MatchRange k) = Unit
+  Comes (Nowhere f n) = Unit
+  Comes (TooMany p) = Unit
 
-  late-comes : (q : OctetRefusal) → Late q → Comes (Octets q)
-  late-comes RR.WrongTables l = absurd l
-  late-comes (RR.Unknown p) l = absurd l
-  late-comes (RR.CutShort p) l = absurd l
-  late-comes (RR.Empty n) l = absurd l
-  late-comes (RR.TooMany p) l = absurd l
-  late-comes RR.Unsettled l = (λ e. omega arith, λ e. omega arith, λ e. omega arith)
-  late-comes RR.Unfit l = (λ e. omega arith, λ e. omega arith, λ e. omega arith)
-  late-comes (RR.IndexShort n) l = (λ e. omega arith, λ e. omega arith, λ e. omega arith)
-  late-comes (RR.ReportShort n) l = (λ e. omega arith, λ e. omega arith, λ e. omega arith)
-  late-comes RR.AllBad l = (λ e. omega arith, λ e. omega arith, λ e. omega arith)
-
-  pub never-12-to-14 : (r : Refusal) → result .answer ≡ Refused r → Comes r
-  never-12-to-14 r f = by fate
+  pub comes : (r : Refusal) → result .answer ≡ Refused r → Comes r
+  comes r f = by fate
     where
       same : (x : Refusal) → result ≡ keeps x → Comes x → Comes r
       same x e k = let g = sym (ap (λ (o : Outcome). o .answer) e) ∙ f in let z : x ≡ r = cc in subst Comes z k
 
       by : Fate → Comes r
-      by (tables w e) = same (Octets RR.WrongTables) e (λ e. omega arith, λ e. omega arith, λ e. omega arith)
-      by (range w e) = same (MatchRange least) e (λ e. omega arith, λ e. omega arith, λ e. omega arith)
-      by (nowhere n e) = same (Nowhere from (placesLeft (bits s) from)) e (λ e. omega arith, λ e. omega arith, λ e. omega arith)
-      by (many p b e) = same (TooMany p) e (λ e. omega arith, λ e. omega arith, λ e. omega arith)
-      by (read t n w e) =
+      by (tables w e) = same (Octets RR.WrongTables) e (inl refl)
+      by (range t w e) = same (MatchRange least) e tt
+      by (nowhere t x n e) = same (Nowhere from (placesLeft (bits s) from)) e tt
+      by (many p t x g b e) = same (TooMany p) e tt
+      by (read t x n w e) =
           let o = R.reading (imageOf s (found .places)) codebook thresholds index report in
           let g = counted-refused (o .answer) (outsideOf (bits s) from (length (found .places))) (found .tested) r (sym (ap (λ (o : Outcome). o .answer) e) ∙ f) in
           subst Comes (g .1 .1)
-          (late-comes (g .0) (image-late s (found .places) n (at-most (bits s) least mostMultiframes from) codebook thresholds index report (t .0) (t .1) (g .0) (g .1 .0)))
+          (inr (image-late s (found .places) n (at-most (bits s) least mostMultiframes from) codebook thresholds index report (t .0) (t .1) (g .0) (g .1 .0)))
+
+  number-comes : (r : Refusal) → Comes r → (numberOf r ≡ 12 → ⊥) × (numberOf r ≡ 13 → ⊥) × (numberOf r ≡ 14 → ⊥)
+  number-comes (MatchRange k) l = (λ e. omega arith, λ e. omega arith, λ e. omega arith)
+  number-comes (Nowhere f n) l = (λ e. omega arith, λ e. omega arith, λ e. omega arith)
+  number-comes (TooMany p) l = (λ e. omega arith, λ e. omega arith, λ e. omega arith)
+  number-comes (Octets q) (inl e) = let z : numberOf (Octets q) ≡ 11 = ap (λ (x : OctetRefusal). numberOf (Octets x)) e in (λ e. omega arith, λ e. omega arith, λ e. omega arith)
+  number-comes (Octets q) (inr l) = of-late q l
+    where
+      of-late : (q : OctetRefusal) → Late q → (R.numberOf q ≡ 12 → ⊥) × (R.numberOf q ≡ 13 → ⊥) × (R.numberOf q ≡ 14 → ⊥)
+      of-late RR.WrongTables l = absurd l
+      of-late (RR.Unknown p) l = absurd l
+      of-late (RR.CutShort p) l = absurd l
+      of-late (RR.Empty n) l = absurd l
+      of-late (RR.TooMany p) l = absurd l
+      of-late RR.Unsettled l = (λ e. omega arith, λ e. omega arith, λ e. omega arith)
+      of-late RR.Unfit l = (λ e. omega arith, λ e. omega arith, λ e. omega arith)
+      of-late (RR.IndexShort n) l = (λ e. omega arith, λ e. omega arith, λ e. omega arith)
+      of-late (RR.ReportShort n) l = (λ e. omega arith, λ e. omega arith, λ e. omega arith)
+      of-late RR.AllBad l = (λ e. omega arith, λ e. omega arith, λ e. omega arith)
+
+  pub never-12-to-14 : (r : Refusal) → result .answer ≡ Refused r → (numberOf r ≡ 12 → ⊥) × (numberOf r ≡ 13 → ⊥) × (numberOf r ≡ 14 → ⊥)
+  never-12-to-14 r f = number-comes r (comes r f)

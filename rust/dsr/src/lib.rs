@@ -1,6 +1,6 @@
 //! Safe functions over the proved voice-link codec: ETSI ES 201 108 multiframes as document 01 condenses them.
 //!
-//! Every function takes any input. A refusal comes back as an [`Error`], with its number, place and words, and changes no octet of a
+//! Every function takes any input. A refusal comes back as an [`Error`] (from a hunt in a `HuntRefused`, with the places tested), with its number, place and words, and changes no octet of a
 //! lent buffer. Bits are numbered as they are sent: bit t is in octet t / 8, with value 2^(t % 8). The archive with the proved functions is for x86-64.
 
 mod error;
