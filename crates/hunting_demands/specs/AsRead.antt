@@ -2,15 +2,18 @@
 -- headers and streams stand in a row at any bit, and adds the bits outside and the places tested; so demand 3 is kept at any bit.
 -- Assumes nothing.
 use Prim.Native.Nat.{ℕ, _+_, _*_, _≤_, _<_}
-use mathlib.Core.Path.{_≡_, ap, ap₂, _∙_}
-use mathlib.Core.List.{List, [], _∷_}
-use mathlib.Core.Bool.{false}
+use mathlib.Core.Path.{_≡_, sym, ap, ap₂, _∙_}
+use mathlib.Core.List.{List, [], _∷_, _++_}
+use mathlib.Core.Bool.{Bool, false}
 use native.Mathlib.Omega.{arith}
 use lib.IntN.{ℤ}
-use lib.ListN.{length}
+use lib.ListN.{length, take}
+use lib.Seq.{drop-append-add}
+use Rattle.lists.specs.Parts.{part, part-left}
 use Rattle.lists.specs.Rows.{same-joined}
 use Rattle.layout.specs.Layout.{multiframeOctets, mostMultiframes, codebookNumbers, thresholdNumbers}
-use Rattle.bits.specs.Bits.{bits}
+use Rattle.bits.specs.Bits.{value, bits}
+use Rattle.bits.specs.Laws.{length-bits, bits-part}
 use Rattle.header.specs.Reading.{reading}
 use Rattle.cutting.specs.Cutting.{syncFirst, syncSecond}
 use Rattle.hunt.specs.Hunt.{fewestMatches, syncBits, multiframeBits, sync, matches, passes, searched}
@@ -53,6 +56,23 @@ module _ (img : List ℕ) (m : ℕ) (w : Multiframes img m) (s : List ℕ) (at :
   as-read from least codebook thresholds index report low high codebook-size thresholds-size r some few =
       reads-in-a-row s from least codebook thresholds index report low high codebook-size thresholds-size at m r some few
       ∙ ap (λ (x : List ℕ). counted (R.reading x codebook thresholds index report) (outsideOf (bits s) from m) (testedInRow (bits s) from at m)) (put-together (r .inside))
+
+-- ---- octets that are only shifted, with any bits in front and behind, stand there with whole syncs
+module _ (img : List ℕ) (m : ℕ) (w : Multiframes img m) (s : List ℕ) (front behind : List Bool) (same : bits s ≡ front ++ (bits img ++ behind)) where
+  -- octets of img are bits of s
+  bits-of : (i n t : ℕ) → i + n ≤ length img → t ≡ length front + 8 * i → part t (8 * n) (bits s) ≡ bits (part i n img)
+  bits-of i n t le e =
+      ap₂ (λ (j : ℕ) (l : List Bool). part j (8 * n) l) e same ∙ ap (take (8 * n)) (drop-append-add front (bits img ++ behind) (8 * i))
+      ∙ part-left (bits img) behind (8 * i) (8 * n) (omega (arith, length-bits img)) ∙ sym (bits-part i n img le)
+
+  pub shifted-syncs : (k : ℕ) → k < m → syncAt (bits s) (placeInRow (length front) k) ≡ sync
+  shifted-syncs k h = bits-of (144 * k) 2 (length front + 1152 * k) (omega (arith, w .size)) (omega arith) ∙ ap bits (w .syncs k h)
+
+  pub shifted-stands : Stands img m s (length front)
+  shifted-stands = record {
+    words = λ k h. ap value (bits-of (144 * k + 2) 4 (length front + 1152 * k + 16) (omega (arith, w .size)) (omega arith));
+    streams = λ k h. bits-of (144 * k + 2 + 4) 138 (length front + 1152 * k + 16 + 32) (omega (arith, w .size)) (omega arith);
+  }
 
 -- ---- NAMES THE DAMAGE AT ANY BIT (demand 3, for 02's C-13)
 -- a damaged image is such octets
