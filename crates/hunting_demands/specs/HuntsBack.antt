@@ -3,7 +3,7 @@
 -- and read with the same settings, frames and count, and each header's note is the number of bits flipped there.
 -- Assumes nothing.
 use Prim.Native.Nat.{ℕ, _+_, _*_, _/_, _≤_, _<_}
-use mathlib.Core.Path.{_≡_, refl, sym, ap, ap₂, _∙_, subst}
+use mathlib.Core.Path.{_≡_, refl, sym, ap, _∙_, subst}
 use mathlib.Core.List.{List, _∷_, _++_}
 use mathlib.Core.Bool.{Bool, true, false}
 use mathlib.Core.Logic.{_⊎_, inl, inr, ⊎-elim}
@@ -12,13 +12,11 @@ use lib.Bits.{bitXor, xor-self}
 use lib.Count.{ones, ones-le}
 use lib.Dec.{lit<}
 use lib.IntN.{ℤ}
-use lib.ListN.{length, replicate, take}
-use lib.Seq.{drop-append-add}
-use Rattle.lists.specs.Parts.{part, over, part-left}
+use lib.ListN.{length, replicate}
+use Rattle.lists.specs.Parts.{part, over}
 use Rattle.lists.specs.Rows.{joined, same-joined}
-use Rattle.layout.specs.Layout.{packetBits, multiframePairs, multiframeOctets, mostMultiframes, indexOctets, reportOctets, packetStart}
-use Rattle.bits.specs.Bits.{value, fields, field, bits}
-use Rattle.bits.specs.Laws.{length-bits, bits-part}
+use Rattle.layout.specs.Layout.{packetBits, multiframePairs, mostMultiframes, indexOctets, reportOctets, packetStart}
+use Rattle.bits.specs.Bits.{fields, field, bits}
 use Rattle.header.specs.Reading.{reading}
 use Rattle.hunt.specs.Hunt.{fewestMatches, syncBits, multiframeBits, sync, matches, passes, searched}
 use Rattle.reader.specs.Reading as R
@@ -30,9 +28,11 @@ use Rattle.writer.specs.Made.{wordIn, streamIn, packetIn}
 use Rattle.writer.specs.Image as I
 use Rattle.writer.specs.Image.{Utterance, multiframesOf, pairsOf, imageOf, is-accepted}
 use Rattle.demands.specs.Damage.{Damage, headerFlips, sentMessage, header-read}
+use Rattle.demands.specs.Damages.{unharmed}
 use Rattle.demands.specs.Whole.{Lent}
 use Rattle.demands.specs.ReadsBack.{spoken, padded, reads-mended}
 use Rattle.hunting_demands.specs.Standing.{placeInRow, row, passes-there, InARow, testedInRow, reads-in-a-row, syncAt, wordAt, streamAt, image-size, image-small, image-sync, image-word, image-stream}
+use Rattle.hunting_demands.specs.AsRead.{Multiframes, Stands, shifted-syncs, shifted-stands, damaged-cut}
 
 -- in how many bits the header of multiframe k, standing from bit `at` on, differs from the one written
 abbrev pub receivedFlips : Utterance → List ℕ → ℕ → ℕ → ℕ
@@ -143,34 +143,23 @@ module _ (u : Utterance) (s : List ℕ) (from least : ℕ) (front behind : List 
     abbrev img : List ℕ
     img = imageOf u
 
-    size : length img ≡ multiframeOctets * multiframesOf u
-    size = length-image (u .rate) (u .kind) (u .indices) (multiframesOf u)
+    cut : Multiframes img (multiframesOf u)
+    cut = damaged-cut u img (unharmed u)
 
-    -- octets of the image are bits of s
-    bits-of : (i n t : ℕ) → i + n ≤ length img → t ≡ length front + 8 * i → part t (8 * n) (bits s) ≡ bits (part i n img)
-    bits-of i n t le e =
-        ap₂ (λ (j : ℕ) (l : List Bool). part j (8 * n) l) e (h .same) ∙ ap (take (8 * n)) (drop-append-add front (bits img ++ behind) (8 * i))
-        ∙ part-left (bits img) behind (8 * i) (8 * n) (omega (arith, length-bits img)) ∙ sym (bits-part i n img le)
+    there : Stands img (multiframesOf u) s (length front)
+    there = shifted-stands img (multiframesOf u) cut s front behind (h .same)
 
-    module _ (k : ℕ) (l : k < multiframesOf u) where
-      sync-whole : syncAt (bits s) (placeInRow (length front) k) ≡ sync
-      sync-whole =
-          bits-of (144 * k) 2 (length front + 1152 * k) (omega (arith, size)) (omega arith)
-          ∙ ap bits (I.image-sync (u .rate) (u .kind) (u .indices) (multiframesOf u) k l)
-
-      no-flips : receivedFlips u s (length front) k ≡ 0
-      no-flips =
-          let w : wordAt (bits s) (placeInRow (length front) k) ≡ wordIn img k =
-          ap value (bits-of (144 * k + 2) 4 (length front + 1152 * k + 16) (omega (arith, size)) (omega arith)) in
-          ap (λ (x : ℕ). ones (bitXor x (wordIn img k))) w ∙ ap ones (xor-self (wordIn img k)) ∙ omega (arith, ones-le 0 0 (lit< tt))
+    no-flips : (k : ℕ) → k < multiframesOf u → receivedFlips u s (length front) k ≡ 0
+    no-flips k l =
+        ap (λ (x : ℕ). ones (bitXor x (wordIn img k))) (there .words k l) ∙ ap ones (xor-self (wordIn img k)) ∙ omega (arith, ones-le 0 0 (lit< tt))
 
     pub shifted-carried : least ≤ syncBits → Carried u s from (length front) least
     shifted-carried high = record {
       begins = h .begins;
       inside = h .inside;
-      syncs = λ k l. subst (λ (n : ℕ). least ≤ n) (sym (ap (λ (x : List Bool). matches x sync) (sync-whole k l) ∙ all-match)) high;
+      syncs = λ k l. subst (λ (n : ℕ). least ≤ n) (sym (ap (λ (x : List Bool). matches x sync) (shifted-syncs img (multiframesOf u) cut s front behind (h .same) k l) ∙ all-match)) high;
       headers = λ k l. omega (arith, no-flips k l);
-      streams = λ k l. bits-of (144 * k + 2 + 4) 138 (length front + 1152 * k + 16 + 32) (omega (arith, size)) (omega arith);
+      streams = there .streams;
       none-before = h .none-before;
       none-behind = h .none-behind;
     }

@@ -1,4 +1,5 @@
 pub mod Standing
+pub mod AsRead
 pub mod HuntsBack
 pub mod Laid
 pub mod Hurt

@@ -2,7 +2,7 @@
 -- Assumes nothing.
 use Prim.Native.Nat.{ℕ, zero, suc, _+_, _*_, _^_, _≤_, _<_}
 use mathlib.Core.Path.{_≡_, refl, sym, ap, ap₂, _∙_, subst}
-use mathlib.Core.List.{List, [], _∷_, _++_}
+use mathlib.Core.List.{List, [], _∷_, _++_, append-nil}
 use mathlib.Core.Logic.{_⊎_, inl, inr}
 use mathlib.Core.Bool.{Bool, true, false}
 use native.Mathlib.Nat.{le-of-eq}
@@ -11,16 +11,18 @@ use lib.Bits.{bitXor, xor-lt}
 use lib.Count.{ones, onesIn}
 use lib.Dec.{lit<, lit≤}
 use lib.IntN.{ℤ}
-use lib.ListN.{length, length-append}
+use lib.ListN.{length, getD, replicate, length-append}
+use lib.Seq.{take-at, getD-take}
 use borrow.Author.Tests.{eq-eqb, ne-eqb}
 use Rattle.gf2.specs.Light.{ones-in}
-use Rattle.lists.specs.Rows.{each}
-use Rattle.layout.specs.Layout.{multiframePairs, mostMultiframes, codebookNumbers, thresholdNumbers}
+use Rattle.lists.specs.Rows.{each, joined, length-joined, joined-part}
+use Rattle.layout.specs.Layout.{multiframePairs, mostMultiframes, reportOctets, codebookNumbers, thresholdNumbers}
 use Rattle.bits.specs.Bits.{field, fields, value, bits}
-use Rattle.bits.specs.Laws.{length-field}
+use Rattle.bits.specs.Laws.{length-field, length-bits}
 use Rattle.crc.specs.Crc.{flip}
-use Rattle.packet.specs.Packet.{stream}
-use Rattle.packet.specs.Laws.{length-stream}
+use Rattle.crc.specs.Damage.{length-flip, flips-burst}
+use Rattle.packet.specs.Packet.{packetOf, stream}
+use Rattle.packet.specs.Laws.{length-packetOf, length-stream}
 use Rattle.header_code.specs.Code.{codeword}
 use Rattle.header_code.specs.Code.Distance.{codeword-lt}
 use Rattle.header.specs.Message.{message, rateOf, commonBits}
@@ -33,22 +35,26 @@ use Rattle.settling.specs.Settling.{readings, settling, firstAgreeing, onlyOne}
 use Rattle.settling.specs.Laws.{only-mended}
 use Rattle.settling.specs.declared.Settings.the-variants as S
 use Rattle.hunt.specs.Hunt.{syncBits, headerBits, multiframeBits, fewestMatches, inRange, sync, matches, passes, searched, placesLeft}
+use Rattle.hunt.specs.Laws.{searched-all}
 use Rattle.reader.specs.Reading as R
 use Rattle.reader.specs.declared.Refusal.the-variants.{Unsettled}
-use Rattle.hunting.specs.Hunting.{imageOf as foundImage, outsideOf, counted, outcome, huntingReading}
+use Rattle.hunting.specs.Hunting.{imageOf as foundImage, outsideOf, counted, Outcome, outcome, huntingReading}
 use Rattle.hunting.specs.declared.Answer.the-variants.{Refused}
 use Rattle.hunting.specs.declared.Refusal.{Refusal}
 use Rattle.hunting.specs.declared.Refusal.the-variants.{Octets, MatchRange, Nowhere}
-use Rattle.writer.specs.Made.{wordIn}
-use Rattle.writer.specs.Image.{Utterance, multiframesOf}
-use Rattle.demands.specs.Damage.{sentMessage}
-use Rattle.demands.specs.Whole.{Lent, rowOf, readings-are, refuses-16}
+use Rattle.writer.specs.Laws.{few-multiframes}
+use Rattle.writer.specs.Made.{wordIn, streamIn, packetIn, made-packet}
+use Rattle.writer.specs.Image.{image-packet, Utterance, multiframesOf, imageOf, is-accepted}
+use Rattle.demands.specs.Damage.{Touched, sentMessage, differs}
+use Rattle.demands.specs.Whole.{Lent, rowOf, readings-are, pairNoteIn, front-at, refuses-16}
 use Rattle.demands.specs.Instances.{lone, says1}
-use Rattle.demands.specs.Met.{zeroBook, zeroThresholds, lent-zeros, says24, two-multiframes}
+use Rattle.demands.specs.Met.{zeroBook, zeroThresholds, indexFor, reportFor, lent-zeros, distance, burstAt, doubleAt, hurtWord, hurtStream, hurtImage, hurts, names-met, says24, two-multiframes}
 use Rattle.demands.specs.Needed.{says1At11}
-use Rattle.hunting_demands.specs.Standing.{placeInRow, row, syncAt, wordAt, passes-there, unlike-fails, lost-fails, InARow, testedInRow, nothing-found, reads-in-a-row, image-size, image-sync, image-word}
+use Rattle.hunting_demands.specs.Standing.{placeInRow, row, syncAt, wordAt, streamAt, passes-there, unlike-fails, lost-fails, InARow, testedInRow, nothing-found, reads-in-a-row, image-size, image-sync, image-word}
+use Rattle.hunting_demands.specs.AsRead as A
+use Rattle.hunting_demands.specs.AsRead.{Multiframes, Stands, shifted-syncs, shifted-stands, damaged-cut}
 use Rattle.hunting_demands.specs.Laid.{laidMultiframe, sync-in, word-in}
-use Rattle.hunting_demands.specs.HuntsBack.{receivedFlips, Premises, all-match}
+use Rattle.hunting_demands.specs.HuntsBack.{receivedFlips, heard, Premises, all-match}
 use Rattle.hunting_demands.specs.Hurt as H
 use Rattle.hunting_demands.specs.Met.{worstSync, sync-size, index24, report24}
 
@@ -57,6 +63,12 @@ pub record Needed (missing : Type 0) (u : Utterance) (s : List ℕ) (from at lea
   pub others : missing → Premises u s from at least codebook thresholds index report
   pub instead : huntingReading s from least codebook thresholds index report ≡ outcome (Refused r) index report
 
+-- or the reading succeeds, and the first pair's note is 1, where HUNTS BACK has 0, whatever notes the headers get
+pub record NeededForNotes (missing : Type 0) (u : Utterance) (s : List ℕ) (from at least : ℕ) (codebook thresholds : List ℤ) (index report : List ℕ) : Type 0 where
+  pub others : missing → Premises u s from at least codebook thresholds index report
+  pub instead : pairNoteIn (huntingReading s from least codebook thresholds index report .report) 0 ≡ 1
+  pub not-heard : (notes : ℕ → ℕ) → huntingReading s from least codebook thresholds index report ≡ heard u s from at least codebook thresholds index report notes → ⊥
+
 -- the premises that can be missing
 module _ (u : Utterance) (s : List ℕ) (from at least : ℕ) where
   abbrev pub Syncs : Type 0
@@ -64,6 +76,9 @@ module _ (u : Utterance) (s : List ℕ) (from at least : ℕ) where
 
   abbrev pub Headers : Type 0
   Headers = (k : ℕ) → k < multiframesOf u → receivedFlips u s at k ≤ 2
+
+  abbrev pub Streams : Type 0
+  Streams = (k : ℕ) → k < multiframesOf u → streamAt (bits s) (placeInRow at k) ≡ bits (streamIn (imageOf u) k)
 
   abbrev pub Settled : Type 0
   Settled = (2 ≤ multiframesOf u) ⊎ (receivedFlips u s at 0 ≡ 0)
@@ -443,3 +458,95 @@ module _ (codebook thresholds : List ℤ) (index report : List ℕ) where
 
 pub headers-needed-24 : Needed (Headers says24 (halfLost says24) 0 0 fewestMatches) says24 (halfLost says24) 0 0 fewestMatches zeroBook zeroThresholds index24 report24 (Octets Unsettled)
 headers-needed-24 = headers-needed zeroBook zeroThresholds index24 report24 says24 two-multiframes fewestMatches (lit≤ tt) (lit≤ tt) (lent-zeros (multiframesOf says24))
+
+-- ---- an image of two multiframes or more, damaged as demand 3 allows, its first packet too, and alone in its octets
+-- the first pair's note in what HUNTS BACK says
+heard-0 : (u : Utterance) (s : List ℕ) (from at least : ℕ) (codebook thresholds : List ℤ) (index report : List ℕ) (notes : ℕ → ℕ)
+    → pairNoteIn (heard u s from at least codebook thresholds index report notes .report) 0 ≡ 0
+heard-0 u s from at least codebook thresholds index report notes =
+    let m = multiframesOf u in
+    let g : ℕ → List ℕ = λ k. notes k ∷ replicate multiframePairs 0 in
+    front-at report (joined g m) (reportOctets * m) 1 (omega (arith, length-joined g reportOctets m (λ k h. refl)))
+    ∙ sym (getD-take reportOctets (joined g m) 1 0 (lit< tt)) ∙ ap (λ (l : List ℕ). getD l 1 0) (joined-part g reportOctets m 0 (λ k h. refl) (omega arith))
+
+module _ (u : Utterance) (two : 2 ≤ multiframesOf u) (least : ℕ) (low : fewestMatches ≤ least) (high : least ≤ syncBits) where
+  abbrev m : ℕ
+  m = multiframesOf u
+
+  abbrev img : List ℕ
+  img = hurtImage u
+
+  cut : Multiframes img m
+  cut = damaged-cut u img (hurts u)
+
+  itself : bits img ≡ [] ++ (bits img ++ [])
+  itself = sym (append-nil (bits img))
+
+  there : Stands img m img 0
+  there = shifted-stands img m cut img [] [] itself
+
+  searched-img : searched (bits img) ≡ multiframeBits * m
+  searched-img =
+      let few : m ≤ 255 = few-multiframes (u .rate) (u .kind) (u .indices) (is-accepted u .sizes) in
+      searched-all (bits img) (omega (arith, length-bits img, cut .size)) ∙ omega (arith, length-bits img, cut .size)
+
+  whole-syncs : Syncs u img 0 0 least
+  whole-syncs k h = subst (λ (x : List Bool). least ≤ matches x sync) (sym (shifted-syncs img m cut img [] [] itself k h)) (sync-enough least high)
+
+  first-touched : Touched (imageOf u) img 0
+  first-touched e =
+      let p = packetOf (u .indices) 0 in
+      let d = doubleAt u 0 in
+      let r = stream (u .indices) 2 10 in
+      let lp : length p ≡ 92 = length-packetOf (u .indices) 0 in
+      let lb : length (burstAt u 0) ≡ 92 = length-flip (flip p 0) 2 ∙ length-flip p 0 ∙ lp in
+      let ld : length d ≡ 92 = length-flip (flip (packetOf (u .indices) 1) 0) distance ∙ length-flip (packetOf (u .indices) 1) 0 ∙ length-packetOf (u .indices) 1 in
+      let size : length (hurtStream u 0) ≡ 1104 = length-append (burstAt u 0) (d ++ r) ∙ omega (arith, length-append d r, length-stream (u .indices) 2 10) in
+      let first : packetIn img 0 ≡ burstAt u 0 = made-packet (hurtWord u) (hurtStream u) m 0 (omega arith) size ∙ take-at (burstAt u 0) (d ++ r) 92 lb in
+      differs p (burstAt u 0) (inl (flips-burst p 0 2 (lit< tt) (lit< tt) (omega arith)))
+      (sym first ∙ e ∙ image-packet (u .rate) (u .kind) (u .indices) m 0 (omega arith))
+
+  named : A.Premises u img img 0 0 least zeroBook zeroThresholds (indexFor m) (reportFor m)
+  named = record {
+    of-image = names-met u two;
+    there = there;
+    begins = lit≤ tt;
+    inside = omega (arith, searched-img);
+    syncs = whole-syncs;
+    none-before = λ t a h. absurd (omega arith);
+    none-behind = λ t a h. absurd (omega (arith, searched-img));
+    low = low;
+    high = high;
+  }
+
+  noted : pairNoteIn (huntingReading img 0 least zeroBook zeroThresholds (indexFor m) (reportFor m) .report) 0 ≡ 1
+  noted = A.damaged-noted u img img 0 0 least zeroBook zeroThresholds (indexFor m) (reportFor m) named 0 (omega arith) first-touched
+
+  -- STREAMS: with the first packet damaged the image is read, and the first pair's note is 1
+  pub streams-needed : NeededForNotes (Streams u (hurtImage u) 0 0 least) u (hurtImage u) 0 0 least zeroBook zeroThresholds (indexFor (multiframesOf u)) (reportFor (multiframesOf u))
+  streams-needed = record {
+    others = λ streams. record {
+      carried = record {
+        begins = lit≤ tt;
+        inside = named .inside;
+        syncs = whole-syncs;
+        headers = λ k h.
+            subst (λ (n : ℕ). n ≤ 2) (sym (ap (λ (x : ℕ). ones (bitXor x (wordIn (imageOf u) k))) (there .words k h))) (hurts u .headers k h);
+        streams = streams;
+        none-before = named .none-before;
+        none-behind = named .none-behind;
+      };
+      low = low;
+      high = high;
+      settled = inl two;
+      lent = lent-zeros m;
+    };
+    instead = noted;
+    not-heard = λ notes e.
+        let z : _≡_ {A = ℕ} 0 1 =
+        sym (heard-0 u img 0 0 least zeroBook zeroThresholds (indexFor m) (reportFor m) notes) ∙ ap (λ (o : Outcome). pairNoteIn (o .report) 0) (sym e) ∙ noted in
+        omega arith;
+  }
+
+pub streams-needed-24 : NeededForNotes (Streams says24 (hurtImage says24) 0 0 fewestMatches) says24 (hurtImage says24) 0 0 fewestMatches zeroBook zeroThresholds index24 report24
+streams-needed-24 = streams-needed says24 (le-of-eq (sym two-multiframes)) fewestMatches (lit≤ tt) (lit≤ tt)

@@ -1,0 +1,137 @@
+-- READ WHERE IT STANDS: whatever the octet reader says of octets cut in multiframes, damaged or not, the hunting reader says of them where their
+-- headers and streams stand in a row at any bit, and adds the bits outside and the places tested; so demand 3 is kept at any bit.
+-- Assumes nothing.
+use Prim.Native.Nat.{ℕ, _+_, _*_, _≤_, _<_}
+use mathlib.Core.Path.{_≡_, sym, ap, ap₂, _∙_}
+use mathlib.Core.List.{List, [], _∷_, _++_}
+use mathlib.Core.Bool.{Bool, false}
+use native.Mathlib.Omega.{arith}
+use lib.IntN.{ℤ}
+use lib.ListN.{length, take}
+use lib.Seq.{drop-append-add}
+use Rattle.lists.specs.Parts.{part, part-left}
+use Rattle.lists.specs.Rows.{same-joined}
+use Rattle.layout.specs.Layout.{multiframeOctets, mostMultiframes, codebookNumbers, thresholdNumbers}
+use Rattle.bits.specs.Bits.{value, bits}
+use Rattle.bits.specs.Laws.{length-bits, bits-part}
+use Rattle.header.specs.Reading.{reading}
+use Rattle.cutting.specs.Cutting.{syncFirst, syncSecond}
+use Rattle.hunt.specs.Hunt.{fewestMatches, syncBits, multiframeBits, sync, matches, passes, searched}
+use Rattle.reader.specs.Reading as R
+use Rattle.hunting.specs.Hunting as G
+use Rattle.hunting.specs.Hunting.{outsideOf, counted, huntingReading}
+use Rattle.writer.specs.Laws.{few-multiframes, length-image}
+use Rattle.writer.specs.Made.{Small, syncIn, wordIn, streamIn, framed, made-again}
+use Rattle.writer.specs.Image.{image-sync, Utterance, multiframesOf, pairsOf, imageOf, is-accepted}
+use Rattle.demands.specs.Damage.{Damage, Touched, headerFlips, sentMessage, header-read}
+use Rattle.demands.specs.Whole.{pairNoteIn}
+use Rattle.demands.specs.NamesTheDamage as N
+use Rattle.hunting_demands.specs.Standing.{placeInRow, row, syncAt, wordAt, streamAt, passes-there, InARow, testedInRow, reads-in-a-row, image-made}
+
+-- octets of m multiframes and nothing else, with any headers and any streams
+pub record Multiframes (img : List ℕ) (m : ℕ) : Type 0 where
+  pub size : length img ≡ multiframeOctets * m
+  pub small : Small img
+  pub syncs : (k : ℕ) → k < m → syncIn img k ≡ syncFirst ∷ syncSecond ∷ []
+
+-- their headers and streams, one multiframe behind the other from bit `at` of s on
+pub record Stands (img : List ℕ) (m : ℕ) (s : List ℕ) (at : ℕ) : Type 0 where
+  pub words : (k : ℕ) → k < m → wordAt (bits s) (placeInRow at k) ≡ wordIn img k
+  pub streams : (k : ℕ) → k < m → streamAt (bits s) (placeInRow at k) ≡ bits (streamIn img k)
+
+module _ (img : List ℕ) (m : ℕ) (w : Multiframes img m) (s : List ℕ) (at : ℕ) (there : Stands img m s at) where
+  -- put together they are those octets again
+  pub put-together : at + multiframeBits * m ≤ searched (bits s) → G.imageOf s (row at m) ≡ img
+  put-together inside =
+      image-made s at m inside
+      ∙ same-joined (λ k. framed (wordAt (bits s) (placeInRow at k)) (streamAt (bits s) (placeInRow at k))) (λ k. framed (wordIn img k) (bits (streamIn img k))) m
+      (λ k h. ap₂ framed (there .words k h) (there .streams k h))
+      ∙ made-again img m (w .size) (w .small) (w .syncs)
+
+  -- READ WHERE IT STANDS
+  pub as-read : (from least : ℕ) (codebook thresholds : List ℤ) (index report : List ℕ) → fewestMatches ≤ least → least ≤ syncBits
+      → length codebook ≡ codebookNumbers → length thresholds ≡ thresholdNumbers → InARow (bits s) from at least m → 0 < m → m ≤ mostMultiframes
+      → huntingReading s from least codebook thresholds index report
+      ≡ counted (R.reading img codebook thresholds index report) (outsideOf (bits s) from m) (testedInRow (bits s) from at m)
+  as-read from least codebook thresholds index report low high codebook-size thresholds-size r some few =
+      reads-in-a-row s from least codebook thresholds index report low high codebook-size thresholds-size at m r some few
+      ∙ ap (λ (x : List ℕ). counted (R.reading x codebook thresholds index report) (outsideOf (bits s) from m) (testedInRow (bits s) from at m)) (put-together (r .inside))
+
+-- ---- octets that are only shifted, with any bits in front and behind, stand there with whole syncs
+module _ (img : List ℕ) (m : ℕ) (w : Multiframes img m) (s : List ℕ) (front behind : List Bool) (same : bits s ≡ front ++ (bits img ++ behind)) where
+  -- octets of img are bits of s
+  bits-of : (i n t : ℕ) → i + n ≤ length img → t ≡ length front + 8 * i → part t (8 * n) (bits s) ≡ bits (part i n img)
+  bits-of i n t le e =
+      ap₂ (λ (j : ℕ) (l : List Bool). part j (8 * n) l) e same ∙ ap (take (8 * n)) (drop-append-add front (bits img ++ behind) (8 * i))
+      ∙ part-left (bits img) behind (8 * i) (8 * n) (omega (arith, length-bits img)) ∙ sym (bits-part i n img le)
+
+  pub shifted-syncs : (k : ℕ) → k < m → syncAt (bits s) (placeInRow (length front) k) ≡ sync
+  shifted-syncs k h = bits-of (144 * k) 2 (length front + 1152 * k) (omega (arith, w .size)) (omega arith) ∙ ap bits (w .syncs k h)
+
+  pub shifted-stands : Stands img m s (length front)
+  shifted-stands = record {
+    words = λ k h. ap value (bits-of (144 * k + 2) 4 (length front + 1152 * k + 16) (omega (arith, w .size)) (omega arith));
+    streams = λ k h. bits-of (144 * k + 2 + 4) 138 (length front + 1152 * k + 16 + 32) (omega (arith, w .size)) (omega arith);
+  }
+
+-- ---- NAMES THE DAMAGE AT ANY BIT (demand 3, for 02's C-13)
+-- a damaged image is such octets
+pub damaged-cut : (u : Utterance) (img : List ℕ) → Damage (multiframesOf u) (imageOf u) img → Multiframes img (multiframesOf u)
+damaged-cut u img d = record {
+  size = d .size ∙ length-image (u .rate) (u .kind) (u .indices) (multiframesOf u);
+  small = d .small;
+  syncs = λ k h. d .syncs k h ∙ image-sync (u .rate) (u .kind) (u .indices) (multiframesOf u) k h;
+}
+
+module _ (u : Utterance) (img s : List ℕ) (from at least : ℕ) (codebook thresholds : List ℤ) (index report : List ℕ) where
+  pub record Premises : Type 0 where
+    -- demand 3's, of the damaged image
+    pub of-image : N.Premises u img codebook thresholds index report
+    -- which stands at bit `at`, but for its syncs
+    pub there : Stands img (multiframesOf u) s at
+    pub begins : from ≤ at
+    pub inside : at + multiframeBits * multiframesOf u ≤ searched (bits s)
+    -- "at least T of the 16 bits match the sync"
+    pub syncs : (k : ℕ) → k < multiframesOf u → least ≤ matches (syncAt (bits s) (placeInRow at k)) sync
+    -- no match that could be taken instead, before it or behind
+    pub none-before : (t : ℕ) → from ≤ t → t < at → passes least (bits s) t ≡ false
+    pub none-behind : (t : ℕ) → at + multiframeBits * multiframesOf u ≤ t → t + multiframeBits ≤ searched (bits s) → passes least (bits s) t ≡ false
+    -- "T is the caller's, 12 to 16"
+    pub low : fewestMatches ≤ least
+    pub high : least ≤ syncBits
+
+  abbrev pub result : G.Outcome
+  result = huntingReading s from least codebook thresholds index report
+
+  -- what the octet reader gives of the image is all that demand 3 says, and the hunting reader gives it too
+  pub record Named : Type 0 where
+    pub of-image : N.Named u img codebook thresholds index report
+    pub here : result
+        ≡ counted (N.result u img codebook thresholds index report) (outsideOf (bits s) from (multiframesOf u)) (testedInRow (bits s) from at (multiframesOf u))
+
+  module _ (p : Premises) where
+    abbrev d : Damage (multiframesOf u) (imageOf u) img
+    d = p .of-image .damage
+
+    in-a-row : InARow (bits s) from at least (multiframesOf u)
+    in-a-row = record {
+      begins = p .begins;
+      inside = p .inside;
+      stand = λ k h.
+          passes-there least (bits s) (placeInRow at k) (sentMessage u k) (headerFlips (imageOf u) img k) (p .syncs k h)
+          (ap reading (p .there .words k h) ∙ header-read u img d k h);
+      none-before = p .none-before;
+      none-behind = p .none-behind;
+    }
+
+    pub names-at-any-bit : Named
+    names-at-any-bit = record {
+      of-image = N.names-the-damage u img codebook thresholds index report (p .of-image);
+      here = as-read img (multiframesOf u) (damaged-cut u img d) s at (p .there) from least codebook thresholds index report (p .low) (p .high)
+          (p .of-image .lent .codebook-size) (p .of-image .lent .thresholds-size) in-a-row (omega arith)
+          (few-multiframes (u .rate) (u .kind) (u .indices) (is-accepted u .sizes));
+    }
+
+    -- so the note of every damaged pair is 1
+    pub damaged-noted : (q : ℕ) → q < pairsOf u → Touched (imageOf u) img q → pairNoteIn (result .report) q ≡ 1
+    damaged-noted q h t = ap (λ (o : G.Outcome). pairNoteIn (o .report) q) (names-at-any-bit .here) ∙ names-at-any-bit .of-image .damaged q h t
