@@ -26,7 +26,7 @@ use Rattle.writer.specs.Image.{image-sync, Utterance, multiframesOf, pairsOf, i
 use Rattle.demands.specs.Damage.{Damage, Touched, headerFlips, sentMessage, header-read}
 use Rattle.demands.specs.Whole.{pairNoteIn}
 use Rattle.demands.specs.NamesTheDamage as N
-use Rattle.hunting_demands.specs.Standing.{placeInRow, row, syncAt, wordAt, streamAt, passes-there, InARow, testedInRow, reads-in-a-row, image-made}
+use Rattle.hunting_demands.specs.Standing.{placeInRow, row, syncAt, wordAt, streamAt, at-most-all, passes-there, InARow, testedInRow, reads-in-a-row, image-made}
 
 -- octets of m multiframes and nothing else, with any headers and any streams
 pub record Multiframes (img : List ℕ) (m : ℕ) : Type 0 where
@@ -96,9 +96,8 @@ module _ (u : Utterance) (img s : List ℕ) (from at least : ℕ) (codebook thre
     -- no match that could be taken instead, before it or behind
     pub none-before : (t : ℕ) → from ≤ t → t < at → passes least (bits s) t ≡ false
     pub none-behind : (t : ℕ) → at + multiframeBits * multiframesOf u ≤ t → t + multiframeBits ≤ searched (bits s) → passes least (bits s) t ≡ false
-    -- "T is the caller's, 12 to 16"
+    -- "T is the caller's, 12 to 16"; the syncs say that it is at most 16
     pub low : fewestMatches ≤ least
-    pub high : least ≤ syncBits
 
   abbrev pub result : G.Outcome
   result = huntingReading s from least codebook thresholds index report
@@ -127,7 +126,8 @@ module _ (u : Utterance) (img s : List ℕ) (from at least : ℕ) (codebook thre
     pub names-at-any-bit : Named
     names-at-any-bit = record {
       of-image = N.names-the-damage u img codebook thresholds index report (p .of-image);
-      here = as-read img (multiframesOf u) (damaged-cut u img d) s at (p .there) from least codebook thresholds index report (p .low) (p .high)
+      here = as-read img (multiframesOf u) (damaged-cut u img d) s at (p .there) from least codebook thresholds index report (p .low)
+          (at-most-all (syncAt (bits s) (placeInRow at 0)) least (p .syncs 0 (omega arith)))
           (p .of-image .lent .codebook-size) (p .of-image .lent .thresholds-size) in-a-row (omega arith)
           (few-multiframes (u .rate) (u .kind) (u .indices) (is-accepted u .sizes));
     }

@@ -3,7 +3,7 @@
 -- and read with the same settings, frames and count, and each header's note is the number of bits flipped there.
 -- Assumes nothing.
 use Prim.Native.Nat.{ℕ, _+_, _*_, _/_, _≤_, _<_}
-use mathlib.Core.Path.{_≡_, refl, sym, ap, _∙_, subst}
+use mathlib.Core.Path.{_≡_, sym, ap, _∙_, subst}
 use mathlib.Core.List.{List, _∷_, _++_}
 use mathlib.Core.Bool.{Bool, true, false}
 use mathlib.Core.Logic.{_⊎_, inl, inr, ⊎-elim}
@@ -16,7 +16,7 @@ use lib.ListN.{length, replicate}
 use Rattle.lists.specs.Parts.{part, over}
 use Rattle.lists.specs.Rows.{joined, same-joined}
 use Rattle.layout.specs.Layout.{packetBits, multiframePairs, mostMultiframes, indexOctets, reportOctets, packetStart}
-use Rattle.bits.specs.Bits.{fields, field, bits}
+use Rattle.bits.specs.Bits.{bits}
 use Rattle.header.specs.Reading.{reading}
 use Rattle.hunt.specs.Hunt.{fewestMatches, syncBits, multiframeBits, sync, matches, passes, searched}
 use Rattle.reader.specs.Reading as R
@@ -31,7 +31,7 @@ use Rattle.demands.specs.Damage.{Damage, headerFlips, sentMessage, header-read}
 use Rattle.demands.specs.Damages.{unharmed}
 use Rattle.demands.specs.Whole.{Lent}
 use Rattle.demands.specs.ReadsBack.{spoken, padded, reads-mended}
-use Rattle.hunting_demands.specs.Standing.{placeInRow, row, passes-there, InARow, testedInRow, reads-in-a-row, syncAt, wordAt, streamAt, image-size, image-small, image-sync, image-word, image-stream}
+use Rattle.hunting_demands.specs.Standing.{placeInRow, row, all-match, at-most-all, passes-there, InARow, testedInRow, reads-in-a-row, syncAt, wordAt, streamAt, image-size, image-small, image-sync, image-word, image-stream}
 use Rattle.hunting_demands.specs.AsRead.{Multiframes, Stands, shifted-syncs, shifted-stands, damaged-cut}
 
 -- in how many bits the header of multiframe k, standing from bit `at` on, differs from the one written
@@ -105,9 +105,8 @@ module _ (u : Utterance) (s : List ℕ) (from at least : ℕ) (codebook threshol
 
   pub record Premises : Type 0 where
     pub carried : Carried u s from at least
-    -- "T is the caller's, 12 to 16"
+    -- "T is the caller's, 12 to 16"; the syncs say that it is at most 16
     pub low : fewestMatches ≤ least
-    pub high : least ≤ syncBits
     -- two multiframes or more, or an only header that is untouched
     pub settled : (2 ≤ multiframesOf u) ⊎ (receivedFlips u s at 0 ≡ 0)
     -- 01's tables and room
@@ -120,17 +119,13 @@ module _ (u : Utterance) (s : List ℕ) (from at least : ℕ) (codebook threshol
       let g = G.imageOf s (row at n) in
       let few : n ≤ mostMultiframes = few-multiframes (u .rate) (u .kind) (u .indices) (is-accepted u .sizes) in
       let headers : (2 ≤ n) ⊎ (headerFlips (imageOf u) g 0 ≡ 0) = ⊎-elim inl (λ e. inr (flips-are u s from at least c 0 (omega arith) ∙ e)) (p .settled) in
-      reads-in-a-row s from least codebook thresholds index report (p .low) (p .high) (p .lent .codebook-size) (p .lent .thresholds-size) at n
+      reads-in-a-row s from least codebook thresholds index report (p .low) (at-most-all (syncAt (bits s) (placeInRow at 0)) least (c .syncs 0 (omega arith))) (p .lent .codebook-size) (p .lent .thresholds-size) at n
       (in-a-row u s from at least c) (omega arith) few
       ∙ ap (λ (o : R.Outcome). counted o (outsideOf (bits s) from n) (testedInRow (bits s) from at n))
       (reads-mended u g (damage u s from at least c) (packets-kept u s from at least c) headers codebook thresholds index report (p .lent))
       ∙ same-notes (headerFlips (imageOf u) g) (receivedFlips u s at) (flips-are u s from at least c)
 
 -- ---- an image that is only shifted: any bits in front of it and behind, and nothing damaged
-pub all-match : matches sync sync ≡ syncBits
-unfolding matches fields field
-all-match = refl
-
 module _ (u : Utterance) (s : List ℕ) (from least : ℕ) (front behind : List Bool) where
   pub record Shifted : Type 0 where
     pub same : bits s ≡ front ++ (bits (imageOf u) ++ behind)
@@ -170,5 +165,5 @@ module _ (u : Utterance) (s : List ℕ) (from least : ℕ) (front behind : List 
         → huntingReading s from least codebook thresholds index report ≡ heard u s from (length front) least codebook thresholds index report (λ k. 0)
     hunts-shifted codebook thresholds index report low high lent =
         hunts-back u s from (length front) least codebook thresholds index report
-        (record { carried = shifted-carried high; low = low; high = high; settled = inr (no-flips 0 (omega arith)); lent = lent })
+        (record { carried = shifted-carried high; low = low; settled = inr (no-flips 0 (omega arith)); lent = lent })
         ∙ same-notes u s from (length front) least codebook thresholds index report (receivedFlips u s (length front)) (λ k. 0) no-flips

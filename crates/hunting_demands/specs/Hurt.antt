@@ -25,9 +25,10 @@ use Rattle.header.specs.declared.Header.the-variants.{Codeword, Lost}
 use Rattle.hunt.specs.Hunt.{syncBits, headerBits, multiframeBits, sync, matches, passes, searched}
 use Rattle.hunt.specs.Laws.{searched-all}
 use Rattle.writer.specs.Laws.{few-multiframes}
-use Rattle.writer.specs.Image.{image-word, image-stream, Utterance, multiframesOf, is-accepted}
+use Rattle.writer.specs.Made.{streamIn}
+use Rattle.writer.specs.Image.{image-word, image-stream, Utterance, multiframesOf, imageOf, is-accepted}
 use Rattle.demands.specs.Damage.{sentMessage}
-use Rattle.hunting_demands.specs.Standing.{placeInRow, syncAt, wordAt, passes-there}
+use Rattle.hunting_demands.specs.Standing.{placeInRow, syncAt, wordAt, streamAt, passes-there}
 use Rattle.hunting_demands.specs.Laid.{laidMultiframe, laidOctets, Sizes, bits-laid, size-laid, laid-behind, laid-sync, laid-word, laid-stream}
 use Rattle.hunting_demands.specs.HuntsBack.{receivedFlips, Carried}
 
@@ -87,6 +88,11 @@ module _ (u : Utterance) (front : List Bool) (y : ℕ → List Bool) (flips : �
       word-there : wordAt l (placeInRow at k) ≡ hurtWord k
       word-there = laid-word front y hurtWord keptStream m behind n sizes k h
 
+      pub stream-there : streamAt (bits hurt) (placeInRow (length front) k) ≡ bits (streamIn (imageOf u) k)
+      stream-there =
+          laid-stream front y hurtWord keptStream m behind n sizes k h
+          ∙ sym (ap bits (image-stream (u .rate) (u .kind) (u .indices) m k h) ∙ bits-octets streamOctets (keptStream k) (length-stream (u .indices) (firstPair k) multiframePairs))
+
       pub flips-there : receivedFlips u hurt (length front) k ≡ ones (flips k)
       unfolding flipsTo
       flips-there =
@@ -104,6 +110,9 @@ module _ (u : Utterance) (front : List Bool) (y : ℕ → List Bool) (flips : �
       pub passes-hurt : (least : ℕ) → least ≤ matches (y k) sync → ones (flips k) ≤ 2 → passes least (bits hurt) (placeInRow (length front) k) ≡ true
       passes-hurt least match le = passes-there least l (placeInRow at k) (sentMessage u k) (ones (flips k)) (match-there least match) (mended-there le)
 
+    pub inside-there : length front + multiframeBits * multiframesOf u ≤ searched (bits hurt)
+    inside-there = omega (arith, searched-are, f .around)
+
     pub hurt-carried : (from least : ℕ) → from ≤ length front
         → ((k : ℕ) → k < multiframesOf u → least ≤ matches (syncAt (bits hurt) (placeInRow (length front) k)) sync)
         → ((k : ℕ) → k < multiframesOf u → receivedFlips u hurt (length front) k ≤ 2)
@@ -112,12 +121,10 @@ module _ (u : Utterance) (front : List Bool) (y : ℕ → List Bool) (flips : �
         → Carried u hurt from (length front) least
     hurt-carried from least begins syncs headers none-before none-behind = record {
       begins = begins;
-      inside = omega (arith, searched-are, f .around);
+      inside = inside-there;
       syncs = syncs;
       headers = headers;
-      streams = λ k h.
-          laid-stream front y hurtWord keptStream m behind n sizes k h
-          ∙ sym (ap bits (image-stream (u .rate) (u .kind) (u .indices) m k h) ∙ bits-octets streamOctets (keptStream k) (length-stream (u .indices) (firstPair k) multiframePairs));
+      streams = stream-there;
       none-before = none-before;
       none-behind = none-behind;
     }

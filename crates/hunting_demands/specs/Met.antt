@@ -136,7 +136,7 @@ module _ (u : Utterance) where
   module _ (codebook thresholds : List ℤ) (index report : List ℕ) where
     pub hunts-back-met : 2 ≤ multiframesOf u → Lent (multiframesOf u) codebook thresholds index report
         → Premises u carriedOctets 0 3 fewestMatches codebook thresholds index report
-    hunts-back-met two lent = record { carried = carried; low = lit≤ tt; high = lit≤ tt; settled = inl two; lent = lent }
+    hunts-back-met two lent = record { carried = carried; low = lit≤ tt; settled = inl two; lent = lent }
 
     -- two multiframes so carried are read with their settings, frames and count, every header's two flips are noted, 1,208 bits stand outside,
     -- and 59 places were tested: three before them, their two, and the 54 behind them with a multiframe's bits left

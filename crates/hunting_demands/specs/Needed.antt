@@ -3,7 +3,7 @@
 use Prim.Native.Nat.{ℕ, zero, suc, _+_, _*_, _^_, _≤_, _<_}
 use mathlib.Core.Path.{_≡_, refl, sym, ap, ap₂, _∙_, subst}
 use mathlib.Core.List.{List, [], _∷_, _++_, append-nil}
-use mathlib.Core.Logic.{_⊎_, inl, inr}
+use mathlib.Core.Logic.{_⊎_, inl, inr, ⊎-elim}
 use mathlib.Core.Bool.{Bool, true, false}
 use native.Mathlib.Nat.{le-of-eq}
 use native.Mathlib.Omega.{arith}
@@ -13,81 +13,144 @@ use lib.Dec.{lit<, lit≤}
 use lib.IntN.{ℤ}
 use lib.ListN.{length, getD, replicate, length-append}
 use lib.Seq.{take-at, getD-take}
-use borrow.Author.Tests.{eq-eqb, ne-eqb}
+use borrow.Author.Tests.{eq-eqb, ne-eqb, lt-ltb}
 use Rattle.gf2.specs.Light.{ones-in}
+use Rattle.lists.specs.Tests.{true-false}
+use Rattle.lists.specs.Parts.{part}
 use Rattle.lists.specs.Rows.{each, joined, length-joined, joined-part}
-use Rattle.layout.specs.Layout.{multiframePairs, mostMultiframes, reportOctets, codebookNumbers, thresholdNumbers}
+use Rattle.layout.specs.Layout.{packetBits, packetStart, multiframePairs, multiframeOctets, mostMultiframes, indexOctets, reportOctets, codebookNumbers, thresholdNumbers}
 use Rattle.bits.specs.Bits.{field, fields, value, bits}
 use Rattle.bits.specs.Laws.{length-field, length-bits}
+use Rattle.cutting.specs.Cutting.{syncFirst, syncSecond}
+use Rattle.cutting.specs.Laws.{every-length}
 use Rattle.crc.specs.Crc.{flip}
 use Rattle.crc.specs.Damage.{length-flip, flips-burst}
 use Rattle.packet.specs.Packet.{packetOf, stream}
 use Rattle.packet.specs.Laws.{length-packetOf, length-stream}
 use Rattle.header_code.specs.Code.{codeword}
 use Rattle.header_code.specs.Code.Distance.{codeword-lt}
-use Rattle.header.specs.Message.{message, rateOf, commonBits}
+use Rattle.header.specs.Message.{message, rateOf, expOf, commonBits}
 use Rattle.header.specs.Message.Laws.{message-lt, rate-back, common-rate}
 use Rattle.header.specs.Reading.{reading}
 use Rattle.header.specs.Reading.Laws.{mended}
 use Rattle.header.specs.declared.Header.{Header}
 use Rattle.header.specs.declared.Header.the-variants.{Codeword}
 use Rattle.settling.specs.Settling.{readings, settling, firstAgreeing, onlyOne}
-use Rattle.settling.specs.Laws.{only-mended}
+use Rattle.settling.specs.Laws.{only-clean, only-mended}
 use Rattle.settling.specs.declared.Settings.the-variants as S
 use Rattle.hunt.specs.Hunt.{syncBits, headerBits, multiframeBits, fewestMatches, inRange, sync, matches, passes, searched, placesLeft}
 use Rattle.hunt.specs.Laws.{searched-all}
 use Rattle.reader.specs.Reading as R
-use Rattle.reader.specs.declared.Refusal.the-variants.{Unsettled}
+use Rattle.reader.specs.ReadingLaws.{Usable}
+use Rattle.reader.specs.declared.Answer.the-variants as RA
+use Rattle.reader.specs.declared.Refusal.the-variants.{Unsettled, IndexShort}
 use Rattle.hunting.specs.Hunting.{imageOf as foundImage, outsideOf, counted, Outcome, outcome, huntingReading}
 use Rattle.hunting.specs.declared.Answer.the-variants.{Refused}
 use Rattle.hunting.specs.declared.Refusal.{Refusal}
 use Rattle.hunting.specs.declared.Refusal.the-variants.{Octets, MatchRange, Nowhere}
 use Rattle.writer.specs.Laws.{few-multiframes}
-use Rattle.writer.specs.Made.{wordIn, streamIn, packetIn, made-packet}
-use Rattle.writer.specs.Image.{image-packet, Utterance, multiframesOf, imageOf, is-accepted}
+use Rattle.writer.specs.Made.{syncIn, wordIn, streamIn, packetIn, made-packet}
+use Rattle.writer.specs.Image.{image-packet, Utterance, multiframesOf, imageOf, is-accepted, rate-not-2}
 use Rattle.demands.specs.Damage.{Touched, sentMessage, differs}
-use Rattle.demands.specs.Whole.{Lent, rowOf, readings-are, pairNoteIn, front-at, refuses-16}
+use Rattle.demands.specs.Whole.{Lent, rowOf, readings-are, cut-is, pairNoteIn, front-at, refuses-16}
+use Rattle.demands.specs.Received.{sentCommon, common-sent, rate-sent, exp-sent}
 use Rattle.demands.specs.Instances.{lone, says1}
 use Rattle.demands.specs.Met.{zeroBook, zeroThresholds, indexFor, reportFor, lent-zeros, distance, burstAt, doubleAt, hurtWord, hurtStream, hurtImage, hurts, names-met, says24, two-multiframes}
 use Rattle.demands.specs.Needed.{says1At11}
-use Rattle.hunting_demands.specs.Standing.{placeInRow, row, syncAt, wordAt, streamAt, passes-there, unlike-fails, lost-fails, InARow, testedInRow, nothing-found, reads-in-a-row, image-size, image-sync, image-word}
+use Rattle.hunting_demands.specs.Standing.{placeInRow, row, syncAt, wordAt, streamAt, all-match, passes-there, unlike-fails, lost-fails, InARow, testedInRow, nothing-found, reads-in-a-row, image-size, image-sync, image-word}
 use Rattle.hunting_demands.specs.AsRead as A
 use Rattle.hunting_demands.specs.AsRead.{Multiframes, Stands, shifted-syncs, shifted-stands, damaged-cut}
 use Rattle.hunting_demands.specs.Laid.{laidMultiframe, sync-in, word-in}
-use Rattle.hunting_demands.specs.HuntsBack.{receivedFlips, heard, Premises, all-match}
+use Rattle.hunting_demands.specs.HuntsBack.{receivedFlips, heard, Premises}
 use Rattle.hunting_demands.specs.Hurt as H
 use Rattle.hunting_demands.specs.Met.{worstSync, sync-size, index24, report24}
 
--- but for one premise all are met, and the reading is refused, and both buffers stay
-pub record Needed (missing : Type 0) (u : Utterance) (s : List ℕ) (from at least : ℕ) (codebook thresholds : List ℤ) (index report : List ℕ) (r : Refusal) : Type 0 where
-  pub others : missing → Premises u s from at least codebook thresholds index report
+-- the premises
+pub data Premise : Type 0 where
+  Begins Inside Syncs Headers Streams NoneBefore NoneBehind Low Settled TablesAndRoom : Premise
+
+-- what each says; a law each way shows that they are all, and no more
+module _ (u : Utterance) (s : List ℕ) (from at least : ℕ) (codebook thresholds : List ℤ) (index report : List ℕ) where
+  abbrev pub Holds : Premise → Type 0
+  Holds Begins = from ≤ at
+  Holds Inside = at + multiframeBits * multiframesOf u ≤ searched (bits s)
+  Holds Syncs = (k : ℕ) → k < multiframesOf u → least ≤ matches (syncAt (bits s) (placeInRow at k)) sync
+  Holds Headers = (k : ℕ) → k < multiframesOf u → receivedFlips u s at k ≤ 2
+  Holds Streams = (k : ℕ) → k < multiframesOf u → streamAt (bits s) (placeInRow at k) ≡ bits (streamIn (imageOf u) k)
+  Holds NoneBefore = (t : ℕ) → from ≤ t → t < at → passes least (bits s) t ≡ false
+  Holds NoneBehind = (t : ℕ) → at + multiframeBits * multiframesOf u ≤ t → t + multiframeBits ≤ searched (bits s) → passes least (bits s) t ≡ false
+  Holds Low = fewestMatches ≤ least
+  Holds Settled = (2 ≤ multiframesOf u) ⊎ (receivedFlips u s at 0 ≡ 0)
+  Holds TablesAndRoom = Lent (multiframesOf u) codebook thresholds index report
+
+  pub all-hold : ((p : Premise) → Holds p) → Premises u s from at least codebook thresholds index report
+  all-hold h = record {
+    carried = record {
+      begins = h Begins;
+      inside = h Inside;
+      syncs = h Syncs;
+      headers = h Headers;
+      streams = h Streams;
+      none-before = h NoneBefore;
+      none-behind = h NoneBehind;
+    };
+    low = h Low;
+    settled = h Settled;
+    lent = h TablesAndRoom;
+  }
+
+  pub premises-hold : Premises u s from at least codebook thresholds index report → (p : Premise) → Holds p
+  premises-hold h Begins = h .carried .begins
+  premises-hold h Inside = h .carried .inside
+  premises-hold h Syncs = h .carried .syncs
+  premises-hold h Headers = h .carried .headers
+  premises-hold h Streams = h .carried .streams
+  premises-hold h NoneBefore = h .carried .none-before
+  premises-hold h NoneBehind = h .carried .none-behind
+  premises-hold h Low = h .low
+  premises-hold h Settled = h .settled
+  premises-hold h TablesAndRoom = h .lent
+
+-- all others hold, this one does not, and the reading is refused, and both buffers stay
+pub record Needed (missing : Premise) (u : Utterance) (s : List ℕ) (from at least : ℕ) (codebook thresholds : List ℤ) (index report : List ℕ) (r : Refusal) : Type 0 where
+  pub others : (p : Premise) → (p ≡ missing → ⊥) → Holds u s from at least codebook thresholds index report p
+  pub fails : Holds u s from at least codebook thresholds index report missing → ⊥
   pub instead : huntingReading s from least codebook thresholds index report ≡ outcome (Refused r) index report
 
 -- or the reading succeeds, and the first pair's note is 1, where HUNTS BACK has 0, whatever notes the headers get
-pub record NeededForNotes (missing : Type 0) (u : Utterance) (s : List ℕ) (from at least : ℕ) (codebook thresholds : List ℤ) (index report : List ℕ) : Type 0 where
-  pub others : missing → Premises u s from at least codebook thresholds index report
+pub record NeededForNotes (missing : Premise) (u : Utterance) (s : List ℕ) (from at least : ℕ) (codebook thresholds : List ℤ) (index report : List ℕ) : Type 0 where
+  pub others : (p : Premise) → (p ≡ missing → ⊥) → Holds u s from at least codebook thresholds index report p
+  pub fails : Holds u s from at least codebook thresholds index report missing → ⊥
   pub instead : pairNoteIn (huntingReading s from least codebook thresholds index report .report) 0 ≡ 1
   pub not-heard : (notes : ℕ → ℕ) → huntingReading s from least codebook thresholds index report ≡ heard u s from at least codebook thresholds index report notes → ⊥
 
--- the premises that can be missing
-module _ (u : Utterance) (s : List ℕ) (from at least : ℕ) where
-  abbrev pub Syncs : Type 0
-  Syncs = (k : ℕ) → k < multiframesOf u → least ≤ matches (syncAt (bits s) (placeInRow at k)) sync
+-- Below, each premise but `Inside`: octets that are too short for it break `Streams` too, and else it speaks only of octets from the 2^61st on.
 
-  abbrev pub Headers : Type 0
-  Headers = (k : ℕ) → k < multiframesOf u → receivedFlips u s at k ≤ 2
+-- ---- the premises but one, of an utterance with other syncs and flips in its headers
+module _ (u : Utterance) (front : List Bool) (y : ℕ → List Bool) (flips : ℕ → ℕ) (behind : List Bool) (n : ℕ) (f : H.Fits u front y flips behind n)
+    (from least : ℕ) (codebook thresholds : List ℤ) (index report : List ℕ) (missing : Premise) where
+  abbrev s : List ℕ
+  s = H.hurt u front y flips behind n
 
-  abbrev pub Streams : Type 0
-  Streams = (k : ℕ) → k < multiframesOf u → streamAt (bits s) (placeInRow at k) ≡ bits (streamIn (imageOf u) k)
+  abbrev HoldsUnlessMissing : Premise → Type 0
+  HoldsUnlessMissing p = (p ≡ missing → ⊥) → Holds u s from (length front) least codebook thresholds index report p
 
-  abbrev pub Settled : Type 0
-  Settled = (2 ≤ multiframesOf u) ⊎ (receivedFlips u s at 0 ≡ 0)
-
-  abbrev pub NoneBefore : Type 0
-  NoneBefore = (t : ℕ) → from ≤ t → t < at → passes least (bits s) t ≡ false
-
-  abbrev pub NoneBehind : Type 0
-  NoneBehind = (t : ℕ) → at + multiframeBits * multiframesOf u ≤ t → t + multiframeBits ≤ searched (bits s) → passes least (bits s) t ≡ false
+  hurt-others : HoldsUnlessMissing Begins → ((Syncs ≡ missing → ⊥) → (k : ℕ) → least ≤ matches (y k) sync)
+      → ((Headers ≡ missing → ⊥) → (k : ℕ) → ones (flips k) ≤ 2) → HoldsUnlessMissing NoneBefore → HoldsUnlessMissing NoneBehind → HoldsUnlessMissing Low
+      → ((Settled ≡ missing → ⊥) → (2 ≤ multiframesOf u) ⊎ (ones (flips 0) ≡ 0)) → HoldsUnlessMissing TablesAndRoom
+      → (p : Premise) → (p ≡ missing → ⊥) → Holds u s from (length front) least codebook thresholds index report p
+  hurt-others begins match few before after low settled lent Begins other = begins other
+  hurt-others begins match few before after low settled lent Inside other = H.inside-there u front y flips behind n f
+  hurt-others begins match few before after low settled lent Syncs other = λ k h. H.match-there u front y flips behind n f k h least (match other k)
+  hurt-others begins match few before after low settled lent Headers other = λ k h.
+      subst (λ (i : ℕ). i ≤ 2) (sym (H.flips-there u front y flips behind n f k h)) (few other k)
+  hurt-others begins match few before after low settled lent Streams other = H.stream-there u front y flips behind n f
+  hurt-others begins match few before after low settled lent NoneBefore other = before other
+  hurt-others begins match few before after low settled lent NoneBehind other = after other
+  hurt-others begins match few before after low settled lent Low other = low other
+  hurt-others begins match few before after low settled lent Settled other =
+      ⊎-elim inl (λ e. inr (H.flips-there u front y flips behind n f 0 (omega arith) ∙ e)) (settled other)
+  hurt-others begins match few before after low settled lent TablesAndRoom other = lent other
 
 -- ---- where the headers found settle nothing, the hunting reader gives the octet reader's 16
 -- two headers with different common bits settle nothing
@@ -123,6 +186,28 @@ module _ (s : List ℕ) (from at least m : ℕ) (r : InARow (bits s) from at lea
       unsettled (ap settling (readings-are got m ∙ ap (each (λ k. reading (wordIn got k))) two)
       ∙ ap₂ (λ (h i : Header). settling (h ∷ i ∷ [])) (header-found 0 some ∙ ea) (header-found 1 (omega arith) ∙ eb) ∙ unlike a b f g differ)
 
+-- ---- where the settings are settled and the index buffer is too short, the octet reader gives 18
+module _ (s : List ℕ) (m : ℕ) (some : 0 < m) (few : m ≤ mostMultiframes) (size : length s ≡ multiframeOctets * m)
+    (syncs : (k : ℕ) → k < m → syncIn s k ≡ syncFirst ∷ syncSecond ∷ []) (codebook thresholds : List ℤ) (index report : List ℕ)
+    (codebook-size : length codebook ≡ codebookNumbers) (thresholds-size : length thresholds ≡ thresholdNumbers) where
+  refuses-18 : (c : ℕ) → settling (readings s (rowOf m)) ≡ S.Settled c → Usable c → length index < indexOctets * m
+      → R.reading s codebook thresholds index report ≡ R.outcome (RA.Refused (IndexShort (indexOctets * m))) index report
+  unfolding R.reading R.verdict R.wholeVerdict R.settledVerdict R.roomVerdict
+  refuses-18 c e u short =
+      let k = every-length 0 m in
+      let i : length index < indexOctets * length (rowOf m) = subst (λ (n : ℕ). length index < indexOctets * n) (sym k) short in
+      rw (
+        eq-eqb (length codebook) codebookNumbers codebook-size,
+        eq-eqb (length thresholds) thresholdNumbers thresholds-size,
+        cut-is s m few size syncs,
+        ne-eqb (length (rowOf m)) 0 (λ z. omega arith),
+        e,
+        ne-eqb (rateOf c) 2 (u .rate),
+        eq-eqb (expOf c) 0 (u .exp),
+        lt-ltb (length index) (indexOctets * length (rowOf m)) i,
+      )
+      (ap (λ (n : ℕ). R.outcome (RA.Refused (IndexShort (indexOctets * n))) index report) k)
+
 -- ---- syncs and flips
 -- the sync with five bits flipped
 abbrev pub fiveSync : List Bool
@@ -147,6 +232,12 @@ one-one : ones 1 ≡ 1
 unfolding onesIn
 one-one = sym (ones-in 1 1 (lit< tt))
 
+none-few : ones 0 ≤ 2
+none-few = omega (arith, no-ones)
+
+one-few : ones 1 ≤ 2
+one-few = omega (arith, one-one)
+
 three-ones : ones 7 ≡ 3
 unfolding onesIn
 three-ones = sym (ones-in 3 7 (lit< tt))
@@ -166,10 +257,13 @@ first-alone s least room e none = record {
     first zero h = e
     first (suc k) h = absurd (omega arith)
 
--- ---- the examples: the utterance 1 at 8 kHz, its one multiframe alone in 144 octets; its sync with five flips; its header with none, one and
--- three
+-- ---- the examples: the utterance 1 at 8 kHz, its one multiframe alone in 144 octets; its sync with five flips; its header with none and one
+-- no flip in the header behind the sync with five
+abbrev pub untouched : ℕ → ℕ
+untouched k = 0
+
 abbrev pub fiveFlips : List ℕ
-fiveFlips = H.hurt says1 [] (λ k. fiveSync) (λ k. 0) [] 0
+fiveFlips = H.hurt says1 [] (λ k. fiveSync) untouched [] 0
 
 abbrev pub clean1 : List ℕ
 clean1 = H.hurt says1 [] (λ k. sync) (λ k. 0) [] 0
@@ -177,8 +271,15 @@ clean1 = H.hurt says1 [] (λ k. sync) (λ k. 0) [] 0
 abbrev pub mended1 : List ℕ
 mended1 = H.hurt says1 [] (λ k. sync) (λ k. 1) [] 0
 
-abbrev pub lost1 : List ℕ
-lost1 = H.hurt says1 [] (λ k. sync) (λ k. 7) [] 0
+-- each fits
+five-fits : H.Fits says1 [] (λ k. fiveSync) untouched [] 0
+five-fits = record { syncs = λ k. five-size; headers = λ k. lit< tt; around = refl; few = lit≤ tt }
+
+clean-fits : H.Fits says1 [] (λ k. sync) (λ k. 0) [] 0
+clean-fits = record { syncs = λ k. sync-size; headers = λ k. lit< tt; around = refl; few = lit≤ tt }
+
+mended-fits : H.Fits says1 [] (λ k. sync) (λ k. 1) [] 0
+mended-fits = record { syncs = λ k. sync-size; headers = λ k. lit< tt; around = refl; few = lit≤ tt }
 
 -- six octets that look like a multiframe's first, and then the image
 abbrev pub flippedWord : ℕ
@@ -256,207 +357,182 @@ fewer m k h codebook thresholds index report lent = record {
 }
 
 module _ (codebook thresholds : List ℤ) (index report : List ℕ) where
-  -- any sync and any flips in the header
-  module _ (lent : Lent 1 codebook thresholds index report) (y : List Bool) (flips : ℕ) (size : length y ≡ syncBits) (small : flips < 2 ^ headerBits) (least : ℕ) where
-    abbrev alone : List ℕ
-    alone = H.hurt says1 [] (λ k. y) (λ k. flips) [] 0
-
-    fits : H.Fits says1 [] (λ k. y) (λ k. flips) [] 0
-    fits = record { syncs = λ k. size; headers = λ k. small; around = refl; few = lit≤ tt }
-
-    searched-is : searched (bits alone) ≡ multiframeBits
-    searched-is = H.searched-are says1 [] (λ k. y) (λ k. flips) [] 0 fits
-
-    flips-are : (k : ℕ) → k < 1 → receivedFlips says1 alone 0 k ≡ ones flips
-    flips-are = H.flips-there says1 [] (λ k. y) (λ k. flips) [] 0 fits
-
-    syncs-are : least ≤ matches y sync → Syncs says1 alone 0 0 least
-    syncs-are match k h = H.match-there says1 [] (λ k. y) (λ k. flips) [] 0 fits k h least match
-
-    met : (from : ℕ) → from ≤ 0 → Syncs says1 alone from 0 least → Headers says1 alone from 0 least → Settled says1 alone from 0 least
-        → fewestMatches ≤ least → least ≤ syncBits → Premises says1 alone from 0 least codebook thresholds index report
-    met from begins syncs headers settled low high = record {
-      carried = H.hurt-carried says1 [] (λ k. y) (λ k. flips) [] 0 fits from least begins syncs headers (λ t a h. absurd (omega arith))
-          (λ t a h. absurd (omega (arith, searched-is)));
-      low = low;
-      high = high;
-      settled = settled;
-      lent = lent;
-    }
-
-    nowhere : fewestMatches ≤ least → least ≤ syncBits → passes least (bits alone) 0 ≡ false
-        → huntingReading alone 0 least codebook thresholds index report ≡ outcome (Refused (Nowhere 0 1)) index report
-    nowhere low high e =
-        let one : placesLeft (bits alone) 0 ≡ 1 = omega (arith, searched-is) in
-        nothing-found alone 0 least codebook thresholds index report low high (lent .codebook-size) (lent .thresholds-size)
-        (λ t a h. let z : t ≡ 0 = omega (arith, searched-is) in ap (passes least (bits alone)) z ∙ e)
-        ∙ ap (λ (n : ℕ). outcome (Refused (Nowhere 0 n)) index report) one
+  -- with nothing around the multiframes no place is before them or behind
+  alone-others : (u : Utterance) (y : ℕ → List Bool) (flips : ℕ → ℕ) → H.Fits u [] y flips [] 0 → (from least : ℕ) (missing : Premise)
+      → ((Begins ≡ missing → ⊥) → from ≤ 0) → ((Syncs ≡ missing → ⊥) → (k : ℕ) → least ≤ matches (y k) sync)
+      → ((Headers ≡ missing → ⊥) → (k : ℕ) → ones (flips k) ≤ 2) → ((Low ≡ missing → ⊥) → fewestMatches ≤ least)
+      → ((Settled ≡ missing → ⊥) → (2 ≤ multiframesOf u) ⊎ (ones (flips 0) ≡ 0))
+      → ((TablesAndRoom ≡ missing → ⊥) → Lent (multiframesOf u) codebook thresholds index report)
+      → (p : Premise) → (p ≡ missing → ⊥) → Holds u (H.hurt u [] y flips [] 0) from 0 least codebook thresholds index report p
+  alone-others u y flips f from least missing begins match few low settled lent =
+      hurt-others u [] y flips [] 0 f from least codebook thresholds index report missing begins match few (λ other t a h. absurd (omega arith))
+      (λ other t a h. absurd (omega (arith, H.searched-are u [] y flips [] 0 f))) low settled lent
 
   -- SYNCS: a fifth flip in the only sync at T = 12, and nothing is found: 22
-  pub syncs-needed : Lent 1 codebook thresholds index report
-      → Needed (Syncs says1 fiveFlips 0 0 fewestMatches) says1 fiveFlips 0 0 fewestMatches codebook thresholds index report (Nowhere 0 1)
+  pub syncs-needed : Lent 1 codebook thresholds index report → Needed Syncs says1 fiveFlips 0 0 fewestMatches codebook thresholds index report (Nowhere 0 1)
   syncs-needed lent =
-      let f = fits lent fiveSync 0 five-size (lit< tt) fewestMatches in
-      let clean = flips-are lent fiveSync 0 five-size (lit< tt) fewestMatches in
       let few : matches (syncAt (bits fiveFlips) 0) sync < fewestMatches =
-      subst (λ (x : List Bool). matches x sync < fewestMatches) (sym (H.sync-there says1 [] (λ k. fiveSync) (λ k. 0) [] 0 f 0 (lit< tt))) five-match in
+      subst (λ (x : List Bool). matches x sync < fewestMatches) (sym (H.sync-there says1 [] (λ k. fiveSync) untouched [] 0 five-fits 0 (lit< tt))) five-match in
+      let size : searched (bits fiveFlips) ≡ 1152 = H.searched-are says1 [] (λ k. fiveSync) untouched [] 0 five-fits in
+      let one : placesLeft (bits fiveFlips) 0 ≡ 1 = omega arith in
       record {
-        others = λ syncs.
-            met lent fiveSync 0 five-size (lit< tt) fewestMatches 0 (lit≤ tt) syncs (λ k h. omega (arith, clean k h, no-ones)) (inr (clean 0 (lit< tt) ∙ no-ones)) (lit≤ tt) (lit≤ tt);
-        instead = nowhere lent fiveSync 0 five-size (lit< tt) fewestMatches (lit≤ tt) (lit≤ tt) (unlike-fails fewestMatches (bits fiveFlips) 0 few);
+        others = alone-others says1 (λ k. fiveSync) untouched five-fits 0 fewestMatches Syncs (λ other. lit≤ tt) (λ other. absurd (other refl))
+            (λ other k. none-few) (λ other. lit≤ tt) (λ other. inr no-ones) (λ other. lent);
+        fails = λ h. omega (arith, h 0 (lit< tt));
+        instead = nothing-found fiveFlips 0 fewestMatches codebook thresholds index report (lit≤ tt) (lit≤ tt) (lent .codebook-size) (lent .thresholds-size)
+            (λ t a h. let z : t ≡ 0 = omega arith in ap (passes fewestMatches (bits fiveFlips)) z ∙ unlike-fails fewestMatches (bits fiveFlips) 0 few)
+            ∙ ap (λ (n : ℕ). outcome (Refused (Nowhere 0 n)) index report) one;
       }
 
-  module _ (lent : Lent 1 codebook thresholds index report) where
-    flips-none : (k : ℕ) → k < 1 → receivedFlips says1 clean1 0 k ≡ 0
-    flips-none k h = flips-are lent sync 0 sync-size (lit< tt) syncBits k h ∙ no-ones
+  -- of the clean image
+  clean-others : (from least : ℕ) → least ≤ syncBits → (missing : Premise) → ((Begins ≡ missing → ⊥) → from ≤ 0)
+      → ((Low ≡ missing → ⊥) → fewestMatches ≤ least) → ((TablesAndRoom ≡ missing → ⊥) → Lent 1 codebook thresholds index report)
+      → (p : Premise) → (p ≡ missing → ⊥) → Holds says1 clean1 from 0 least codebook thresholds index report p
+  clean-others from least high missing begins low lent =
+      alone-others says1 (λ k. sync) (λ k. 0) clean-fits from least missing begins (λ other k. sync-enough least high) (λ other k. none-few) low
+      (λ other. inr no-ones) lent
 
-    clean-met : (from least : ℕ) → from ≤ 0 → fewestMatches ≤ least → least ≤ syncBits → Premises says1 clean1 from 0 least codebook thresholds index report
-    clean-met from least begins low high =
-        met lent sync 0 sync-size (lit< tt) least from begins (syncs-are lent sync 0 sync-size (lit< tt) least (sync-enough least high))
-        (λ k h. omega (arith, flips-none k h)) (inr (flips-none 0 (lit< tt))) low high
+  -- LOW: at T = 11 the clean image itself is refused: 21
+  pub low-needed : Lent 1 codebook thresholds index report → Needed Low says1 clean1 0 0 11 codebook thresholds index report (MatchRange 11)
+  unfolding huntingReading inRange
+  low-needed lent = record {
+    others = clean-others 0 11 (lit≤ tt) Low (λ other. lit≤ tt) (λ other. absurd (other refl)) (λ other. lent);
+    fails = λ h. omega arith;
+    instead = rw (eq-eqb (length codebook) codebookNumbers (lent .codebook-size), eq-eqb (length thresholds) thresholdNumbers (lent .thresholds-size));
+  }
 
-    -- RANGE: at T = 11 the clean image itself is refused: 21
-    pub low-needed : Needed (fewestMatches ≤ 11) says1 clean1 0 0 11 codebook thresholds index report (MatchRange 11)
-    unfolding huntingReading inRange
-    low-needed = record {
-      others = λ low. clean-met 0 11 (lit≤ tt) low (lit≤ tt);
-      instead = rw (eq-eqb (length codebook) codebookNumbers (lent .codebook-size), eq-eqb (length thresholds) thresholdNumbers (lent .thresholds-size));
+  module _ (least : ℕ) (low : fewestMatches ≤ least) (high : least ≤ syncBits) where
+    clean-row : InARow (bits clean1) 0 0 least 1
+    clean-row =
+        let size : searched (bits clean1) ≡ 1152 = H.searched-are says1 [] (λ k. sync) (λ k. 0) [] 0 clean-fits in
+        first-alone clean1 least (omega arith)
+        (H.passes-hurt says1 [] (λ k. sync) (λ k. 0) [] 0 clean-fits 0 (lit< tt) least (sync-enough least high) none-few) (λ t a h. absurd (omega arith))
+
+    -- TABLES AND ROOM: with an index buffer that is too short the clean image is found, and refused: 18
+    pub room-needed : length codebook ≡ codebookNumbers → length thresholds ≡ thresholdNumbers → length index < indexOctets
+        → Needed TablesAndRoom says1 clean1 0 0 least codebook thresholds index report (Octets (IndexShort indexOctets))
+    room-needed codebook-size thresholds-size short = record {
+      others = clean-others 0 least high TablesAndRoom (λ other. lit≤ tt) (λ other. low) (λ other. absurd (other refl));
+      fails = λ h. omega (arith, h .index-room);
+      instead = reads-in-a-row clean1 0 least codebook thresholds index report low high codebook-size thresholds-size 0 1 clean-row (lit< tt) (lit≤ tt)
+          ∙ ap (λ (o : R.Outcome). counted o (outsideOf (bits clean1) 0 1) (testedInRow (bits clean1) 0 0 1))
+          (refuses-18 (foundImage clean1 (row 0 1)) 1 (lit< tt) (lit≤ tt) (image-size clean1 0 1 (clean-row .inside)) (image-sync clean1 0 1 (clean-row .inside)) codebook thresholds
+          index report codebook-size thresholds-size (sentCommon says1)
+          (ap settling (readings-are (foundImage clean1 (row 0 1)) 1) ∙ ap (λ (h : Header). settling (h ∷ []))
+          (ap reading (image-word clean1 0 1 (clean-row .inside) 0 (lit< tt)) ∙ H.mended-there says1 [] (λ k. sync) (λ k. 0) [] 0 clean-fits 0 (lit< tt) none-few ∙ ap (Codeword (sentMessage says1 0)) no-ones)
+          ∙ only-clean (sentMessage says1 0) ∙ ap S.Settled (common-sent says1 0))
+          (record { rate = λ e. rate-not-2 says1 (sym (rate-sent says1) ∙ e); exp = exp-sent says1 }) short);
     }
 
-    module _ (least : ℕ) (low : fewestMatches ≤ least) (high : least ≤ syncBits) where
+    module _ (lent : Lent 1 codebook thresholds index report) where
       -- BEGINS: from bit 1 on no place has a multiframe's bits left: 22
-      pub begins-needed : Needed (1 ≤ 0) says1 clean1 1 0 least codebook thresholds index report (Nowhere 1 0)
+      pub begins-needed : Needed Begins says1 clean1 1 0 least codebook thresholds index report (Nowhere 1 0)
       begins-needed =
-          let size : searched (bits clean1) ≡ 1152 = searched-is lent sync 0 sync-size (lit< tt) least in
+          let size : searched (bits clean1) ≡ 1152 = H.searched-are says1 [] (λ k. sync) (λ k. 0) [] 0 clean-fits in
           let none : placesLeft (bits clean1) 1 ≡ 0 = omega arith in
           record {
-            others = λ begins. clean-met 1 least begins low high;
+            others = clean-others 1 least high Begins (λ other. absurd (other refl)) (λ other. low) (λ other. lent);
+            fails = λ h. omega arith;
             instead = nothing-found clean1 1 least codebook thresholds index report low high (lent .codebook-size) (lent .thresholds-size)
                 (λ t a h. absurd (omega arith))
                 ∙ ap (λ (n : ℕ). outcome (Refused (Nowhere 1 n)) index report) none;
           }
 
       -- SETTLED: with one flip in the only header the multiframe is found, and nothing settles: 16
-      pub settled-needed : Needed (Settled says1 mended1 0 0 least) says1 mended1 0 0 least codebook thresholds index report (Octets Unsettled)
+      pub settled-needed : Needed Settled says1 mended1 0 0 least codebook thresholds index report (Octets Unsettled)
       settled-needed =
-          let f = fits lent sync 1 sync-size (lit< tt) least in
-          let size : searched (bits mended1) ≡ 1152 = searched-is lent sync 1 sync-size (lit< tt) least in
-          let few : ones 1 ≤ 2 = omega (arith, one-one) in
+          let f = mended-fits in
+          let size : searched (bits mended1) ≡ 1152 = H.searched-are says1 [] (λ k. sync) (λ k. 1) [] 0 f in
           record {
-            others = λ settled.
-                met lent sync 1 sync-size (lit< tt) least 0 (lit≤ tt) (syncs-are lent sync 1 sync-size (lit< tt) least (sync-enough least high))
-                (λ k h. subst (λ (n : ℕ). n ≤ 2) (sym (flips-are lent sync 1 sync-size (lit< tt) least k h)) few) settled low high;
+            others = alone-others says1 (λ k. sync) (λ k. 1) f 0 least Settled (λ other. lit≤ tt) (λ other k. sync-enough least high) (λ other k. one-few)
+                (λ other. low) (λ other. absurd (other refl)) (λ other. lent);
+            fails = ⊎-elim (λ h. omega arith) (λ e. omega (arith, H.flips-there says1 [] (λ k. sync) (λ k. 1) [] 0 f 0 (lit< tt), one-one));
             instead = mended-alone mended1 0 0 least 1
-                (first-alone mended1 least (omega arith) (H.passes-hurt says1 [] (λ k. sync) (λ k. 1) [] 0 f 0 (lit< tt) least (sync-enough least high) few) (λ t a h. absurd (omega arith)))
+                (first-alone mended1 least (omega arith) (H.passes-hurt says1 [] (λ k. sync) (λ k. 1) [] 0 f 0 (lit< tt) least (sync-enough least high) one-few) (λ t a h. absurd (omega arith)))
                 (lit< tt) (lit≤ tt) low high codebook thresholds index report lent (sentMessage says1 0) (ones 1) refl
-                (H.mended-there says1 [] (λ k. sync) (λ k. 1) [] 0 f 0 (lit< tt) few) (λ e. omega (arith, one-one));
-          }
-
-      -- HEADERS: three flips in the only header are lost, and nothing is found: 22; no only header has them that settles
-      pub header-needed : Needed (Headers says1 lost1 0 0 least × Settled says1 lost1 0 0 least) says1 lost1 0 0 least codebook thresholds index report (Nowhere 0 1)
-      header-needed =
-          let f = fits lent sync 7 sync-size (lit< tt) least in
-          record {
-            others = λ p.
-                met lent sync 7 sync-size (lit< tt) least 0 (lit≤ tt) (syncs-are lent sync 7 sync-size (lit< tt) least (sync-enough least high)) (p .0) (p .1) low high;
-            instead = nowhere lent sync 7 sync-size (lit< tt) least low high
-                (lost-fails least (bits lost1) 0 (H.lost-there says1 [] (λ k. sync) (λ k. 7) [] 0 f 0 (lit< tt) three-ones));
+                (H.mended-there says1 [] (λ k. sync) (λ k. 1) [] 0 f 0 (lit< tt) one-few) (λ e. omega (arith, one-one));
           }
 
       -- NONE BEFORE: a sync and a header with one flip in front of the image are taken for a multiframe, which swallows the true one: 16
-      pub none-before-needed : Needed (NoneBefore says1 swallowed 0 48 least) says1 swallowed 0 48 least codebook thresholds index report (Octets Unsettled)
+      pub none-before-needed : Needed NoneBefore says1 swallowed 0 48 least codebook thresholds index report (Octets Unsettled)
       none-before-needed =
           let f = start-fits in
           let size = H.searched-are says1 falseStart (λ k. sync) (λ k. 0) [] 6 f in
           let e : reading (wordAt (bits swallowed) 0) ≡ Codeword (sentMessage says1 0) (ones 1) =
           ap (λ (x : List Bool). reading (value x)) (H.front-there says1 falseStart (λ k. sync) (λ k. 0) [] 6 f 16 32 (omega (arith, start-size)))
-          ∙ ap reading (word-in sync flippedWord [] sync-size flipped-lt) ∙ mended (sentMessage says1 0) 1 (message-lt 0 0 1 0) (omega (arith, one-one)) in
+          ∙ ap reading (word-in sync flippedWord [] sync-size flipped-lt) ∙ mended (sentMessage says1 0) 1 (message-lt 0 0 1 0) one-few in
           let match : least ≤ matches (syncAt (bits swallowed) 0) sync =
           subst (λ (x : List Bool). least ≤ matches x sync)
           (sym (H.front-there says1 falseStart (λ k. sync) (λ k. 0) [] 6 f 0 16 (omega (arith, start-size)) ∙ sync-in sync flippedWord [] sync-size)) (sync-enough least high) in
-          subst (λ (at : ℕ). Needed (NoneBefore says1 swallowed 0 at least) says1 swallowed 0 at least codebook thresholds index report (Octets Unsettled)) start-size
+          let taken : passes least (bits swallowed) 0 ≡ true = passes-there least (bits swallowed) 0 (sentMessage says1 0) (ones 1) match e in
+          subst (λ (at : ℕ). Needed NoneBefore says1 swallowed 0 at least codebook thresholds index report (Octets Unsettled)) start-size
           (record {
-            others = λ none. record {
-              carried = H.hurt-carried says1 falseStart (λ k. sync) (λ k. 0) [] 6 f 0 least (omega arith)
-                  (λ k h. H.match-there says1 falseStart (λ k. sync) (λ k. 0) [] 6 f k h least (sync-enough least high))
-                  (λ k h. omega (arith, H.flips-there says1 falseStart (λ k. sync) (λ k. 0) [] 6 f k h, no-ones)) none (λ t a h. absurd (omega (arith, start-size)));
-              low = low;
-              high = high;
-              settled = inr (H.flips-there says1 falseStart (λ k. sync) (λ k. 0) [] 6 f 0 (lit< tt) ∙ no-ones);
-              lent = lent;
-            };
-            instead = mended-alone swallowed 0 0 least 1
-                (first-alone swallowed least (omega arith) (passes-there least (bits swallowed) 0 (sentMessage says1 0) (ones 1) match e) (λ t a h. absurd (omega arith)))
+            others = hurt-others says1 falseStart (λ k. sync) (λ k. 0) [] 6 f 0 least codebook thresholds index report NoneBefore (λ other. omega arith)
+                (λ other k. sync-enough least high) (λ other k. none-few) (λ other. absurd (other refl)) (λ other t a h. absurd (omega (arith, start-size)))
+                (λ other. low) (λ other. inr no-ones) (λ other. lent);
+            fails = λ h. true-false (sym taken ∙ h 0 (lit≤ tt) (omega (arith, start-size)));
+            instead = mended-alone swallowed 0 0 least 1 (first-alone swallowed least (omega arith) taken (λ t a h. absurd (omega arith)))
                 (lit< tt) (lit≤ tt) low high codebook thresholds index report lent (sentMessage says1 0) (ones 1) refl e (λ q. omega (arith, one-one));
           })
 
   -- NONE BEHIND: where a multiframe at 11 kHz follows the image, both are found, and nothing settles: 16
   pub none-behind-needed : (least : ℕ) → fewestMatches ≤ least → least ≤ syncBits → Lent 2 codebook thresholds index report
-      → Needed (NoneBehind says1 followed 0 0 least) says1 followed 0 0 least codebook thresholds index report (Octets Unsettled)
+      → Needed NoneBehind says1 followed 0 0 least codebook thresholds index report (Octets Unsettled)
   none-behind-needed least low high lent =
       let f = other-fits in
       let size = H.searched-are says1 [] (λ k. sync) (λ k. 0) other 144 f in
-      let few : ones 0 ≤ 2 = omega (arith, no-ones) in
-      let first = H.mended-there says1 [] (λ k. sync) (λ k. 0) other 144 f 0 (lit< tt) few in
+      let first = H.mended-there says1 [] (λ k. sync) (λ k. 0) other 144 f 0 (lit< tt) none-few in
       let second : reading (wordAt (bits followed) 1152) ≡ Codeword (sentMessage says1At11 0) (ones 0) =
       ap (λ (x : List Bool). reading (value x)) (H.behind-there says1 [] (λ k. sync) (λ k. 0) other 144 f 1168 32 (lit≤ tt))
-      ∙ ap reading (word-in sync otherWord (stream (lone 1) 0 multiframePairs) sync-size other-lt) ∙ mended (sentMessage says1At11 0) 0 (message-lt 1 0 1 0) few in
+      ∙ ap reading (word-in sync otherWord (stream (lone 1) 0 multiframePairs) sync-size other-lt) ∙ mended (sentMessage says1At11 0) 0 (message-lt 1 0 1 0) none-few in
       let match : least ≤ matches (syncAt (bits followed) 1152) sync =
       subst (λ (x : List Bool). least ≤ matches x sync)
       (sym (H.behind-there says1 [] (λ k. sync) (λ k. 0) other 144 f 1152 16 (lit≤ tt) ∙ sync-in sync otherWord (stream (lone 1) 0 multiframePairs) sync-size)) (sync-enough least high) in
+      let taken : passes least (bits followed) 1152 ≡ true = passes-there least (bits followed) 1152 (sentMessage says1At11 0) (ones 0) match second in
       record {
-        others = λ none. record {
-          carried = H.hurt-carried says1 [] (λ k. sync) (λ k. 0) other 144 f 0 least (lit≤ tt)
-              (λ k h. H.match-there says1 [] (λ k. sync) (λ k. 0) other 144 f k h least (sync-enough least high))
-              (λ k h. omega (arith, H.flips-there says1 [] (λ k. sync) (λ k. 0) other 144 f k h, no-ones)) (λ t a h. absurd (omega arith)) none;
-          low = low;
-          high = high;
-          settled = inr (H.flips-there says1 [] (λ k. sync) (λ k. 0) other 144 f 0 (lit< tt) ∙ no-ones);
-          lent = fewer 2 1 (lit≤ tt) codebook thresholds index report lent;
-        };
+        others = hurt-others says1 [] (λ k. sync) (λ k. 0) other 144 f 0 least codebook thresholds index report NoneBehind (λ o. lit≤ tt)
+            (λ o k. sync-enough least high) (λ o k. none-few) (λ o t a h. absurd (omega arith)) (λ o. absurd (o refl)) (λ o. low) (λ o. inr no-ones)
+            (λ o. fewer 2 1 (lit≤ tt) codebook thresholds index report lent);
+        fails = λ h. true-false (sym taken ∙ h 1152 (lit≤ tt) (omega arith));
         instead = two-differ followed 0 0 least 2
             (record {
               begins = lit≤ tt;
               inside = omega arith;
               stand = both-of (λ (k : ℕ). passes least (bits followed) (placeInRow 0 k) ≡ true)
-                  (H.passes-hurt says1 [] (λ k. sync) (λ k. 0) other 144 f 0 (lit< tt) least (sync-enough least high) few)
-                  (passes-there least (bits followed) 1152 (sentMessage says1At11 0) (ones 0) match second);
+                  (H.passes-hurt says1 [] (λ k. sync) (λ k. 0) other 144 f 0 (lit< tt) least (sync-enough least high) none-few) taken;
               none-before = λ t a h. absurd (omega arith);
               none-behind = λ t a h. absurd (omega arith);
             })
             (lit< tt) (lit≤ tt) low high codebook thresholds index report lent (sentMessage says1 0) (sentMessage says1At11 0) (ones 0) (ones 0) refl first second other-rate;
       }
 
-  -- HEADERS again, of any utterance of two multiframes: one flip in the first header and three in the second, so that only the first is found,
-  -- and nothing settles: 16
+  -- HEADERS, of any utterance of two multiframes: one flip in the first header and three in the second, so that only the first is found, and
+  -- nothing settles: 16
   module _ (u : Utterance) (two : multiframesOf u ≡ 2) (least : ℕ) (low : fewestMatches ≤ least) (high : least ≤ syncBits)
       (lent : Lent (multiframesOf u) codebook thresholds index report) where
-    pub headers-needed : Needed (Headers u (halfLost u) 0 0 least) u (halfLost u) 0 0 least codebook thresholds index report (Octets Unsettled)
+    pub headers-needed : Needed Headers u (halfLost u) 0 0 least codebook thresholds index report (Octets Unsettled)
     headers-needed =
         let s = halfLost u in
         let f = half-fits u in
         let size = H.searched-are u [] (λ k. sync) oneThenThree [] 0 f in
-        let few : ones 1 ≤ 2 = omega (arith, one-one) in
         let second : passes least (bits s) 1152 ≡ false =
         lost-fails least (bits s) 1152 (H.lost-there u [] (λ k. sync) oneThenThree [] 0 f 1 (omega arith) three-ones) in
         record {
-          others = λ headers. record {
-            carried = H.hurt-carried u [] (λ k. sync) oneThenThree [] 0 f 0 least (lit≤ tt)
-                (λ k h. H.match-there u [] (λ k. sync) oneThenThree [] 0 f k h least (sync-enough least high)) headers (λ t a h. absurd (omega arith))
-                (λ t a h. absurd (omega arith));
-            low = low;
-            high = high;
-            settled = inl (le-of-eq (sym two));
-            lent = lent;
-          };
+          others = alone-others u (λ k. sync) oneThenThree f 0 least Headers (λ other. lit≤ tt) (λ other k. sync-enough least high) (λ other. absurd (other refl))
+              (λ other. low) (λ other. inl (le-of-eq (sym two))) (λ other. lent);
+          fails = λ h. omega (arith, h 1 (omega arith), H.flips-there u [] (λ k. sync) oneThenThree [] 0 f 1 (omega arith), three-ones);
           instead = mended-alone s 0 0 least 1
-              (first-alone s least (omega arith) (H.passes-hurt u [] (λ k. sync) oneThenThree [] 0 f 0 (omega arith) least (sync-enough least high) few)
+              (first-alone s least (omega arith) (H.passes-hurt u [] (λ k. sync) oneThenThree [] 0 f 0 (omega arith) least (sync-enough least high) one-few)
               (λ t a h. let z : t ≡ 1152 = omega arith in ap (passes least (bits s)) z ∙ second))
               (lit< tt) (lit≤ tt) low high codebook thresholds index report (fewer (multiframesOf u) 1 (omega arith) codebook thresholds index report lent) (sentMessage u 0) (ones 1) refl
-              (H.mended-there u [] (λ k. sync) oneThenThree [] 0 f 0 (omega arith) few) (λ q. omega (arith, one-one));
+              (H.mended-there u [] (λ k. sync) oneThenThree [] 0 f 0 (omega arith) one-few) (λ q. omega (arith, one-one));
         }
 
-pub headers-needed-24 : Needed (Headers says24 (halfLost says24) 0 0 fewestMatches) says24 (halfLost says24) 0 0 fewestMatches zeroBook zeroThresholds index24 report24 (Octets Unsettled)
+pub room-needed-empty : Needed TablesAndRoom says1 clean1 0 0 fewestMatches zeroBook zeroThresholds [] (reportFor 1) (Octets (IndexShort indexOctets))
+room-needed-empty =
+    room-needed zeroBook zeroThresholds [] (reportFor 1) fewestMatches (lit≤ tt) (lit≤ tt) (lent-zeros 1 .codebook-size) (lent-zeros 1 .thresholds-size) (lit< tt)
+
+pub headers-needed-24 : Needed Headers says24 (halfLost says24) 0 0 fewestMatches zeroBook zeroThresholds index24 report24 (Octets Unsettled)
 headers-needed-24 = headers-needed zeroBook zeroThresholds index24 report24 says24 two-multiframes fewestMatches (lit≤ tt) (lit≤ tt) (lent-zeros (multiframesOf says24))
 
 -- ---- an image of two multiframes or more, damaged as demand 3 allows, its first packet too, and alone in its octets
@@ -490,7 +566,7 @@ module _ (u : Utterance) (two : 2 ≤ multiframesOf u) (least : ℕ) (low : fewe
       let few : m ≤ 255 = few-multiframes (u .rate) (u .kind) (u .indices) (is-accepted u .sizes) in
       searched-all (bits img) (omega (arith, length-bits img, cut .size)) ∙ omega (arith, length-bits img, cut .size)
 
-  whole-syncs : Syncs u img 0 0 least
+  whole-syncs : (k : ℕ) → k < m → least ≤ matches (syncAt (bits img) (placeInRow 0 k)) sync
   whole-syncs k h = subst (λ (x : List Bool). least ≤ matches x sync) (sym (shifted-syncs img m cut img [] [] itself k h)) (sync-enough least high)
 
   first-touched : Touched (imageOf u) img 0
@@ -516,31 +592,29 @@ module _ (u : Utterance) (two : 2 ≤ multiframesOf u) (least : ℕ) (low : fewe
     none-before = λ t a h. absurd (omega arith);
     none-behind = λ t a h. absurd (omega (arith, searched-img));
     low = low;
-    high = high;
   }
 
   noted : pairNoteIn (huntingReading img 0 least zeroBook zeroThresholds (indexFor m) (reportFor m) .report) 0 ≡ 1
   noted = A.damaged-noted u img img 0 0 least zeroBook zeroThresholds (indexFor m) (reportFor m) named 0 (omega arith) first-touched
 
+  named-others : (p : Premise) → (p ≡ Streams → ⊥) → Holds u img 0 0 least zeroBook zeroThresholds (indexFor m) (reportFor m) p
+  named-others Begins other = lit≤ tt
+  named-others Inside other = named .inside
+  named-others Syncs other = whole-syncs
+  named-others Headers other = λ k h.
+      subst (λ (n : ℕ). n ≤ 2) (sym (ap (λ (x : ℕ). ones (bitXor x (wordIn (imageOf u) k))) (there .words k h))) (hurts u .headers k h)
+  named-others Streams other = absurd (other refl)
+  named-others NoneBefore other = named .none-before
+  named-others NoneBehind other = named .none-behind
+  named-others Low other = low
+  named-others Settled other = inl two
+  named-others TablesAndRoom other = lent-zeros m
+
   -- STREAMS: with the first packet damaged the image is read, and the first pair's note is 1
-  pub streams-needed : NeededForNotes (Streams u (hurtImage u) 0 0 least) u (hurtImage u) 0 0 least zeroBook zeroThresholds (indexFor (multiframesOf u)) (reportFor (multiframesOf u))
+  pub streams-needed : NeededForNotes Streams u (hurtImage u) 0 0 least zeroBook zeroThresholds (indexFor (multiframesOf u)) (reportFor (multiframesOf u))
   streams-needed = record {
-    others = λ streams. record {
-      carried = record {
-        begins = lit≤ tt;
-        inside = named .inside;
-        syncs = whole-syncs;
-        headers = λ k h.
-            subst (λ (n : ℕ). n ≤ 2) (sym (ap (λ (x : ℕ). ones (bitXor x (wordIn (imageOf u) k))) (there .words k h))) (hurts u .headers k h);
-        streams = streams;
-        none-before = named .none-before;
-        none-behind = named .none-behind;
-      };
-      low = low;
-      high = high;
-      settled = inl two;
-      lent = lent-zeros m;
-    };
+    others = named-others;
+    fails = λ h. first-touched (ap (part (packetStart 0) packetBits) (sym (there .streams 0 (omega arith)) ∙ h 0 (omega arith)));
     instead = noted;
     not-heard = λ notes e.
         let z : _≡_ {A = ℕ} 0 1 =
@@ -548,5 +622,5 @@ module _ (u : Utterance) (two : 2 ≤ multiframesOf u) (least : ℕ) (low : fewe
         omega arith;
   }
 
-pub streams-needed-24 : NeededForNotes (Streams says24 (hurtImage says24) 0 0 fewestMatches) says24 (hurtImage says24) 0 0 fewestMatches zeroBook zeroThresholds index24 report24
+pub streams-needed-24 : NeededForNotes Streams says24 (hurtImage says24) 0 0 fewestMatches zeroBook zeroThresholds index24 report24
 streams-needed-24 = streams-needed says24 (le-of-eq (sym two-multiframes)) fewestMatches (lit≤ tt) (lit≤ tt)

@@ -14,7 +14,7 @@ use borrow.Author.Tests.{eq-eqb, le-leb, lt-leb}
 use Rattle.lists.specs.Tests.{both}
 use Rattle.lists.specs.Parts.{part, length-part}
 use Rattle.layout.specs.Layout.{streamOctets, multiframeOctets, mostMultiframes, codebookNumbers, thresholdNumbers}
-use Rattle.bits.specs.Bits.{field, value, bits, octets}
+use Rattle.bits.specs.Bits.{field, fields, value, bits, octets}
 use Rattle.bits.specs.Laws.{field-value, value-lt, bits-octets, octets-append}
 use Rattle.header.specs.Reading.{reading}
 use Rattle.header.specs.declared.Header.{Header}
@@ -60,6 +60,23 @@ wordAt l p = value (part (p + syncBits) headerBits l)
 
 abbrev pub streamAt : List Bool → ℕ → List Bool
 streamAt l p = part (p + syncBits + headerBits) (8 * streamOctets) l
+
+pub all-match : matches sync sync ≡ syncBits
+unfolding matches fields field
+all-match = refl
+
+matches-most : (l m : List Bool) → matches l m ≤ matches m m
+unfolding matches
+matches-most [] m = omega arith
+matches-most (a ∷ l) [] = omega arith
+matches-most (true ∷ l) (true ∷ m) = omega (arith, matches-most l m)
+matches-most (true ∷ l) (false ∷ m) = omega (arith, matches-most l m)
+matches-most (false ∷ l) (true ∷ m) = omega (arith, matches-most l m)
+matches-most (false ∷ l) (false ∷ m) = omega (arith, matches-most l m)
+
+-- where a sync matches in T bits, T is at most 16
+pub at-most-all : (l : List Bool) (least : ℕ) → least ≤ matches l sync → least ≤ syncBits
+at-most-all l least h = omega (arith, matches-most l sync, all-match)
 
 -- how such a place passes the test, and two ways to fail it
 module _ (least : ℕ) (l : List Bool) (p : ℕ) where
