@@ -61,6 +61,7 @@ pub record Table : Type 0 where
   pub number-22 : numberOf (Nowhere 5 9) ≡ 22
   pub place-22 : placeOf (Nowhere 5 9) ≡ 5
   pub tested-22 : testedOf (Nowhere 5 9) ≡ 9
+  pub tested-21 : testedOf (MatchRange 17) ≡ 0
 
 -- ---- the two headers
 header-word : codeword 8 ≡ 0xEE0E0008
@@ -113,4 +114,5 @@ table = record {
   number-22 = refl;
   place-22 = refl;
   tested-22 = refl;
+  tested-21 = refl;
 }

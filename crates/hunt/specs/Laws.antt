@@ -1,7 +1,7 @@
 -- What a reader of 02 would ask of the hunt: the place found is the smallest that passes, it is refused exactly if there is none, and so
 -- many places are tested.
 -- Assumes nothing.
-use Prim.Native.Nat.{ℕ, zero, suc, _+_, _-_, _^_, _≤_, _<_}
+use Prim.Native.Nat.{ℕ, zero, suc, _+_, _-_, _*_, _^_, _≤_, _<_}
 use mathlib.Core.Path.{_≡_, refl, sym, ap, ap₂, _∙_, subst}
 use mathlib.Core.Bool.{Bool, true, false}
 use mathlib.Core.List.{List}
@@ -9,6 +9,7 @@ use native.Mathlib.Omega.{arith}
 use native.Mathlib.Decide.{decLt}
 use mathlib.Core.Logic.{_↔_}
 use Rattle.bits.specs.Bits.{bits}
+use Rattle.bits.specs.Laws.{length-bits}
 use lib.ListN.{length}
 use lib.Dec.{ltb, leb}
 use borrow.Author.Tests.{le-leb, leb-true, le-ltb, ltb-true, ltb-false}
@@ -42,6 +43,10 @@ searched-lt l = by-test (λ (k : ℕ). k ≤ 2 ^ 64 - 8) (ltb (2 ^ 64 - 8) (leng
 -- and all are, unless there are more
 pub searched-all : (l : List Bool) → length l ≤ 2 ^ 64 - 8 → searched l ≡ length l
 searched-all l h = rw (le-ltb (2 ^ 64 - 8) (length l) h)
+
+-- said by the width alone: all bits of octets whose number of bits fits 64 bits
+pub searched-whole : (s : List ℕ) → 8 * length s < 2 ^ 64 → searched (bits s) ≡ 8 * length s
+searched-whole s h = searched-all (bits s) (omega (arith, length-bits s)) ∙ omega (arith, length-bits s)
 
 -- ---- misses
 module _ (test : ℕ → Bool) where

@@ -1,4 +1,5 @@
 pub mod Hunting
 pub mod Laws
 pub mod Says
+pub mod Once
 pub mod Examples

@@ -30,7 +30,7 @@ use Rattle.demands.specs.Whole.{Lent}
 use Rattle.demands.specs.ReadsBack.{spoken, padded}
 use Rattle.demands.specs.Met.{zeroBook, zeroThresholds, indexFor, reportFor, lent-zeros, says24, two-multiframes}
 use Rattle.hunting_demands.specs.Standing.{testedInRow, syncAt, unlike-fails}
-use Rattle.hunting_demands.specs.HuntsBack.{receivedFlips, Carried, same-notes, Premises, hunts-back, Shifted}
+use Rattle.hunting_demands.specs.HuntsBack.{receivedFlips, Carried, same-notes, Premises, hunts-back, Shifted, hunts-shifted}
 use Rattle.hunting_demands.specs.Hurt as H
 
 -- a sync with as many flips as T = 12 allows
@@ -159,6 +159,38 @@ module _ (u : Utterance) where
         (over report 0 (reportOctets * n) (joined (λ k. 2 ∷ replicate multiframePairs 0) n)))
         two
 
+-- ---- and from a bit that is not the first: bits before it are neither outside nor tested
+module _ (u : Utterance) (two : multiframesOf u ≡ 2) (codebook thresholds : List ℤ) (index report : List ℕ) (lent : Lent (multiframesOf u) codebook thresholds index report) where
+  abbrev there : List ℕ
+  there = carriedOctets u
+
+  from-2 : Premises u there 2 3 fewestMatches codebook thresholds index report
+  from-2 =
+      let c = carried u in
+      record {
+        carried = record {
+          begins = lit≤ tt;
+          inside = c .inside;
+          syncs = c .syncs;
+          headers = c .headers;
+          streams = c .streams;
+          none-before = λ t a h. c .none-before t (omega arith) h;
+          none-behind = c .none-behind;
+        };
+        low = lit≤ tt;
+        settled = inl (le-of-eq (sym two));
+        lent = lent;
+      }
+
+  pub hunted-from-2 : huntingReading (carriedOctets u) 2 fewestMatches codebook thresholds index report .answer
+      ≡ Read (record { summary = spoken u; outside = 1206; tested = 57 })
+  hunted-from-2 =
+      let n = H.searched-are u threeZeros (λ k. worstSync) (λ k. 3) manyZeros 151 (fits u) in
+      let out : outsideOf (bits there) 2 (multiframesOf u) ≡ 1206 = omega arith in
+      let tested : testedInRow (bits there) 2 3 (multiframesOf u) ≡ 57 = omega arith in
+      ap (λ (o : Outcome). o .answer) (hunts-back u there 2 3 fewestMatches codebook thresholds index report from-2)
+      ∙ ap₂ (λ (a b : ℕ). Read (record { summary = spoken u; outside = a; tested = b })) out tested
+
 -- ---- and there is such an utterance
 abbrev pub index24 : List ℕ
 index24 = indexFor (multiframesOf says24)
@@ -208,3 +240,25 @@ module _ (u : Utterance) where
         none-before = fails-before (bits shiftedOctets) sync least head sync-size low whole-earlier;
         none-behind = λ t a h. absurd (omega arith);
       }
+
+  -- so it is read at every T, with all notes 0, eight bits outside and four places tested if it has one multiframe
+  pub one-shifted : multiframesOf u ≡ 1 → (least : ℕ) → fewestMatches ≤ least → least ≤ syncBits → (codebook thresholds : List ℤ) (index report : List ℕ)
+      → Lent (multiframesOf u) codebook thresholds index report
+      → huntingReading shiftedOctets 0 least codebook thresholds index report
+      ≡ outcome (Read (record { summary = spoken u; outside = 8; tested = 4 })) (over index 0 indexOctets (padded u)) (over report 0 reportOctets (replicate 13 0))
+  one-shifted one least low high codebook thresholds index report lent =
+      let same : bits shiftedOctets ≡ threeZeros ++ (bits (imageOf u) ++ fiveZeros) =
+      bits-octets (1 + multiframeOctets * multiframesOf u) (threeZeros ++ (bits (imageOf u) ++ fiveZeros)) shifted-size in
+      let size : length (bits shiftedOctets) ≡ 8 * (1 + 144 * multiframesOf u) = ap length same ∙ shifted-size in
+      let all : searched (bits shiftedOctets) ≡ 8 * (1 + 144 * multiframesOf u) = searched-all (bits shiftedOctets) (omega arith) ∙ size in
+      let out : outsideOf (bits shiftedOctets) 0 (multiframesOf u) ≡ 8 = omega arith in
+      let tested : testedInRow (bits shiftedOctets) 0 3 (multiframesOf u) ≡ 4 = omega arith in
+      hunts-shifted u shiftedOctets 0 least threeZeros fiveZeros (shifted-met least low) codebook thresholds index report low high lent
+      ∙ ap₂
+      (λ (a b : ℕ). outcome (Read (record { summary = spoken u; outside = a; tested = b })) (over index 0 (indexOctets * multiframesOf u) (padded u))
+      (over report 0 (reportOctets * multiframesOf u) (joined (λ k. 0 ∷ replicate multiframePairs 0) (multiframesOf u))))
+      out tested
+      ∙ ap
+      (λ (n : ℕ). outcome (Read (record { summary = spoken u; outside = 8; tested = 4 })) (over index 0 (indexOctets * n) (padded u))
+      (over report 0 (reportOctets * n) (joined (λ k. 0 ∷ replicate multiframePairs 0) n)))
+      one

@@ -6,16 +6,17 @@ use mathlib.Core.List.{List, [], _∷_, _++_}
 use Prim.Native.Nat.{ℕ, _≤_, _<_}
 use native.Mathlib.Omega.{arith}
 use lib.Dec.{ltb}
+use lib.IntN.{ℤ}
 use lib.ListN.{length, set, length-set}
 use borrow.Author.Tests.{lt-ltb, le-ltb}
-use Rattle.lists.specs.Tests.{when}
+use Rattle.lists.specs.Tests.{when, by-test}
 use Rattle.lists.specs.Parts.{over, behind, set-over, length-over}
 use Rattle.hunt.specs.Hunt as H
 use Rattle.hunt.specs.declared.Hunted.{Hunted}
 use Rattle.hunt.specs.declared.Hunted.the-variants as HA
 use Rattle.hunt.specs.declared.Refusal.{Refusal as HuntRefusal}
-use Rattle.hunt.specs.declared.Refusal.the-variants as HR
-use Rattle.hunting.specs.Hunting.{Outcome, outcome, numberOf, placeOf}
+use Rattle.hunting.specs.Hunting.{Outcome, outcome, huntingReading, numberOf, placeOf}
+use Rattle.hunting.specs.Says.{never-12-to-14}
 use Rattle.hunting.specs.declared.Counted.{Counted}
 use Rattle.hunting.specs.declared.Refusal.{Refusal}
 use Rattle.hunting.specs.declared.Answer.{Answer}
@@ -63,26 +64,6 @@ bitsAnswered a p i r (Refused x) = bitsReturned (numberOf x) i r a (placeOf x)
 unfoldable pub bitsReturning : List ℕ → ℕ → List ℕ → List ℕ → Outcome → BitsReturned
 bitsReturning a p i r o = when (ltb (length a) countedNumbers) (bitsReturned 99 i r a p) (bitsAnswered a p (o .index) (o .report) (o .answer))
 
--- the eight numbers in their order
-pub numbers-in-order : numbersOf (record { summary = record { rate = 1; kind = 0; multiframes = 2; speech = 24; bad = 3; end = 1 }; outside = 7; tested = 9 })
-    ≡ 1 ∷ 0 ∷ 2 ∷ 24 ∷ 3 ∷ 1 ∷ 7 ∷ 9 ∷ []
-numbers-in-order = refl
-
--- seven numbers are too few, whatever was read
-pub seven-too-few : (p : ℕ) (i r : List ℕ) (o : Outcome) → bitsReturning (0 ∷ 0 ∷ 0 ∷ 0 ∷ 0 ∷ 0 ∷ 0 ∷ []) p i r o ≡ bitsReturned 99 i r (0 ∷ 0 ∷ 0 ∷ 0 ∷ 0 ∷ 0 ∷ 0 ∷ []) p
-unfolding bitsReturning
-seven-too-few p i r o = refl
-
--- a hunt that found bit 11 after twelve places, and one that found none of nine from bit 5 on, where 3 and 4 had been lent
-pub found-in-numbers : huntReturning 3 4 (HA.Found 11 12) ≡ huntReturned 0 11 12 4
-found-in-numbers = refl
-
-pub nowhere-in-numbers : huntReturning 3 4 (HA.Refused (HR.Nowhere 5 9)) ≡ huntReturned 22 3 9 5
-nowhere-in-numbers = refl
-
-pub range-in-numbers : huntReturning 3 4 (HA.Refused (HR.MatchRange 17)) ≡ huntReturned 21 3 0 17
-range-in-numbers = refl
-
 -- ---- the entries' ends
 pub hunt-found : (f p q n : ℕ) (h : Hunted) → HA.Found q n ≡ h → huntReturned 0 q n p ≡ huntReturning f p h
 hunt-found f p q n h e = ap (huntReturning f p) e
@@ -119,3 +100,21 @@ module _ (a : List ℕ) (p : ℕ) (i r : List ℕ) (o : Outcome) where
       → n ≡ numberOf q → k ≡ placeOf q → bitsReturned n i′ r′ a k ≡ bitsReturning a p i r o
   bits-refused h x q i′ r′ n k e ex en ek =
       ap₂ (λ (m j : ℕ). bitsReturned m i′ r′ a j) en ek ∙ ap (bitsAnswered a p i′ r′) (sym ex) ∙ answer h x i′ r′ e
+
+-- 12 TO 14 ARE NEVER RETURNED
+module _ (s : List ℕ) (from least : ℕ) (codebook thresholds : List ℤ) (index report a : List ℕ) (p : ℕ) where
+  abbrev read : Outcome
+  read = huntingReading s from least codebook thresholds index report
+
+  abbrev NoCut : ℕ → Type 0
+  NoCut n = (n ≡ 12 → ⊥) × (n ≡ 13 → ⊥) × (n ≡ 14 → ⊥)
+
+  answered-uncut : (x : Answer) → read .answer ≡ x → NoCut (bitsAnswered a p (read .index) (read .report) x .number)
+  answered-uncut (Read c) e = (λ e. omega arith, λ e. omega arith, λ e. omega arith)
+  answered-uncut (Refused r) e = never-12-to-14 s from least codebook thresholds index report r e
+
+  pub returned-uncut : NoCut (bitsReturning a p index report read .number)
+  unfolding bitsReturning
+  returned-uncut =
+      by-test (λ (x : BitsReturned). NoCut (x .number)) (ltb (length a) countedNumbers) (λ h. (λ e. omega arith, λ e. omega arith, λ e. omega arith)) (λ h.
+      answered-uncut (read .answer) refl)

@@ -1,3 +1,4 @@
 pub mod Link
 pub mod Laws
 pub mod Bits
+pub mod Examples

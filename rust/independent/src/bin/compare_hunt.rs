@@ -605,6 +605,30 @@ impl Check {
         }
     }
 
+    /// A match after 255 multiframes is refused before all that the 255 would be refused with: settings, rooms, every pair bad.
+    fn too_many_comes_first(&mut self) {
+        for kind in 0..4 {
+            for (index, report) in [(0, 0), (42839, 3315), (42840, 3314), (42840, 3315)] {
+                let mut parts = utterance(&mut self.chance, MOST + 1);
+                for (k, part) in parts.iter_mut().enumerate() {
+                    match kind {
+                        1 => part.header = encode((k as u16) << 7),
+                        2 => part.header = encode(2 | (part.header as u16) & !3),
+                        _ => {}
+                    }
+                }
+                if kind == 3 {
+                    self.damage_pairs(&mut parts, 1);
+                }
+                let octets = image(&parts);
+                for octets in [&octets[..], &octets[..octets.len() - 1]] {
+                    let lent = Lent { tables: tables(&mut self.chance), index, report, answer: ANSWER };
+                    self.read("256 multiframes, whole and cut, of which 255 would be refused", &Search::new(octets, 0, 16), &lent);
+                }
+            }
+        }
+    }
+
     fn wide(&mut self) {
         for before in [(1 << 29) - 100, 1 << 29, 1 << 32, (1 << 32) + 144] {
             for least in LEASTS {
@@ -637,6 +661,7 @@ fn main() {
     check.late_differences();
     check.late_hunts();
     check.after_the_last();
+    check.too_many_comes_first();
     check.wide();
     check.driver.end(200_000);
 }

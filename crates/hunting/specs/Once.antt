@@ -1,0 +1,123 @@
+-- What the laws of the hunting reading say leaves only one answer: the places, and with them the count, the bits outside and the places tested.
+-- Assumes nothing.
+use Prim.Native.Nat.{ℕ, _+_, _≤_, _<_}
+use mathlib.Core.Path.{_≡_, refl, sym, ap₂, _∙_, subst}
+use mathlib.Core.Logic.{_⊎_, inl, inr}
+use mathlib.Core.List.{List, [], _∷_}
+use mathlib.Core.Bool.{Bool, true, false}
+use native.Mathlib.Decide.{decLt}
+use native.Mathlib.Omega.{arith}
+use lib.Dec.{eqb}
+use lib.IntN.{ℤ}
+use lib.ListN.{length}
+use borrow.Author.Tests.{eq-eqb, eqb-true}
+use Rattle.lists.specs.Tests.{true-false}
+use Rattle.layout.specs.Layout.{mostMultiframes, codebookNumbers, thresholdNumbers}
+use Rattle.bits.specs.Bits.{bits}
+use Rattle.hunt.specs.Hunt.{multiframeBits, inRange, searched, passes}
+use Rattle.reader.specs.declared.Refusal.the-variants as RR
+use Rattle.hunting.specs.Hunting.{gathering, Outcome, outcome, huntingReading}
+use Rattle.hunting.specs.Laws.{Among, Overlapped, Apart}
+use Rattle.hunting.specs.Says.{Success, Tested, Beyond}
+use Rattle.hunting.specs.declared.Counted.{Counted}
+use Rattle.hunting.specs.declared.Refusal.the-variants.{Octets, MatchRange}
+use Rattle.hunting.specs.declared.Answer.the-variants.{Refused}
+
+module _ (l : List Bool) (least : ℕ) where
+  -- every place from `at` on that passes is among these, or one of these that stands before it overlaps it
+  abbrev pub Takes : ℕ → List ℕ → Type 0
+  Takes at ps = (t : ℕ) → at ≤ t → t + multiframeBits ≤ searched l → passes least l t ≡ true → Among t ps ⊎ Overlapped t ps
+
+  among-later : (ps : List ℕ) (at t : ℕ) → Apart l least at ps → Among t ps → at ≤ t
+  among-later [] at t a m = absurd m
+  among-later (p ∷ ps) at t a (inl e) = omega (arith, a .0)
+  among-later (p ∷ ps) at t a (inr m) = let i = among-later ps (p + multiframeBits) t (a .3) m in omega (arith, a .0)
+
+  over-later : (ps : List ℕ) (at t : ℕ) → Apart l least at ps → Overlapped t ps → at ≤ t
+  over-later [] at t a m = absurd m
+  over-later (p ∷ ps) at t a (inl e) = omega (arith, a .0, e .0)
+  over-later (p ∷ ps) at t a (inr m) = let i = over-later ps (p + multiframeBits) t (a .3) m in omega (arith, a .0)
+
+  first-le : (at t p : ℕ) (ps : List ℕ) → Apart l least at (p ∷ ps) → Among t (p ∷ ps) ⊎ Overlapped t (p ∷ ps) → p ≤ t
+  first-le at t p ps a (inl (inl e)) = omega arith
+  first-le at t p ps a (inl (inr m)) = let i = among-later ps (p + multiframeBits) t (a .3) m in omega arith
+  first-le at t p ps a (inr (inl e)) = omega (arith, e .0)
+  first-le at t p ps a (inr (inr m)) = let i = over-later ps (p + multiframeBits) t (a .3) m in omega arith
+
+  behind-first : (t p : ℕ) (ps : List ℕ) → p + multiframeBits ≤ t → Among t (p ∷ ps) ⊎ Overlapped t (p ∷ ps) → Among t ps ⊎ Overlapped t ps
+  behind-first t p ps h (inl (inl e)) = absurd (omega arith)
+  behind-first t p ps h (inl (inr m)) = inl m
+  behind-first t p ps h (inr (inl e)) = absurd (omega (arith, e .1))
+  behind-first t p ps h (inr (inr m)) = inr m
+
+  -- ONLY ONE LIST of places stands apart and takes every place that passes
+  pub places-once : (at : ℕ) (ps qs : List ℕ) → Apart l least at ps → Takes at ps → Apart l least at qs → Takes at qs → ps ≡ qs
+  places-once at [] [] a f b g = refl
+  places-once at [] (q ∷ qs) a f b g = absurd (none (f q (b .0) (b .1) (b .2)))
+    where
+      none : Among q [] ⊎ Overlapped q [] → ⊥
+      none (inl m) = m
+      none (inr m) = m
+  places-once at (p ∷ ps) [] a f b g = absurd (none (g p (a .0) (a .1) (a .2)))
+    where
+      none : Among p [] ⊎ Overlapped p [] → ⊥
+      none (inl m) = m
+      none (inr m) = m
+  places-once at (p ∷ ps) (q ∷ qs) a f b g =
+      let le : q ≤ p = first-le at p q qs b (g p (a .0) (a .1) (a .2)) in
+      let ge : p ≤ q = first-le at q p ps a (f q (b .0) (b .1) (b .2)) in
+      let e : p ≡ q = omega arith in
+      let b′ : Apart l least (p + multiframeBits) qs = subst (λ (x : ℕ). Apart l least (x + multiframeBits) qs) (sym e) (b .3) in
+      let rest : ps ≡ qs =
+      places-once (p + multiframeBits) ps qs (a .3) (λ t h r y. behind-first t p ps h (f t (omega (arith, a .0)) r y)) b′
+      (λ t h r y. behind-first t q qs (omega arith) (g t (omega (arith, a .0)) r y)) in
+      ap₂ (λ (x : ℕ) (xs : List ℕ). x ∷ xs) e rest
+
+  tested-once : (at n k : ℕ) (ps : List ℕ) → Tested l least at n ps → Tested l least at k ps → n ≡ k
+  tested-once at n k [] a b = a ∙ sym b
+  tested-once at n k (p ∷ ps) a b = omega arith
+
+  -- and 15 has one place
+  pub many-once : (k at p q : ℕ) (places : List ℕ) → Beyond l least k at p places → Beyond l least k at q places → p ≡ q
+  many-once k at p q places a b = same (decLt p q) (decLt q p)
+    where
+      same : Dec (p < q) → Dec (q < p) → p ≡ q
+      same (yes h) y = absurd (true-false (sym (a .matches) ∙ b .first p (a .behind) h))
+      same (no h) (yes i) = absurd (true-false (sym (b .matches) ∙ a .first q (b .behind) i))
+      same (no h) (no i) = omega arith
+
+module _ (s : List ℕ) (from least : ℕ) (codebook thresholds : List ℤ) (index report : List ℕ) where
+  abbrev result : Outcome
+  result = huntingReading s from least codebook thresholds index report
+
+  abbrev found : List ℕ
+  found = gathering (bits s) least mostMultiframes from .places
+
+  -- A SUCCESS SAYS ALL: the multiframes found are the only list that stands apart and takes what passes, and two answers of which the laws hold
+  -- have the same count, bits outside and places tested
+  pub success-places : (c : Counted) → Success s from least codebook thresholds index report c
+      → (ps : List ℕ) → Apart (bits s) least from ps → Takes (bits s) least from ps → found ≡ ps
+  success-places c w ps a f = places-once (bits s) least from found ps (w .stand-apart) (w .all-taken) a f
+
+  pub success-once : (c d : Counted) → Success s from least codebook thresholds index report c → Success s from least codebook thresholds index report d
+      → (c .summary .multiframes ≡ d .summary .multiframes) × (c .outside ≡ d .outside) × (c .tested ≡ d .tested)
+  success-once c d v w = (
+    v .count ∙ sym (w .count),
+    omega (arith, v .count, w .count, v .bits-in-all, w .bits-in-all),
+    tested-once (bits s) least from (c .tested) (d .tested) found (v .places-tested) (w .places-tested),
+  )
+
+  -- 11 COMES FIRST, whatever T is and whatever was received
+  pub tables-first : ((length codebook ≡ codebookNumbers) × (length thresholds ≡ thresholdNumbers) → ⊥) → result ≡ outcome (Refused (Octets RR.WrongTables)) index report
+  unfolding huntingReading
+  tables-first n = by (eqb (length codebook) codebookNumbers) (eqb (length thresholds) thresholdNumbers) refl refl
+    where
+      by : (a b : Bool) → eqb (length codebook) codebookNumbers ≡ a → eqb (length thresholds) thresholdNumbers ≡ b → result ≡ outcome (Refused (Octets RR.WrongTables)) index report
+      by false b ea eb = rw ea
+      by true false ea eb = rw (ea, eb)
+      by true true ea eb = absurd (n (eqb-true (length codebook) codebookNumbers ea, eqb-true (length thresholds) thresholdNumbers eb))
+
+  -- THEN 21, whatever was received
+  pub range-next : length codebook ≡ codebookNumbers → length thresholds ≡ thresholdNumbers → inRange least ≡ false → result ≡ outcome (Refused (MatchRange least)) index report
+  unfolding huntingReading
+  range-next sc st e = rw (eq-eqb (length codebook) codebookNumbers sc, eq-eqb (length thresholds) thresholdNumbers st, e)
