@@ -7,7 +7,7 @@ use mathlib.Core.List.{List}
 use native.Mathlib.Nat.{div-div-eq-div-mul, mod-lt}
 use native.Mathlib.Omega.{arith}
 use lib.Arith.{lt-one}
-use lib.Bits.{bitAnd, bitXor, and-mask, xor-shr, xor-mod}
+use lib.Bits.{bitXor, xor-shr, xor-mod}
 use lib.Count.{ones, ones-step, ones-le}
 use lib.Dec.{leb, eqb, lit<}
 use lib.ListN.{length}
@@ -16,10 +16,10 @@ use borrow.Author.Tests.{le-leb, lt-leb, lt-ltb, le-ltb}
 use Rattle.gf2.specs.Xor.{digit, low}
 use Rattle.lists.specs.Tests.{both}
 use Rattle.lists.specs.Parts.{part, length-part}
-use Rattle.bits.specs.Bits.{field, value, fields, bits}
+use Rattle.bits.specs.Bits.{field, value, bits}
 use Rattle.bits.specs.Laws.{length-bits, field-value, in-word}
 use Rattle.header.specs.Reading.{reading}
-use Rattle.hunt.specs.Hunt.{syncBits, headerBits, multiframeBits, sync, fewestMatches, inRange, alike, matches, readable, passes, headPasses, searched, placesLeft, misses, found, huntedFrom, hunted}
+use Rattle.hunt.specs.Hunt.{syncBits, multiframeBits, sync, fewestMatches, inRange, alike, matches, readable, passes, headPasses, searched, placesLeft, misses, found, huntedFrom, hunted}
 use Rattle.hunt.specs.Laws.{searched-le, misses-none, misses-hit, misses-on}
 use Rattle.hunt.specs.declared.Hunted.{Hunted}
 use Rattle.hunt.specs.declared.Hunted.the-variants.{Found, Refused}

@@ -11,7 +11,7 @@ use Rattle.reader.specs.declared.Refusal.the-variants as RR
 use Rattle.hunting.specs.Hunting.{Outcome, outcome}
 use Rattle.hunting.specs.declared.Refusal.the-variants.{Octets, MatchRange, Nowhere, TooMany}
 use Rattle.hunting.specs.declared.Answer.the-variants.{Read, Refused}
-use Rattle.link.specs.Bits.{huntReturning, bitsReturned, bitsReturning}
+use Rattle.link.specs.Bits.{huntReturning, bitsReturning}
 
 -- 16 kHz, noise robust, 2 multiframes, 30 frames of speech, 4 bad pairs, end; 32 bits outside, 21 places tested
 abbrev pub talk : Outcome
