@@ -7,6 +7,7 @@ use mathlib.Core.List.{List, [], _∷_}
 use mathlib.Core.Bool.{Bool, true, false}
 use lib.ListN.{length}
 use lib.Dec.{eqb}
+use native.Mathlib.Decide.{ℕ-discrete}
 use native.Mathlib.Omega.{arith}
 use borrow.Author.Tests.{eq-eqb, ne-eqb, eqb-true}
 use Rattle.lists.specs.Tests.{when, true-false}
@@ -224,3 +225,68 @@ only-mended m f n = rw (ne-eqb f 0 n)
 pub only-lost : settling (Lost ∷ []) ≡ Unsettled
 unfolding settling firstAgreeing onlyOne
 only-lost = refl
+
+-- ---- what is settled
+isSettled : Settings → Bool
+isSettled (Settled c) = true
+isSettled Unsettled = false
+
+not-settled : (d : ℕ) → Unsettled ≡ Settled d → ⊥
+unfolding isSettled
+not-settled d e = true-false (sym (ap isSettled e))
+
+bitsIn : Settings → ℕ
+bitsIn (Settled c) = c
+bitsIn Unsettled = 0
+
+settled-bits : (c d : ℕ) → Settled c ≡ Settled d → c ≡ d
+unfolding bitsIn
+settled-bits c d e = ap bitsIn e
+
+-- the rule for an only multiframe does not speak of two or more
+more-than-one : (hs : List Header) → 2 ≤ length hs → onlyOne hs ≡ Unsettled
+unfolding onlyOne
+more-than-one [] h = absurd (omega arith)
+more-than-one (Lost ∷ hs) h = refl
+more-than-one (Codeword m f ∷ []) h = absurd (omega arith)
+more-than-one (Codeword m f ∷ x ∷ hs) h = refl
+
+-- ---- all readable headers but perhaps one, number j, have the common bits c
+module _ (hs : List Header) (c j : ℕ) (same : (k d : ℕ) → (k ≡ j → ⊥) → Has hs k d → d ≡ c) where
+  -- so two that agree have them
+  agreed : (d : ℕ) → First [] hs d → d ≡ c
+  agreed d f =
+      ⊎-elim (λ t. absurd (true-false (sym t)))
+      (λ (e : Earlier hs (f .at) d).
+      elim (ℕ-discrete (f .at) j) [
+        | yes z ↦ same (e .at) d (λ w. omega (arith, e .less)) (e .has)
+        | no n ↦ same (f .at) d n (f .agrees .has)
+      ])
+      (f .agrees .with)
+
+  -- of two headers or more nothing else is settled
+  pub settled-same : (d : ℕ) → 2 ≤ length hs → settling hs ≡ Settled d → d ≡ c
+  unfolding settling
+  settled-same d two e = by (firstAgreeing [] hs) (first-agreeing [] hs) e
+    where
+      by : (s : Settings) → Says [] hs s → orElse s (onlyOne hs) ≡ Settled d → d ≡ c
+      by Unsettled x e = absurd (not-settled d (sym (more-than-one hs two) ∙ e))
+      by (Settled x) f e = sym (settled-bits x d e) ∙ agreed x f
+
+  -- and two headers that are read with them settle them
+  pub two-settle : (a b : ℕ) → a < b → Has hs a c → Has hs b c → settling hs ≡ Settled c
+  unfolding settling
+  two-settle a b h ha hb = by (firstAgreeing [] hs) (first-agreeing [] hs)
+    where
+      by : (s : Settings) → Says [] hs s → orElse s (onlyOne hs) ≡ Settled c
+      by Unsettled x = absurd (x b c (record { has = hb; with = inr (record { at = a; less = h; has = ha }) }))
+      by (Settled x) f = ap Settled (agreed x f)
+
+-- an only header settles nothing but its own common bits, and only if it is a codeword
+pub only-settles : (h : Header) (d : ℕ) → settling (h ∷ []) ≡ Settled d → (m : ℕ) × ((h ≡ Codeword m 0) × (commonBits m ≡ d))
+only-settles Lost d e = absurd (not-settled d (sym only-lost ∙ e))
+only-settles (Codeword m f) d e =
+    elim (ℕ-discrete f 0) [
+      | yes z ↦ (m, (ap (Codeword m) z, settled-bits (commonBits m) d (sym (ap (λ (n : ℕ). settling (Codeword m n ∷ [])) z ∙ only-clean m) ∙ e)))
+      | no n ↦ absurd (not-settled d (sym (only-mended m f n) ∙ e))
+    ]
