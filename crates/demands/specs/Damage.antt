@@ -5,6 +5,7 @@ use mathlib.Core.Bool.{Bool, true, false}
 use mathlib.Core.List.{List}
 use mathlib.Core.Logic.{_⊎_, inl, inr}
 use Prim.Native.Nat.{ℕ, _+_, _*_, _≤_, _<_}
+use native.Mathlib.Omega.{arith}
 use lib.Bits.{bitXor}
 use lib.Count.{ones}
 use lib.ListN.{length, getD}
@@ -16,8 +17,8 @@ use Rattle.header_code.specs.Code.{flipsTo}
 use Rattle.header.specs.Message.{message}
 use Rattle.header.specs.Message.Laws.{message-lt}
 use Rattle.header.specs.Reading.{reading}
-use Rattle.header.specs.Reading.Laws.{near}
-use Rattle.header.specs.declared.Header.the-variants.{Codeword}
+use Rattle.header.specs.Reading.Laws.{near, lost-at-three}
+use Rattle.header.specs.declared.Header.the-variants.{Codeword, Lost}
 use Rattle.writer.specs.Made.{Small, syncIn, wordIn, packetIn}
 use Rattle.writer.specs.Image.{image-word, image-packet, Utterance, multiframesOf, pairsOf, imageOf}
 
@@ -30,17 +31,31 @@ headerFlips sent got k = ones (bitXor (wordIn got k) (wordIn sent k))
 abbrev pub Touched : List ℕ → List ℕ → ℕ → Type 0
 Touched sent got q = packetIn got q ≡ packetIn sent q → ⊥
 
-pub record Damage (m : ℕ) (sent got : List ℕ) : Type 0 where
+-- with at most `most` bits flipped in each header
+pub record DamageUpTo (most m : ℕ) (sent got : List ℕ) : Type 0 where
   -- "same length", and what came are octets
   pub size : length got ≡ length sent
   pub small : Small got
   -- "syncs whole"
   pub syncs : (k : ℕ) → k < m → syncIn got k ≡ syncIn sent k
-  -- "at most two bits flipped in each header"
-  pub headers : (k : ℕ) → k < m → headerFlips sent got k ≤ 2
+  -- "bits flipped in each header"
+  pub headers : (k : ℕ) → k < m → headerFlips sent got k ≤ most
   -- "in each 92-bit packet nothing, at least one flip and all inside four neighbouring bits, or exactly two flips whose distance is no multiple
   -- of 15"
   pub packets : (q : ℕ) → q < multiframePairs * m → (packetIn got q ≡ packetIn sent q) ⊎ Damaged (packetIn sent q) (packetIn got q)
+
+-- demand 3's: "at most two bits flipped in each header"
+abbrev pub Damage : ℕ → List ℕ → List ℕ → Type 0
+Damage m sent got = DamageUpTo 2 m sent got
+
+-- as much as a header can have, and so no limit: a header has 32 bits
+abbrev pub headerBits : ℕ
+headerBits = 32
+
+-- less damage is such damage
+pub loosened : {a b m : ℕ} {sent got : List ℕ} → a ≤ b → DamageUpTo a m sent got → DamageUpTo b m sent got
+loosened le d =
+    record { size = d .size; small = d .small; syncs = d .syncs; headers = λ k h. let l = d .headers k h in omega arith; packets = d .packets }
 
 -- the message that the writer sends in header k
 abbrev pub sentMessage : Utterance → ℕ → ℕ
@@ -52,18 +67,24 @@ pub differs : (p q : List Bool) → Damaged p q → q ≡ p → ⊥
 differs p q (inl b) e = b .differs (ap (λ (l : List Bool). getD l (b .place) false) (sym e))
 differs p q (inr d) e = d .at-one (ap (λ (l : List Bool). getD l (d .one) false) (sym e))
 
-module _ (u : Utterance) (s : List ℕ) (d : Damage (multiframesOf u) (imageOf u) s) where
-  -- header k is within two flips of the codeword sent
-  pub header-near : (k : ℕ) → k < multiframesOf u → flipsTo (wordIn s k) (sentMessage u k) ≡ headerFlips (imageOf u) s k
+-- ---- headers
+module _ (u : Utterance) (s : List ℕ) (k : ℕ) (h : k < multiframesOf u) where
+  -- header k is that far from the codeword sent
+  pub header-near : flipsTo (wordIn s k) (sentMessage u k) ≡ headerFlips (imageOf u) s k
   unfolding flipsTo
-  header-near k h = ap (λ (w : ℕ). ones (bitXor (wordIn s k) w)) (sym (image-word (u .rate) (u .kind) (u .indices) (multiframesOf u) k h))
+  header-near = ap (λ (w : ℕ). ones (bitXor (wordIn s k) w)) (sym (image-word (u .rate) (u .kind) (u .indices) (multiframesOf u) k h))
 
-  -- so it is read as that codeword, and its flips are counted
-  pub header-read : (k : ℕ) → k < multiframesOf u → reading (wordIn s k) ≡ Codeword (sentMessage u k) (headerFlips (imageOf u) s k)
-  header-read k h =
-      let e = header-near k h in
-      near (wordIn s k) (sentMessage u k) (message-lt (u .rate) (u .kind) (k + 1) 0) (subst (λ (n : ℕ). n ≤ 2) (sym e) (d .headers k h)) ∙ ap (Codeword (sentMessage u k)) e
+  -- with at most two flips it is read as that codeword, and its flips are counted
+  pub header-read : headerFlips (imageOf u) s k ≤ 2 → reading (wordIn s k) ≡ Codeword (sentMessage u k) (headerFlips (imageOf u) s k)
+  header-read few =
+      near (wordIn s k) (sentMessage u k) (message-lt (u .rate) (u .kind) (k + 1) 0) (subst (λ (n : ℕ). n ≤ 2) (sym header-near) few) ∙ ap (Codeword (sentMessage u k)) header-near
 
+  -- and with three it is lost
+  pub header-lost : headerFlips (imageOf u) s k ≡ 3 → reading (wordIn s k) ≡ Lost
+  header-lost e = lost-at-three (wordIn s k) (sentMessage u k) (message-lt (u .rate) (u .kind) (k + 1) 0) (header-near ∙ e)
+
+-- ---- pairs
+module _ {most : ℕ} (u : Utterance) (s : List ℕ) (d : DamageUpTo most (multiframesOf u) (imageOf u) s) where
   module _ (q : ℕ) (h : q < pairsOf u) where
     sent : packetIn (imageOf u) q ≡ packetOf (u .indices) q
     sent = image-packet (u .rate) (u .kind) (u .indices) (multiframesOf u) q h

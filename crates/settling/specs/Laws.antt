@@ -5,7 +5,7 @@ use mathlib.Core.Path.{_≡_, refl, ap, sym, _∙_}
 use mathlib.Core.Logic.{_⊎_, inl, inr, ⊎-elim}
 use mathlib.Core.List.{List, [], _∷_}
 use mathlib.Core.Bool.{Bool, true, false}
-use lib.ListN.{length}
+use lib.ListN.{length, getD}
 use lib.Dec.{eqb}
 use native.Mathlib.Decide.{ℕ-discrete}
 use native.Mathlib.Omega.{arith}
@@ -290,3 +290,30 @@ only-settles (Codeword m f) d e =
       | yes z ↦ (m, (ap (Codeword m) z, settled-bits (commonBits m) d (sym (ap (λ (n : ℕ). settling (Codeword m n ∷ [])) z ∙ only-clean m) ∙ e)))
       | no n ↦ absurd (not-settled d (sym (only-mended m f n) ∙ e))
     ]
+
+-- ---- header k of a list, as `Has` and as `getD` take it
+isRead : Header → Bool
+isRead (Codeword m f) = true
+isRead Lost = false
+
+pub has-read : (hs : List Header) (k c : ℕ) → Has hs k c → (m : ℕ) × ((f : ℕ) × ((getD hs k Lost ≡ Codeword m f) × (commonBits m ≡ c)))
+has-read [] k c x = absurd x
+has-read (Lost ∷ hs) zero c x = absurd x
+has-read (Codeword m f ∷ hs) zero c x = (m, (f, (refl, x)))
+has-read (Lost ∷ hs) (suc k) c x = has-read hs k c x
+has-read (Codeword m f ∷ hs) (suc k) c x = has-read hs k c x
+
+pub read-has : (hs : List Header) (k m f : ℕ) → getD hs k Lost ≡ Codeword m f → Has hs k (commonBits m)
+unfolding isRead
+read-has [] k m f e = absurd (true-false (sym (ap isRead e)))
+read-has (Lost ∷ hs) zero m f e = absurd (true-false (sym (ap isRead e)))
+read-has (Codeword n g ∷ hs) zero m f e = ap commonBits (messageOf e)
+  where
+    messageIn : Header → ℕ
+    messageIn (Codeword a b) = a
+    messageIn Lost = 0
+
+    messageOf : Codeword n g ≡ Codeword m f → n ≡ m
+    messageOf q = ap messageIn q
+read-has (Lost ∷ hs) (suc k) m f e = read-has hs k m f e
+read-has (Codeword n g ∷ hs) (suc k) m f e = read-has hs k m f e
