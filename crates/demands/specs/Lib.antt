@@ -2,6 +2,7 @@ pub mod Examples
 pub mod Damage
 pub mod ToldApart
 pub mod Whole
+pub mod Headers
 pub mod Received
 pub mod NamesTheDamage
 pub mod Damages

@@ -2,6 +2,8 @@
 -- untouched, and one pair not bad, with 01's tables and room: the reader succeeds, gives the settings sent and m; the note of every damaged pair
 -- is 1; a pair that is not damaged has a note other than 0 exactly if 01's consistency rule makes it bad; each header note is the number of bits
 -- flipped there; and each frame of the pairs with note 0 stands at its place in the index buffer as it was written, zeros where it was padding."
+-- More is true, and is said here: note 1 is of the damaged pairs alone, an undamaged pair that the rule makes bad has note 2, and `bad` is the
+-- number of both; and all of it holds where headers have up to three flips, if two of them have at most two (`Wider`).
 -- Assumes nothing.
 use mathlib.Core.Path.{_≡_, sym, ap, _∙_, subst}
 use mathlib.Core.List.{List, _++_}
@@ -9,7 +11,7 @@ use mathlib.Core.Logic.{_⊎_, _↔_}
 use Prim.Native.Nat.{ℕ, _+_, _*_, _/_, _≤_, _<_}
 use native.Mathlib.Decide.{ℕ-discrete}
 use native.Mathlib.Omega.{arith}
-use lib.Dec.{eqb}
+use lib.Dec.{eqb, lit<}
 use lib.IntN.{ℤ}
 use lib.ListN.{length, getD, replicate}
 use lib.Seq.{take-at, take-all}
@@ -34,9 +36,10 @@ use Rattle.writer.specs.Writing.{frameCount}
 use Rattle.writer.specs.Laws.{few-multiframes, length-image}
 use Rattle.writer.specs.Made.{part-within}
 use Rattle.writer.specs.Image.{image-sync, Utterance, multiframesOf, pairsOf, imageOf, is-accepted, rate-not-2, whole-frames}
-use Rattle.demands.specs.Damage.{Damage, Touched, headerFlips}
+use Rattle.demands.specs.Damage.{DamageUpTo, Damage, loosened, Touched, headerFlips}
 use Rattle.demands.specs.Whole.{rowOf, Lent, reads-as, headerNoteIn, pairNoteIn, header-note-is, pair-note-is, front-part}
-use Rattle.demands.specs.Received.{BadPair, ByRule, Tells, is-so, not-so, tells-rule, tells-bad, touched-note, frames-kept, settles, note-of-header, sentCommon, rate-sent, kind-sent, exp-sent}
+use Rattle.demands.specs.Headers.{Settling, enough, settles, note-of-header, sentCommon, rate-sent, kind-sent, exp-sent}
+use Rattle.demands.specs.Received.{BadPair, ByRule, Tells, is-so, not-so, Count, tells-rule, tells-bad, touched-note, note-one, note-two, bad-counted, frames-kept}
 
 module _ (u : Utterance) (s : List ℕ) (codebook thresholds : List ℤ) (index report : List ℕ) where
   pub record Premises : Type 0 where
@@ -51,6 +54,25 @@ module _ (u : Utterance) (s : List ℕ) (codebook thresholds : List ℤ) (index 
     -- "with 01's tables and room"
     pub lent : Lent (multiframesOf u) codebook thresholds index report
 
+  -- the same with up to three flips in a header: two headers have at most two, or an only header is untouched
+  pub record Wider : Type 0 where
+    pub damage : DamageUpTo 3 (multiframesOf u) (imageOf u) s
+    pub headers : Settling u s
+    pub pair : ℕ
+    pub within : pair < pairsOf u
+    pub not-bad : BadPair u s codebook thresholds pair → ⊥
+    pub lent : Lent (multiframesOf u) codebook thresholds index report
+
+  pub wider : Premises → Wider
+  wider p = record {
+    damage = loosened (lit< tt) (p .damage);
+    headers = enough u s (p .damage) (p .headers);
+    pair = p .pair;
+    within = p .within;
+    not-bad = p .not-bad;
+    lent = p .lent;
+  }
+
   abbrev pub result : Outcome
   result = reading s codebook thresholds index report
 
@@ -61,10 +83,14 @@ module _ (u : Utterance) (s : List ℕ) (codebook thresholds : List ℤ) (index 
     pub rate : given .rate ≡ u .rate
     pub kind : given .kind ≡ u .kind
     pub multiframes : given .multiframes ≡ multiframesOf u
-    -- "the note of every damaged pair is 1"
-    pub damaged : (q : ℕ) → q < pairsOf u → Touched (imageOf u) s q → pairNoteIn (result .report) q ≡ 1
+    -- "the note of every damaged pair is 1", and of no other
+    pub damaged : (q : ℕ) → q < pairsOf u → (pairNoteIn (result .report) q ≡ 1) ↔ Touched (imageOf u) s q
     -- "a pair that is not damaged has a note other than 0 exactly if 01's consistency rule makes it bad"
     pub others : (q : ℕ) → q < pairsOf u → (Touched (imageOf u) s q → ⊥) → (pairNoteIn (result .report) q ≡ 0 → ⊥) ↔ ByRule u s codebook thresholds q
+    -- and that note is 2
+    pub ruled : (q : ℕ) → q < pairsOf u → (Touched (imageOf u) s q → ⊥) → ByRule u s codebook thresholds q → pairNoteIn (result .report) q ≡ 2
+    -- `bad` is the number of these pairs
+    pub counted : Count (BadPair u s codebook thresholds) (pairsOf u) (given .bad)
     -- "each header note is the number of bits flipped there"
     pub flips : (k : ℕ) → k < multiframesOf u → headerNoteIn (result .report) k ≡ headerFlips (imageOf u) s k
     -- "and each frame of the pairs with note 0 stands at its place in the index buffer as it was written"
@@ -74,11 +100,11 @@ module _ (u : Utterance) (s : List ℕ) (codebook thresholds : List ℤ) (index 
     pub padding : (k : ℕ) → frameCount (u .indices) ≤ k → k < multiframeFrames * multiframesOf u → pairNoteIn (result .report) (pairOf k) ≡ 0
         → part (frameIndices * k) frameIndices (result .index) ≡ replicate frameIndices 0
 
-  module _ (p : Premises) where
+  module _ (p : Wider) where
     abbrev m : ℕ
     m = multiframesOf u
 
-    abbrev d : Damage m (imageOf u) s
+    abbrev d : DamageUpTo 3 m (imageOf u) s
     d = p .damage
 
     abbrev ns : List ℕ
@@ -105,7 +131,7 @@ module _ (u : Utterance) (s : List ℕ) (codebook thresholds : List ℤ) (index 
 
     fits-in : Fitting (length (rowOf m)) (badPairs ns) (pairCount (rowOf m)) (length index) (length report) (settling (readings s (rowOf m))) (sentCommon u)
     fits-in = record {
-      settles = settles u s d (p .headers);
+      settles = settles u s (d .headers) (p .headers);
       usable = record { rate = λ e. rate-not-2 u (sym (rate-sent u) ∙ e); exp = exp-sent u };
       roomy = record {
         index-room = subst (λ (n : ℕ). indexOctets * n ≤ length index) (sym rows) (p .lent .index-room);
@@ -125,7 +151,7 @@ module _ (u : Utterance) (s : List ℕ) (codebook thresholds : List ℤ) (index 
         (λ k h. d .syncs k h ∙ image-sync (u .rate) (u .kind) (u .indices) m k h) codebook thresholds index report (sentCommon u) (omega arith) (p .lent) fits-in
 
     -- the report's octets are the notes
-    pair-note : (q : ℕ) → q < pairsOf u → pairNoteIn (result .report) q ≡ getD ns q 0
+    pub pair-note : (q : ℕ) → q < pairsOf u → pairNoteIn (result .report) q ≡ getD (pairNotes s (rowOf (multiframesOf u)) codebook thresholds) q 0
     pair-note q h =
         ap (λ (o : Outcome). pairNoteIn (o .report) q) read-is
         ∙ pair-note-is s (rowOf m) ns report (sentCommon u) (reportOctets * length (rowOf m)) notes-size q (omega (arith, rows))
@@ -133,7 +159,7 @@ module _ (u : Utterance) (s : List ℕ) (codebook thresholds : List ℤ) (index 
     header-note : (k : ℕ) → k < m → headerNoteIn (result .report) k ≡ headerFlips (imageOf u) s k
     header-note k h =
         ap (λ (o : Outcome). headerNoteIn (o .report) k) read-is
-        ∙ header-note-is s (rowOf m) ns report (sentCommon u) (reportOctets * length (rowOf m)) notes-size k (omega (arith, rows)) ∙ note-of-header u s d k h
+        ∙ header-note-is s (rowOf m) ns report (sentCommon u) (reportOctets * length (rowOf m)) notes-size k (omega (arith, rows)) ∙ note-of-header u s (d .headers) k h
 
     -- a pair whose note is 0 is not damaged
     not-hit : (q : ℕ) → q < pairsOf u → getD ns q 0 ≡ 0 → Touched (imageOf u) s q → ⊥
@@ -158,18 +184,23 @@ module _ (u : Utterance) (s : List ℕ) (codebook thresholds : List ℤ) (index 
               ∙ take-all 7 g (omega arith),
         )
 
-    frame-kept : (k : ℕ) → k < multiframeFrames * m → pairNoteIn (result .report) (pairOf k) ≡ 0 → part (frameIndices * k) frameIndices (result .index) ≡ frameAt (u .indices) k
-    frame-kept k h z =
-        let n : getD ns (pairOf k) 0 ≡ 0 = sym (pair-note (pairOf k) (omega arith)) ∙ z in
+    -- and behind it
+    pub index-frame : (k : ℕ) → k < multiframeFrames * multiframesOf u → getD (pairNotes s (rowOf (multiframesOf u)) codebook thresholds) (pairOf k) 0 ≡ 0
+        → part (frameIndices * k) frameIndices (indexPart s (rowOf (multiframesOf u)) (pairNotes s (rowOf (multiframesOf u)) codebook thresholds)) ≡ frameAt (u .indices) k
+    index-frame k h n =
         let all = allFrames s (rowOf m) in
         let b = frame-in-pair (k / 2) (omega arith) n in
-        ap (λ (o : Outcome). part (7 * k) 7 (o .index)) read-is
-        ∙ front-part index (indexPart s (rowOf m) ns) (indexOctets * length (rowOf m)) (7 * k) 7 (omega (arith, length-index s (rowOf m) ns notes-size, rows))
-        ∙ good-kept ns good all k (omega (arith, notes-size, length-all s (rowOf m))) (omega (arith, notes-size, rows)) n
+        good-kept ns good all k (omega (arith, notes-size, length-all s (rowOf m))) (omega (arith, notes-size, rows)) n
         ∙ elim (ℕ-discrete (2 * (k / 2)) k) [
           | yes e ↦ subst (λ (j : ℕ). part (7 * j) 7 all ≡ frameAt (u .indices) j) e (b .0)
           | no x ↦ let e : 2 * (k / 2) + 1 ≡ k = omega arith in subst (λ (j : ℕ). part (7 * j) 7 all ≡ frameAt (u .indices) j) e (b .1)
         ]
+
+    frame-kept : (k : ℕ) → k < multiframeFrames * m → pairNoteIn (result .report) (pairOf k) ≡ 0 → part (frameIndices * k) frameIndices (result .index) ≡ frameAt (u .indices) k
+    frame-kept k h z =
+        ap (λ (o : Outcome). part (7 * k) 7 (o .index)) read-is
+        ∙ front-part index (indexPart s (rowOf m) ns) (indexOctets * length (rowOf m)) (7 * k) 7 (omega (arith, length-index s (rowOf m) ns notes-size, rows))
+        ∙ index-frame k h (sym (pair-note (pairOf k) (omega arith)) ∙ z)
 
     rule : (q : ℕ) → q < pairsOf u → (Touched (imageOf u) s q → ⊥) → (pairNoteIn (result .report) q ≡ 0 → ⊥) ↔ ByRule u s codebook thresholds q
     rule q h n = by (tells-rule u s d codebook thresholds q h n)
@@ -188,14 +219,23 @@ module _ (u : Utterance) (s : List ℕ) (codebook thresholds : List ℤ) (index 
       rate = rate-sent u;
       kind = kind-sent u;
       multiframes = rows;
-      damaged = λ q h t. pair-note q h ∙ touched-note u s d codebook thresholds q h t;
+      damaged = λ q h. (
+        (λ e. note-one u s d codebook thresholds q h (sym (pair-note q h) ∙ e)),
+        (λ t. pair-note q h ∙ touched-note u s d codebook thresholds q h t),
+      );
       others = rule;
+      ruled = λ q h n r. pair-note q h ∙ note-two u s d codebook thresholds q h n r;
+      counted = bad-counted u s d codebook thresholds;
       flips = header-note;
       frames = λ k h z.
           frame-kept k (omega arith) z ∙ row-inside (u .indices) (frameIndices * k) frameIndices (omega (arith, whole-frames u));
       padding = λ k l h z. frame-kept k h z ∙ row-past (u .indices) (frameIndices * k) frameIndices (omega (arith, whole-frames u));
     }
 
+pub names-wider : (u : Utterance) (s : List ℕ) (codebook thresholds : List ℤ) (index report : List ℕ)
+    → Wider u s codebook thresholds index report → Named u s codebook thresholds index report
+names-wider = proof
+
 pub names-the-damage : (u : Utterance) (s : List ℕ) (codebook thresholds : List ℤ) (index report : List ℕ)
     → Premises u s codebook thresholds index report → Named u s codebook thresholds index report
-names-the-damage u s codebook thresholds index report p = proof u s codebook thresholds index report p
+names-the-damage u s codebook thresholds index report p = names-wider u s codebook thresholds index report (wider u s codebook thresholds index report p)

@@ -55,12 +55,13 @@ use Rattle.writer.specs.Laws.{few-multiframes, length-image}
 use Rattle.writer.specs.Made.{Small, syncIn, wordIn, packetIn, made, made-sync, made-word, made-packet}
 use Rattle.writer.specs.Image.{image-made, image-sync, image-word, image-packet, Utterance, multiframesOf, pairsOf, imageOf, is-accepted, rate-not-2}
 use Rattle.writer.specs.declared.Answer.the-variants.{Written}
-use Rattle.demands.specs.Damage.{Damage, headerFlips, sentMessage, header-near, differs}
+use Rattle.demands.specs.Damage.{Damage, loosened, headerFlips, sentMessage, header-near, differs}
 use Rattle.demands.specs.Damages.{damage-made}
 use Rattle.demands.specs.Instances.{lone, small-lone, says1, past-packet}
 use Rattle.demands.specs.Met.{zeroBook, zeroThresholds, indexFor, reportFor, lent-zeros, hurtWord, hurtStream, hurtImage, hurts}
 use Rattle.demands.specs.Whole.{rowOf, Lent, refuses-16, refuses-20}
-use Rattle.demands.specs.Received.{BadPair, Tells, is-so, not-so, tells-bad, headers-read, settles, sentCommon, rate-sent, exp-sent}
+use Rattle.demands.specs.Headers.{enough, settles, touched-unsettles, sentCommon, rate-sent, exp-sent}
+use Rattle.demands.specs.Received.{BadPair, Tells, is-so, not-so, tells-bad}
 
 -- ---- A SINGLE MENDED HEADER UNSETTLES: of one multiframe, a header that is touched at all is refusal 16, and both buffers stay
 module _ (u : Utterance) (s : List ℕ) (d : Damage (multiframesOf u) (imageOf u) s) (codebook thresholds : List ℤ) (index report : List ℕ)
@@ -79,9 +80,7 @@ module _ (u : Utterance) (s : List ℕ) (d : Damage (multiframesOf u) (imageOf u
 
   pub mended-unsettles : m ≡ 1 → (headerFlips (imageOf u) s 0 ≡ 0 → ⊥) → reading s codebook thresholds index report ≡ outcome (Refused Unsettled) index report
   mended-unsettles one touched =
-      refuses-16 s m few size syncs codebook thresholds index report (omega arith) lent
-      (ap settling (headers-read u s d) ∙ ap (λ (n : ℕ). settling (each (λ k. Codeword (sentMessage u k) (headerFlips (imageOf u) s k)) n)) one
-      ∙ only-mended (sentMessage u 0) (headerFlips (imageOf u) s 0) touched)
+      refuses-16 s m few size syncs codebook thresholds index report (omega arith) lent (touched-unsettles u s (loosened (lit< tt) d .headers) one touched)
 
   -- ---- ALL PAIRS BAD REFUSES: refusal 20, and both buffers stay
   all-counted : (l : List ℕ) → ((k : ℕ) → k < length l → bad (getD l k 0) ≡ true) → badPairs l ≡ length l
@@ -94,7 +93,7 @@ module _ (u : Utterance) (s : List ℕ) (d : Damage (multiframesOf u) (imageOf u
   all-bad-refuses heads every =
       let ns = pairNotes s (rowOf m) codebook thresholds in
       let ln : length ns ≡ pairCount (rowOf m) = length-notes s (rowOf m) codebook thresholds in
-      refuses-20 s m few size syncs codebook thresholds index report (omega arith) lent (sentCommon u) (settles u s d heads)
+      refuses-20 s m few size syncs codebook thresholds index report (omega arith) lent (sentCommon u) (settles u s (loosened (lit< tt) d .headers) (enough u s d heads))
       (record { rate = λ e. rate-not-2 u (sym (rate-sent u) ∙ e); exp = exp-sent u })
       (all-counted ns (λ k h. note k (omega (arith, ln, every-length 0 m))) ∙ ln)
     where
@@ -284,7 +283,7 @@ mended-1 =
     let w = codeword (sentMessage says1 0) in
     let l : bitXor w 3 < 2 ^ 32 = xor-lt 32 w 3 (codeword-lt (sentMessage says1 0) (message-lt 0 0 1 0)) (lit< tt) in
     let e : ones 3 ≡ 2 = sym (ones-in 2 3 (lit< tt)) in
-    sym (header-near says1 (hurtImage says1) (hurts says1) 0 (lit< tt))
+    sym (header-near says1 (hurtImage says1) 0 (lit< tt))
     ∙ ap (λ (x : ℕ). flipsTo x (sentMessage says1 0)) (made-word (hurtWord says1) (hurtStream says1) 1 0 (lit< tt) l) ∙ flips-of (sentMessage says1 0) 3 ∙ e
 
 pub unsettled-1 : reading (hurtImage says1) zeroBook zeroThresholds (indexFor 1) (reportFor 1) ≡ outcome (Refused Unsettled) (indexFor 1) (reportFor 1)
@@ -294,7 +293,7 @@ unsettled-1 =
 
 untouched-1 : headerFlips (imageOf says1) (allHurt says1) 0 ≡ 0
 untouched-1 =
-    sym (header-near says1 (allHurt says1) (all-hurts says1) 0 (lit< tt))
+    sym (header-near says1 (allHurt says1) 0 (lit< tt))
     ∙ ap (λ (x : ℕ). flipsTo x (sentMessage says1 0))
     (made-word (sentWord says1) (allHit says1) 1 0 (lit< tt) (codeword-lt (sentMessage says1 0) (message-lt 0 0 1 0))) ∙ none-wrong says1 0
 

@@ -42,10 +42,11 @@ use Rattle.writer.specs.Laws.{length-image}
 use Rattle.writer.specs.declared.Answer.the-variants.{Written}
 use Rattle.writer.specs.Made.{wordIn, packetIn}
 use Rattle.writer.specs.Image.{Nonzero, last-speaks, Utterance, multiframesOf, pairsOf, imageOf, is-accepted, whole-frames, writes}
-use Rattle.demands.specs.Damage.{Damage, headerFlips}
+use Rattle.demands.specs.Damage.{DamageUpTo, Damage, loosened, headerFlips}
 use Rattle.demands.specs.Damages.{unharmed}
 use Rattle.demands.specs.Whole.{rowOf, Lent, nothing-replaced, all-zero-at}
-use Rattle.demands.specs.Received.{BadBefore, BadPair, Tells, is-so, not-so, tells-bad, sentCommon, rate-sent, kind-sent, note-of-header}
+use Rattle.demands.specs.Headers.{Settling, enough, sentCommon, rate-sent, kind-sent, note-of-header}
+use Rattle.demands.specs.Received.{BadBefore, BadPair, Tells, is-so, not-so, tells-bad}
 use Rattle.demands.specs.NamesTheDamage as N
 
 -- the success answer: the same settings, m, speech equal to n, no bad pair, end 1
@@ -91,7 +92,7 @@ module _ (u : Utterance) where
       length-append (u .indices) (replicate (168 * m - length (u .indices)) 0) ∙ ap (λ (k : ℕ). length (u .indices) + k) (length-replicate (168 * m - length (u .indices)) 0)
       ∙ omega (arith, whole-frames u)
 
-  padded-at : (i : ℕ) → getD (padded u) i 0 ≡ getD (u .indices) i 0
+  pub padded-at : (i : ℕ) → getD (padded u) i 0 ≡ getD (u .indices) i 0
   padded-at i =
       elim (decLt i (length (u .indices))) [
         | yes h ↦ List·getD-append (u .indices) (replicate (168 * m - length (u .indices)) 0) 0 i h
@@ -127,7 +128,7 @@ module _ (u : Utterance) where
       by false z = z
 
   -- speech is n
-  speech-is-n : speechOf m (padded u) ≡ n
+  pub speech-is-n : speechOf m (padded u) ≡ n
   speech-is-n = by (lastNonzero (padded u) (multiframeFrames * (m - 1)) multiframeFrames) refl
     where
       by : (x : ℕ) → lastNonzero (padded u) (multiframeFrames * (m - 1)) multiframeFrames ≡ x → multiframeFrames * (m - 1) + x ≡ n
@@ -152,13 +153,12 @@ module _ (u : Utterance) where
           from (no a) (no b) = omega arith
 
   -- end is 1
-  end-is-1 : endOf m (padded u) ≡ 1
+  pub end-is-1 : endOf m (padded u) ≡ 1
   end-is-1 = rw (zero-past (24 * m - 1) (omega arith) (omega arith))
 
 -- ---- the image as the reader takes it, with no pair damaged: so none is bad, whatever the tables
-module _ (u : Utterance) (s : List ℕ) (d : Damage (multiframesOf u) (imageOf u) s) (untouched : (q : ℕ) → q < pairsOf u → packetIn s q ≡ packetIn (imageOf u) q)
-    (headers : (2 ≤ multiframesOf u) ⊎ (headerFlips (imageOf u) s 0 ≡ 0)) (codebook thresholds : List ℤ) (index report : List ℕ)
-    (lent : Lent (multiframesOf u) codebook thresholds index report) where
+module _ (u : Utterance) (s : List ℕ) (d : DamageUpTo 3 (multiframesOf u) (imageOf u) s) (untouched : (q : ℕ) → q < pairsOf u → packetIn s q ≡ packetIn (imageOf u) q)
+    (headers : Settling u s) (codebook thresholds : List ℤ) (index report : List ℕ) (lent : Lent (multiframesOf u) codebook thresholds index report) where
   abbrev places : List ℕ
   places = rowOf (multiframesOf u)
 
@@ -175,7 +175,7 @@ module _ (u : Utterance) (s : List ℕ) (d : Damage (multiframesOf u) (imageOf u
   unfolding BadBefore
   never-bad q h = never-before (suc q) (omega arith)
 
-  premises : N.Premises u s codebook thresholds index report
+  premises : N.Wider u s codebook thresholds index report
   premises = record { damage = d; headers = headers; pair = 0; within = omega arith; not-bad = never-bad 0 (omega arith); lent = lent }
 
   rows : length places ≡ multiframesOf u
@@ -200,7 +200,7 @@ module _ (u : Utterance) (s : List ℕ) (d : Damage (multiframesOf u) (imageOf u
   note-row k h =
       let p = part (12 * k) 12 ns in
       let l : length p ≡ 12 = length-part ns (12 * k) 12 (omega (arith, notes-size)) in
-      ap₂ (λ (x : ℕ) (y : List ℕ). x ∷ y) (note-of-header u s d k (omega (arith, rows)))
+      ap₂ (λ (x : ℕ) (y : List ℕ). x ∷ y) (note-of-header u s (d .headers) k (omega (arith, rows)))
       (zeros p (λ i j. getD-take 12 (drop (12 * k) ns) i 0 (omega (arith, l)) ∙ getD-drop (12 * k) ns i 0 ∙ pair-notes (12 * k + i) (omega (arith, l, notes-size)))
       ∙ ap (λ (w : ℕ). replicate w 0) l)
 
@@ -252,14 +252,21 @@ module _ (u : Utterance) (s : List ℕ) (d : Damage (multiframesOf u) (imageOf u
       ∙ ap₂ (λ (a b : ℕ). make (u .rate) (u .kind) (multiframesOf u) (frameCount (u .indices)) a b) z y in
       p
 
-  -- HEADERS MENDED: with no pair damaged and the settings settled, headers of at most two flips cost nothing but their notes
-  pub reads-mended : reading s codebook thresholds index report
+  -- HEADERS HURT: with no pair damaged and the settings settled, headers of at most three flips cost nothing but their notes
+  pub reads-undamaged : reading s codebook thresholds index report
       ≡ outcome (Read (spoken u)) (over index 0 (indexOctets * multiframesOf u) (padded u)) (over report 0 (reportOctets * multiframesOf u) (mendedReport u s))
-  reads-mended =
+  reads-undamaged =
       N.read-is u s codebook thresholds index report premises
       ∙ ap₂ (λ (a : Summary) (i : List ℕ). outcome (Read a) i (over report 0 (reportOctets * length places) (reportPart s places ns (sentCommon u)))) answer-is
       (ap₂ (λ (k : ℕ) (l : List ℕ). over index 0 (indexOctets * k) l) rows index-is)
       ∙ ap (outcome (Read (spoken u)) (over index 0 (indexOctets * multiframesOf u) (padded u))) (ap₂ (λ (k : ℕ) (l : List ℕ). over report 0 (reportOctets * k) l) rows report-is)
+
+-- so where no header has more than two flips, two multiframes or an untouched only header are enough
+pub reads-mended : (u : Utterance) (s : List ℕ) → Damage (multiframesOf u) (imageOf u) s → ((q : ℕ) → q < pairsOf u → packetIn s q ≡ packetIn (imageOf u) q)
+    → (2 ≤ multiframesOf u) ⊎ (headerFlips (imageOf u) s 0 ≡ 0) → (codebook thresholds : List ℤ) (index report : List ℕ) → Lent (multiframesOf u) codebook thresholds index report
+    → reading s codebook thresholds index report
+    ≡ outcome (Read (spoken u)) (over index 0 (indexOctets * multiframesOf u) (padded u)) (over report 0 (reportOctets * multiframesOf u) (mendedReport u s))
+reads-mended u s d untouched headers = reads-undamaged u s (loosened (lit< tt) d) untouched (enough u s d headers)
 
 -- ---- the image itself: nothing was mended, so its report is zeros
 no-flips : (s : List ℕ) (k : ℕ) → headerFlips s s k ≡ 0

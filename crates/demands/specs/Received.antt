@@ -5,37 +5,30 @@ use mathlib.Core.Path.{_≡_, refl, sym, ap, ap₂, _∙_, subst}
 use mathlib.Core.Bool.{Bool, true, false, not}
 use mathlib.Core.List.{List, [], _∷_, _++_}
 use mathlib.Core.Logic.{_⊎_, inl, inr, ⊎-elim}
-use Prim.Native.Nat.{ℕ, zero, suc, _+_, _*_, _%_, _≤_, _<_}
-use native.Mathlib.Nat.{mod-eq-of-lt}
+use Prim.Native.Nat.{ℕ, zero, suc, _+_, _*_, _≤_, _<_}
 use native.Mathlib.Decide.{decLt}
 use native.Mathlib.Omega.{arith}
+use lib.Dec.{eqb}
 use lib.IntN.{ℤ}
 use lib.ListN.{length, take, drop, getD, List·getD-eq-default}
 use lib.Seq.{take-at, drop-at}
-use borrow.Author.Tests.{eq-eqb}
-use Rattle.lists.specs.Tests.{true-false}
-use Rattle.lists.specs.Rows.{each, length-each, each-at, same-each}
+use Rattle.lists.specs.Tests.{when, true-false}
+use Rattle.lists.specs.Rows.{each, length-each, each-at}
 use Rattle.layout.specs.Layout.{widths, frameIndices, dataBits, multiframePairs, firstFrame, secondFrame}
 use Rattle.crc.specs.Crc.{right}
 use Rattle.packet.specs.Packet.{apart, frameAt}
 use Rattle.packet.specs.Laws.{length-row, packetOf-back}
 use Rattle.consistency.specs.Consistency.{inconsistent}
 use Rattle.cutting.specs.Laws.{every-length}
-use Rattle.header.specs.Message.{message, rateOf, typeOf, countOf, expOf, commonBits}
-use Rattle.header.specs.Message.Laws.{rate-back, type-back, count-back, exp-back, common-rate, common-type, common-exp, common-message}
 use Rattle.header.specs.Reading as H
-use Rattle.header.specs.declared.Header.{Header}
-use Rattle.header.specs.declared.Header.the-variants.{Codeword, Lost}
-use Rattle.settling.specs.Settling.{readings, settling, headerNote}
-use Rattle.settling.specs.Laws.{AllHave, all-agree, only-clean}
-use Rattle.settling.specs.declared.Settings.the-variants.{Settled}
 use Rattle.pairs.specs.Pairs.{packetAt, pairCount, pairFails, framesOf, pairOdd, pairNotes}
-use Rattle.judging.specs.Judging.{bad, noteBy, notes}
+use Rattle.pairs.specs.Laws.{length-notes}
+use Rattle.judging.specs.Judging.{bad, badPairs, noteBy, notes}
 use Rattle.judging.specs.Laws.{badBefore, note-at, failed-is-1}
-use Rattle.writer.specs.Made.{wordIn, packetIn}
-use Rattle.writer.specs.Image.{Utterance, multiframesOf, pairsOf, imageOf, rate-small, kind-small, fits-each-frame}
-use Rattle.demands.specs.Damage.{Damage, Touched, headerFlips, sentMessage, header-read, Fate, whole, hit, fate, not-touched}
-use Rattle.demands.specs.Whole.{rowOf, readings-are, packet-at}
+use Rattle.writer.specs.Made.{packetIn}
+use Rattle.writer.specs.Image.{Utterance, multiframesOf, pairsOf, imageOf, fits-each-frame}
+use Rattle.demands.specs.Damage.{DamageUpTo, Touched, Fate, whole, hit, fate, not-touched}
+use Rattle.demands.specs.Whole.{rowOf, packet-at}
 
 -- ---- 01's bad pairs, of a damaged image: said of the utterance and the damage alone
 module _ (u : Utterance) (s : List ℕ) (codebook thresholds : List ℤ) where
@@ -67,6 +60,52 @@ pub data Tells (A : Type 0) (b : Bool) : Type 0 where
   is-so : A → b ≡ true → Tells A b
   not-so : (A → ⊥) → b ≡ false → Tells A b
 
+-- a pair whose CRC is right has note 0 or 2
+zero-or-two : (b o a : Bool) → (noteBy b false o a ≡ 0) ⊎ (noteBy b false o a ≡ 2)
+unfolding noteBy
+zero-or-two b false a = inl refl
+zero-or-two b true true = inr refl
+zero-or-two true true false = inr refl
+zero-or-two false true false = inl refl
+
+-- ---- c of the numbers below n are so
+unfoldable pub Count : (ℕ → Type 0) → ℕ → ℕ → Type 0
+Count P zero c = c ≡ 0
+Count P (suc n) zero = (P 0 → ⊥) × Count (λ k. P (suc k)) n zero
+Count P (suc n) (suc c) = (P 0 × Count (λ k. P (suc k)) n c) ⊎ ((P 0 → ⊥) × Count (λ k. P (suc k)) n (suc c))
+
+-- there is only one such number
+pub count-once : (P : ℕ → Type 0) (n a b : ℕ) → Count P n a → Count P n b → a ≡ b
+unfolding Count
+count-once P zero a b x y = x ∙ sym y
+count-once P (suc n) zero zero x y = refl
+count-once P (suc n) zero (suc b) x (inl y) = absurd (x .0 (y .0))
+count-once P (suc n) zero (suc b) x (inr y) = count-once (λ k. P (suc k)) n zero (suc b) (x .1) (y .1)
+count-once P (suc n) (suc a) zero (inl x) y = absurd (y .0 (x .0))
+count-once P (suc n) (suc a) zero (inr x) y = count-once (λ k. P (suc k)) n (suc a) zero (x .1) (y .1)
+count-once P (suc n) (suc a) (suc b) (inl x) (inl y) = ap suc (count-once (λ k. P (suc k)) n a b (x .1) (y .1))
+count-once P (suc n) (suc a) (suc b) (inl x) (inr y) = absurd (y .0 (x .0))
+count-once P (suc n) (suc a) (suc b) (inr x) (inl y) = absurd (x .0 (y .0))
+count-once P (suc n) (suc a) (suc b) (inr x) (inr y) = count-once (λ k. P (suc k)) n (suc a) (suc b) (x .1) (y .1)
+
+not-first : (P : ℕ → Type 0) (n c : ℕ) → (P 0 → ⊥) → Count (λ k. P (suc k)) n c → Count P (suc n) c
+unfolding Count
+not-first P n zero f x = (f, x)
+not-first P n (suc c) f x = inr (f, x)
+
+-- notes that tell which pairs are so count them
+count-bad : (P : ℕ → Type 0) (ns : List ℕ) → ((q : ℕ) → q < length ns → Tells (P q) (bad (getD ns q 0))) → Count P (length ns) (badPairs ns)
+unfolding Count
+count-bad P [] t = refl
+count-bad P (x ∷ ns) t = by (eqb x 0) refl (t 0 (omega arith)) (count-bad (λ k. P (suc k)) ns (λ q h. t (suc q) (omega arith)))
+  where
+    by : (b : Bool) → eqb x 0 ≡ b → Tells (P 0) (not (eqb x 0)) → Count (λ k. P (suc k)) (length ns) (badPairs ns)
+        → Count P (suc (length ns)) (when b (badPairs ns) (suc (badPairs ns)))
+    by true e (is-so p y) i = absurd (true-false (sym y ∙ ap not e))
+    by true e (not-so n y) i = not-first P (length ns) (badPairs ns) n i
+    by false e (is-so p y) i = inl (p, i)
+    by false e (not-so n y) i = absurd (true-false (sym (ap not e) ∙ y))
+
 ruled : (b o a : Bool) (B O A : Type 0) → Tells B b → Tells O o → Tells A a → Tells (O × (A ⊎ B)) (bad (noteBy b false o a))
 unfolding noteBy
 ruled b o a B O A tb (not-so x eo) ta = not-so (λ t. x (t .0)) (rw eo)
@@ -74,72 +113,11 @@ ruled b o a B O A tb (is-so x eo) (is-so y ea) = is-so (x, inl y) (rw (eo, ea))
 ruled b o a B O A (is-so z eb) (is-so x eo) (not-so n ea) = is-so (x, inr z) (rw (eo, ea, eb))
 ruled b o a B O A (not-so m eb) (is-so x eo) (not-so n ea) = not-so (λ t. ⊎-elim n m (t .1)) (rw (eo, ea, eb))
 
--- ---- headers
--- all with the same common bits
-have-one-more : (l : List Header) (m f c : ℕ) → AllHave l c → commonBits m ≡ c → AllHave (l ++ (Codeword m f ∷ [])) c
-have-one-more [] m f c a e = (e, tt)
-have-one-more (Lost ∷ l) m f c a e = absurd a
-have-one-more (Codeword n g ∷ l) m f c a e = (a .0, have-one-more l m f c (a .1) e)
-
-all-have : (g f : ℕ → ℕ) (c n : ℕ) → ((k : ℕ) → k < n → commonBits (g k) ≡ c) → AllHave (each (λ k. Codeword (g k) (f k)) n) c
-all-have g f c zero h = tt
-all-have g f c (suc n) h = have-one-more (each (λ k. Codeword (g k) (f k)) n) (g n) (f n) c (all-have g f c n (λ k l. h k (omega arith))) (h n (omega arith))
-
--- the common bits that the writer sends, whatever the counter
-abbrev pub sentCommon : Utterance → ℕ
-sentCommon u = commonBits (message (u .rate) (u .kind) 0 0)
-
-pub common-sent : (u : Utterance) (k : ℕ) → commonBits (sentMessage u k) ≡ sentCommon u
-common-sent u k = common-message (u .rate) (u .kind) (k + 1) 0
-
-pub rate-sent : (u : Utterance) → rateOf (sentCommon u) ≡ u .rate
-rate-sent u = common-rate (message (u .rate) (u .kind) 0 0) ∙ rate-back (u .rate) (u .kind) 0 0 ∙ mod-eq-of-lt (rate-small u)
-
-pub kind-sent : (u : Utterance) → typeOf (sentCommon u) ≡ u .kind
-kind-sent u = common-type (message (u .rate) (u .kind) 0 0) ∙ type-back (u .rate) (u .kind) 0 0 ∙ mod-eq-of-lt (kind-small u)
-
-pub exp-sent : (u : Utterance) → expOf (sentCommon u) ≡ 0
-exp-sent u = common-exp (message (u .rate) (u .kind) 0 0) ∙ exp-back (u .rate) (u .kind) 0 0
-
-module _ (u : Utterance) (s : List ℕ) (d : Damage (multiframesOf u) (imageOf u) s) where
+-- ---- pairs
+module _ {most : ℕ} (u : Utterance) (s : List ℕ) (d : DamageUpTo most (multiframesOf u) (imageOf u) s) where
   abbrev m : ℕ
   m = multiframesOf u
 
-  abbrev flips : ℕ → ℕ
-  flips k = headerFlips (imageOf u) s k
-
-  pub headers-read : readings s (rowOf m) ≡ each (λ k. Codeword (sentMessage u k) (flips k)) m
-  headers-read = readings-are s m ∙ same-each (λ k. H.reading (wordIn s k)) (λ k. Codeword (sentMessage u k) (flips k)) m (λ k h. header-read u s d k h)
-
-  two-agree : 2 ≤ m → settling (each (λ k. Codeword (sentMessage u k) (flips k)) m) ≡ Settled (sentCommon u)
-  two-agree h =
-      let hs = each (λ k. Codeword (sentMessage u k) (flips k)) m in
-      all-agree hs (sentCommon u) (omega (arith, length-each (λ k. Codeword (sentMessage u k) (flips k)) m))
-      (all-have (sentMessage u) flips (sentCommon u) m (λ k l. common-sent u k))
-
-  -- two headers or more settle the common bits sent, and so does an only one that is untouched
-  pub settles : (2 ≤ m) ⊎ (flips 0 ≡ 0) → settling (readings s (rowOf m)) ≡ Settled (sentCommon u)
-  settles x = ap settling headers-read ∙ by (decLt m 2) x
-    where
-      by : Dec (m < 2) → (2 ≤ m) ⊎ (flips 0 ≡ 0) → settling (each (λ k. Codeword (sentMessage u k) (flips k)) m) ≡ Settled (sentCommon u)
-      by (no n) y = two-agree (omega arith)
-      by (yes l) (inl h) = two-agree h
-      by (yes l) (inr z) =
-          let e : m ≡ 1 = omega arith in
-          ap (λ (n : ℕ). settling (each (λ k. Codeword (sentMessage u k) (flips k)) n)) e
-          ∙ ap (λ (f : ℕ). settling (Codeword (sentMessage u 0) f ∷ [])) z ∙ only-clean (sentMessage u 0) ∙ ap Settled (common-sent u 0)
-
-  -- each header note is the number of flips there
-  pub note-of-header : (k : ℕ) → k < m → headerNote (sentCommon u) k (getD (readings s (rowOf m)) k Lost) ≡ flips k
-  unfolding headerNote
-  note-of-header k h =
-      let r : getD (readings s (rowOf m)) k Lost ≡ Codeword (sentMessage u k) (flips k) =
-      ap (λ (l : List Header). getD l k Lost) headers-read ∙ each-at (λ k. Codeword (sentMessage u k) (flips k)) m k Lost h in
-      let z : flips k + 0 + 0 ≡ flips k = omega arith in
-      ap (headerNote (sentCommon u) k) r
-      ∙ rw (eq-eqb (countOf (sentMessage u k)) ((k + 1) % 16) (count-back (u .rate) (u .kind) (k + 1) 0), eq-eqb (commonBits (sentMessage u k)) (sentCommon u) (common-sent u k)) z
-
-  -- ---- pairs
   pairs-are : pairCount (rowOf m) ≡ pairsOf u
   pairs-are = ap (λ (n : ℕ). multiframePairs * n) (every-length 0 m)
 
@@ -265,3 +243,39 @@ module _ (u : Utterance) (s : List ℕ) (d : Damage (multiframesOf u) (imageOf u
     pub tells-bad : (q : ℕ) → q < pairsOf u → Tells (BadPair u s codebook thresholds q) (bad (getD ns q 0))
     unfolding BadBefore
     tells-bad q h = tells-before (suc q) (omega arith)
+
+    -- ---- exact notes
+    other-note : (q : ℕ) → q < pairsOf u → (Touched (imageOf u) s q → ⊥)
+        → getD ns q 0 ≡ noteBy (badBefore false ns q) false (pairOdd s (rowOf m) codebook thresholds q) (getD fs (suc q) false)
+    other-note q h n = by (tells-touched q h)
+      where
+        by : Tells (Touched (imageOf u) s q) (pairFails s (rowOf m) q)
+            → getD ns q 0 ≡ noteBy (badBefore false ns q) false (pairOdd s (rowOf m) codebook thresholds q) (getD fs (suc q) false)
+        by (is-so t x) = absurd (n t)
+        by (not-so k x) = note-is q h ∙ ap (λ (f : Bool). noteBy (badBefore false ns q) f (pairOdd s (rowOf m) codebook thresholds q) (getD fs (suc q) false)) x
+
+    -- the note is 1 of no other pair than a damaged one
+    pub note-one : (q : ℕ) → q < pairsOf u → getD ns q 0 ≡ 1 → Touched (imageOf u) s q
+    note-one q h e = by (tells-touched q h)
+      where
+        by : Tells (Touched (imageOf u) s q) (pairFails s (rowOf m) q) → Touched (imageOf u) s q
+        by (is-so t x) = t
+        by (not-so n x) =
+            absurd (⊎-elim (λ z. let y : _≡_ {A = ℕ} 0 1 = sym z ∙ sym (other-note q h n) ∙ e in omega arith) (λ z. let y : _≡_ {A = ℕ} 2 1 = sym z ∙ sym (other-note q h n) ∙ e in omega arith)
+            (zero-or-two (badBefore false ns q) (pairOdd s (rowOf m) codebook thresholds q) (getD fs (suc q) false)))
+
+    -- and an undamaged pair that the rule makes bad has note 2
+    pub note-two : (q : ℕ) → q < pairsOf u → (Touched (imageOf u) s q → ⊥) → ByRule u s codebook thresholds q → getD ns q 0 ≡ 2
+    note-two q h n r = by (tells-rule q h n)
+      where
+        by : Tells (ByRule u s codebook thresholds q) (bad (getD ns q 0)) → getD ns q 0 ≡ 2
+        by (not-so l y) = absurd (l r)
+        by (is-so l y) =
+            ⊎-elim (λ z. absurd (true-false (sym y ∙ ap bad (other-note q h n ∙ z)))) (λ z. other-note q h n ∙ z)
+            (zero-or-two (badBefore false ns q) (pairOdd s (rowOf m) codebook thresholds q) (getD fs (suc q) false))
+
+    -- the number of bad pairs
+    pub bad-counted : Count (BadPair u s codebook thresholds) (pairsOf u) (badPairs ns)
+    bad-counted =
+        subst (λ (n : ℕ). Count (BadPair u s codebook thresholds) n (badPairs ns)) (length-notes s (rowOf m) codebook thresholds ∙ pairs-are)
+        (count-bad (BadPair u s codebook thresholds) ns (λ q h. tells-bad q (omega (arith, length-notes s (rowOf m) codebook thresholds, pairs-are))))

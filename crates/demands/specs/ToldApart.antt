@@ -4,18 +4,19 @@
 use mathlib.Core.Path.{_≡_, sym, _∙_, subst}
 use mathlib.Core.List.{List}
 use mathlib.Core.Logic.{_↔_}
-use Prim.Native.Nat.{ℕ, _≤_, _<_}
+use Prim.Native.Nat.{ℕ, _+_, _≤_, _<_}
+use native.Mathlib.Decide.{ℕ-discrete}
 use native.Mathlib.Omega.{arith}
+use lib.Dec.{lit<}
 use Rattle.lists.specs.Tests.{true-false}
 use Rattle.layout.specs.Layout.{firstFrame, secondFrame}
 use Rattle.packet.specs.Packet.{packetOf, frameAt}
-use Rattle.header_code.specs.Code.{flipsTo}
-use Rattle.header_code.specs.Code.Distance.{nearest}
+use Rattle.header_code.specs.Code.Distance.{far-from-one}
 use Rattle.header.specs.Message.Laws.{message-lt}
 use Rattle.writer.specs.Laws.{length-image}
 use Rattle.writer.specs.Made.{wordIn}
 use Rattle.writer.specs.Image.{Utterance, multiframesOf, pairsOf, imageOf, same-settings, same-pair}
-use Rattle.demands.specs.Damage.{Damage, Touched, sentMessage, header-near, fate, Fate, whole, hit, not-touched}
+use Rattle.demands.specs.Damage.{DamageUpTo, Damage, headerBits, loosened, headerFlips, Touched, sentMessage, header-near, fate, Fate, whole, hit, not-touched}
 
 -- a damaged image of one accepted utterance equals a damaged image of another
 pub record Equal (u v : Utterance) (s t : List ℕ) : Type 0 where
@@ -36,19 +37,34 @@ pub record Alike (u v : Utterance) (s t : List ℕ) : Type 0 where
   pub firsts : (q : ℕ) → q < pairsOf u → (Touched (imageOf u) s q → ⊥) → frameAt (u .indices) (firstFrame q) ≡ frameAt (v .indices) (firstFrame q)
   pub seconds : (q : ℕ) → q < pairsOf u → (Touched (imageOf u) s q → ⊥) → frameAt (u .indices) (secondFrame q) ≡ frameAt (v .indices) (secondFrame q)
 
+-- the same of headers with any flips, but for one: its flips in the two images add up to at most five
+pub record Near (u v : Utterance) (s t : List ℕ) : Type 0 where
+  pub one : DamageUpTo headerBits (multiframesOf u) (imageOf u) s
+  pub other : DamageUpTo headerBits (multiframesOf v) (imageOf v) t
+  pub equal : s ≡ t
+  pub header : ℕ
+  pub within : header < multiframesOf u
+  pub flips : headerFlips (imageOf u) s header + headerFlips (imageOf v) t header ≤ 5
+
 -- two damaged images that are one
-module _ (u v : Utterance) (s : List ℕ) (d : Damage (multiframesOf u) (imageOf u) s) (e : Damage (multiframesOf v) (imageOf v) s) where
+module _ (u v : Utterance) (s : List ℕ) (d : DamageUpTo headerBits (multiframesOf u) (imageOf u) s) (e : DamageUpTo headerBits (multiframesOf v) (imageOf v) s)
+    (k : ℕ) (within : k < multiframesOf u) (five : headerFlips (imageOf u) s k + headerFlips (imageOf v) s k ≤ 5) where
   counts : multiframesOf u ≡ multiframesOf v
   counts =
       omega (arith, d .size, e .size, length-image (u .rate) (u .kind) (u .indices) (multiframesOf u), length-image (v .rate) (v .kind) (v .indices) (multiframesOf v))
 
-  -- the first header is within two flips of both codewords
+  -- two codewords that are that near to one word are the same
   settings : (u .rate ≡ v .rate) × (u .kind ≡ v .kind)
   settings =
-      let a : flipsTo (wordIn s 0) (sentMessage u 0) ≤ 2 = omega (arith, header-near u s d 0 (omega arith), d .headers 0 (omega arith)) in
-      let b : flipsTo (wordIn s 0) (sentMessage v 0) ≤ 2 = omega (arith, header-near v s e 0 (omega arith), e .headers 0 (omega arith)) in
-      same-settings u v 1
-      (nearest (wordIn s 0) (sentMessage u 0) (sentMessage v 0) (message-lt (u .rate) (u .kind) 1 0) (message-lt (v .rate) (v .kind) 1 0) a b)
+      let a = header-near u s k within in
+      let b = header-near v s k (omega (arith, counts)) in
+      same-settings u v (k + 1)
+      (elim (ℕ-discrete (sentMessage u k) (sentMessage v k)) [
+        | yes y ↦ y
+        | no n ↦
+            absurd
+            (omega (arith, a, b, far-from-one (wordIn s k) (sentMessage u k) (sentMessage v k) (message-lt (u .rate) (u .kind) (k + 1) 0) (message-lt (v .rate) (v .kind) (k + 1) 0) n))
+      ])
 
   module _ (q : ℕ) (h : q < pairsOf u) where
     there : q < pairsOf v
@@ -83,6 +99,22 @@ module _ (u v : Utterance) (s : List ℕ) (d : Damage (multiframesOf u) (imageOf
     seconds = λ q h n. same-pair u v q (same-packet q h n) .1;
   }
 
+-- TOLD APART BY ONE HEADER
+pub told-by-one : (u v : Utterance) (s t : List ℕ) → Near u v s t → Alike u v s t
+told-by-one u v s t x =
+    subst (Alike u v s) (x .equal)
+    (alike u v s (x .one) (subst (DamageUpTo headerBits (multiframesOf v) (imageOf v)) (sym (x .equal)) (x .other)) (x .header) (x .within)
+    (subst (λ (l : List ℕ). headerFlips (imageOf u) s (x .header) + headerFlips (imageOf v) l (x .header) ≤ 5) (sym (x .equal)) (x .flips)))
+
+-- so demand 3's images are told apart: two and two flips add up to four
 pub told-apart : (u v : Utterance) (s t : List ℕ) → Equal u v s t → Alike u v s t
 told-apart u v s t x =
-    subst (Alike u v s) (x .equal) (alike u v s (x .one) (subst (Damage (multiframesOf v) (imageOf v)) (sym (x .equal)) (x .other)))
+    told-by-one u v s t
+    (record {
+      one = loosened (lit< tt) (x .one);
+      other = loosened (lit< tt) (x .other);
+      equal = x .equal;
+      header = 0;
+      within = omega arith;
+      flips = let a = x .one .headers 0 (omega arith) in let b = x .other .headers 0 (omega arith) in omega arith;
+    })

@@ -1,0 +1,179 @@
+-- The headers of a damaged image as the reader takes them: up to two flips are mended and counted, three lose a header, and two that are
+-- read, or an only one that is untouched, settle the settings sent. Whatever happened to the pairs.
+-- Assumes nothing.
+use mathlib.Core.Path.{_≡_, sym, ap, _∙_, subst}
+use mathlib.Core.Bool.{Bool, true, false}
+use mathlib.Core.List.{List, [], _∷_}
+use mathlib.Core.Logic.{_⊎_, inl, inr}
+use Prim.Native.Nat.{ℕ, _+_, _%_, _≤_, _<_}
+use native.Mathlib.Nat.{mod-eq-of-lt}
+use native.Mathlib.Decide.{decLt}
+use native.Mathlib.Omega.{arith}
+use lib.Dec.{leb}
+use lib.ListN.{length, getD, List·getD-eq-default}
+use borrow.Author.Tests.{eq-eqb, le-leb, lt-leb}
+use Rattle.lists.specs.Tests.{when, true-false}
+use Rattle.lists.specs.Rows.{each, length-each, each-at, same-each}
+use Rattle.header.specs.Message.{message, rateOf, typeOf, countOf, expOf, commonBits}
+use Rattle.header.specs.Message.Laws.{rate-back, type-back, count-back, exp-back, common-rate, common-type, common-exp, common-message}
+use Rattle.header.specs.Reading as H
+use Rattle.header.specs.declared.Header.{Header}
+use Rattle.header.specs.declared.Header.the-variants.{Codeword, Lost}
+use Rattle.settling.specs.Settling.{readings, settling, headerNote}
+use Rattle.settling.specs.Laws.{Has, has-read, read-has, two-settle, note-lost, only-clean, only-mended, only-lost}
+use Rattle.settling.specs.declared.Settings.the-variants.{Settled, Unsettled}
+use Rattle.writer.specs.Made.{wordIn}
+use Rattle.writer.specs.Image.{Utterance, multiframesOf, imageOf, rate-small, kind-small}
+use Rattle.demands.specs.Damage.{Damage, headerFlips, sentMessage, header-read, header-lost}
+use Rattle.demands.specs.Whole.{rowOf, readings-are}
+
+-- the common bits that the writer sends, whatever the counter
+abbrev pub sentCommon : Utterance → ℕ
+sentCommon u = commonBits (message (u .rate) (u .kind) 0 0)
+
+pub common-sent : (u : Utterance) (k : ℕ) → commonBits (sentMessage u k) ≡ sentCommon u
+common-sent u k = common-message (u .rate) (u .kind) (k + 1) 0
+
+pub rate-sent : (u : Utterance) → rateOf (sentCommon u) ≡ u .rate
+rate-sent u = common-rate (message (u .rate) (u .kind) 0 0) ∙ rate-back (u .rate) (u .kind) 0 0 ∙ mod-eq-of-lt (rate-small u)
+
+pub kind-sent : (u : Utterance) → typeOf (sentCommon u) ≡ u .kind
+kind-sent u = common-type (message (u .rate) (u .kind) 0 0) ∙ type-back (u .rate) (u .kind) 0 0 ∙ mod-eq-of-lt (kind-small u)
+
+pub exp-sent : (u : Utterance) → expOf (sentCommon u) ≡ 0
+exp-sent u = common-exp (message (u .rate) (u .kind) 0 0) ∙ exp-back (u .rate) (u .kind) 0 0
+
+-- a header read as sent, in step and as settled, has its flips for a note
+note-of-read : (u : Utterance) (k f : ℕ) → headerNote (sentCommon u) k (Codeword (sentMessage u k) f) ≡ f
+unfolding headerNote
+note-of-read u k f =
+    let z : f + 0 + 0 ≡ f = omega arith in
+    rw (eq-eqb (countOf (sentMessage u k)) ((k + 1) % 16) (count-back (u .rate) (u .kind) (k + 1) 0), eq-eqb (commonBits (sentMessage u k)) (sentCommon u) (common-sent u k)) z
+
+isRead : Header → Bool
+isRead (Codeword m f) = true
+isRead Lost = false
+
+lost-not-read : (m f : ℕ) → Lost ≡ Codeword m f → ⊥
+unfolding isRead
+lost-not-read m f e = true-false (sym (ap isRead e))
+
+messageIn : Header → ℕ
+messageIn (Codeword m f) = m
+messageIn Lost = 0
+
+same-message : (a b f g : ℕ) → Codeword a f ≡ Codeword b g → a ≡ b
+unfolding messageIn
+same-message a b f g e = ap messageIn e
+
+-- what a header sent with this message is read as: up to two flips are mended and counted, three lose it
+abbrev pub heardAs : ℕ → ℕ → Header
+heardAs message flips = when (leb flips 2) (Codeword message flips) Lost
+
+pub heard-read : (message flips : ℕ) → flips ≤ 2 → heardAs message flips ≡ Codeword message flips
+heard-read message flips few = rw (le-leb flips 2 few)
+
+pub heard-lost : (message flips : ℕ) → 2 < flips → heardAs message flips ≡ Lost
+heard-lost message flips many = rw (lt-leb flips 2 many)
+
+-- two headers have at most two flips each
+pub record TwoReadable (u : Utterance) (s : List ℕ) : Type 0 where
+  pub one : ℕ
+  pub two : ℕ
+  pub order : one < two
+  pub within : two < multiframesOf u
+  pub few-of-one : headerFlips (imageOf u) s one ≤ 2
+  pub few-of-two : headerFlips (imageOf u) s two ≤ 2
+
+-- what settles the settings: two such headers, or an only header that is untouched
+abbrev pub Settling : Utterance → List ℕ → Type 0
+Settling u s = TwoReadable u s ⊎ ((multiframesOf u ≡ 1) × (headerFlips (imageOf u) s 0 ≡ 0))
+
+-- where no header has more than two flips, two multiframes are enough
+pub enough : (u : Utterance) (s : List ℕ) → Damage (multiframesOf u) (imageOf u) s → (2 ≤ multiframesOf u) ⊎ (headerFlips (imageOf u) s 0 ≡ 0) → Settling u s
+enough u s d x = by (decLt (multiframesOf u) 2) x
+  where
+    two : 2 ≤ multiframesOf u → Settling u s
+    two h = inl (record { one = 0; two = 1; order = omega arith; within = omega arith; few-of-one = d .headers 0 (omega arith); few-of-two = d .headers 1 (omega arith) })
+
+    by : Dec (multiframesOf u < 2) → (2 ≤ multiframesOf u) ⊎ (headerFlips (imageOf u) s 0 ≡ 0) → Settling u s
+    by (no n) y = two (omega arith)
+    by (yes l) (inl h) = two h
+    by (yes l) (inr z) = inr (omega arith, z)
+
+-- headers of at most three flips, whatever happened to the pairs
+module _ (u : Utterance) (s : List ℕ) (most : (k : ℕ) → k < multiframesOf u → headerFlips (imageOf u) s k ≤ 3) where
+  abbrev m : ℕ
+  m = multiframesOf u
+
+  abbrev flips : ℕ → ℕ
+  flips k = headerFlips (imageOf u) s k
+
+  heard : (k : ℕ) → k < m → H.reading (wordIn s k) ≡ heardAs (sentMessage u k) (flips k)
+  heard k h =
+      elim (decLt 2 (flips k)) [
+        | yes y ↦ let l = most k h in let e : flips k ≡ 3 = omega arith in header-lost u s k h e ∙ sym (heard-lost (sentMessage u k) (flips k) y)
+        | no n ↦ let l : flips k ≤ 2 = omega arith in header-read u s k h l ∙ sym (heard-read (sentMessage u k) (flips k) l)
+      ]
+
+  pub headers-read : readings s (rowOf m) ≡ each (λ k. heardAs (sentMessage u k) (flips k)) m
+  headers-read =
+      readings-are s m ∙ same-each (λ k. H.reading (wordIn s k)) (λ k. heardAs (sentMessage u k) (flips k)) m (λ k h. heard k h)
+
+  header-is : (k : ℕ) → k < m → getD (readings s (rowOf m)) k Lost ≡ heardAs (sentMessage u k) (flips k)
+  header-is k h = ap (λ (l : List Header). getD l k Lost) headers-read ∙ each-at (λ k. heardAs (sentMessage u k) (flips k)) m k Lost h
+
+  -- a readable header is read with the common bits sent
+  has-sent : (k : ℕ) → k < m → flips k ≤ 2 → Has (readings s (rowOf m)) k (sentCommon u)
+  has-sent k h few =
+      subst (Has (readings s (rowOf m)) k) (common-sent u k)
+      (read-has (readings s (rowOf m)) k (sentMessage u k) (flips k) (header-is k h ∙ heard-read (sentMessage u k) (flips k) few))
+
+  -- and none with others
+  all-sent : (k d : ℕ) → (k ≡ m → ⊥) → Has (readings s (rowOf m)) k d → d ≡ sentCommon u
+  all-sent k d n x = by (decLt k m) (decLt 2 (flips k))
+    where
+      r : (a : ℕ) × ((f : ℕ) × ((getD (readings s (rowOf m)) k Lost ≡ Codeword a f) × (commonBits a ≡ d)))
+      r = has-read (readings s (rowOf m)) k d x
+
+      by : Dec (k < m) → Dec (2 < flips k) → d ≡ sentCommon u
+      by (no o) y =
+          absurd
+          (lost-not-read (r .0) (r .1 .0)
+          (sym (List·getD-eq-default (readings s (rowOf m)) Lost (omega (arith, ap length headers-read, length-each (λ k. heardAs (sentMessage u k) (flips k)) m))) ∙ r .1 .1 .0))
+      by (yes h) (yes y) = absurd (lost-not-read (r .0) (r .1 .0) (sym (header-is k h ∙ heard-lost (sentMessage u k) (flips k) y) ∙ r .1 .1 .0))
+      by (yes h) (no y) =
+          sym (r .1 .1 .1)
+          ∙ ap commonBits (same-message (r .0) (sentMessage u k) (r .1 .0) (flips k) (sym (r .1 .1 .0) ∙ header-is k h ∙ heard-read (sentMessage u k) (flips k) (omega arith)))
+          ∙ common-sent u k
+
+  -- two readable headers settle the common bits sent, and so does an only one that is untouched
+  pub settles : Settling u s → settling (readings s (rowOf m)) ≡ Settled (sentCommon u)
+  settles (inl t) =
+      let l = t .order in
+      let w = t .within in
+      two-settle (readings s (rowOf m)) (sentCommon u) m all-sent (t .one) (t .two) l (has-sent (t .one) (omega arith) (t .few-of-one)) (has-sent (t .two) w (t .few-of-two))
+  settles (inr x) =
+      ap settling headers-read ∙ ap (λ (n : ℕ). settling (each (λ k. heardAs (sentMessage u k) (flips k)) n)) (x .0)
+      ∙ ap (λ (f : ℕ). settling (heardAs (sentMessage u 0) f ∷ [])) (x .1) ∙ only-clean (sentMessage u 0) ∙ ap Settled (common-sent u 0)
+
+  -- an only header that is touched settles nothing
+  pub touched-unsettles : m ≡ 1 → (flips 0 ≡ 0 → ⊥) → settling (readings s (rowOf m)) ≡ Unsettled
+  touched-unsettles one n =
+      ap settling headers-read ∙ ap (λ (i : ℕ). settling (each (λ k. heardAs (sentMessage u k) (flips k)) i)) one
+      ∙ elim (decLt 2 (flips 0)) [
+        | yes y ↦ ap (λ (h : Header). settling (h ∷ [])) (heard-lost (sentMessage u 0) (flips 0) y) ∙ only-lost
+        | no y ↦ ap (λ (h : Header). settling (h ∷ [])) (heard-read (sentMessage u 0) (flips 0) (omega arith)) ∙ only-mended (sentMessage u 0) (flips 0) n
+      ]
+
+  -- each header note is the number of flips there: three are lost, and that is note 3
+  pub note-of-header : (k : ℕ) → k < m → headerNote (sentCommon u) k (getD (readings s (rowOf m)) k Lost) ≡ flips k
+  note-of-header k h =
+      ap (headerNote (sentCommon u) k) (header-is k h)
+      ∙ elim (decLt 2 (flips k)) [
+        | yes y ↦ let l = most k h in ap (headerNote (sentCommon u) k) (heard-lost (sentMessage u k) (flips k) y) ∙ note-lost (sentCommon u) k ∙ omega arith
+        | no y ↦ ap (headerNote (sentCommon u) k) (heard-read (sentMessage u k) (flips k) (omega arith)) ∙ read-note k
+      ]
+    where
+      read-note : (k : ℕ) → headerNote (sentCommon u) k (Codeword (sentMessage u k) (flips k)) ≡ flips k
+      read-note k = note-of-read u k (flips k)
