@@ -20,7 +20,7 @@ use Rattle.header.specs.Reading as H
 use Rattle.header.specs.declared.Header.{Header}
 use Rattle.header.specs.declared.Header.the-variants.{Codeword, Lost}
 use Rattle.settling.specs.Settling.{readings, settling, headerNote}
-use Rattle.settling.specs.Laws.{Has, has-read, read-has, two-settle, note-lost, only-clean, only-mended, only-lost}
+use Rattle.settling.specs.Laws.{Has, has-read, read-has, settled-same, two-settle, note-lost, only-clean, only-mended, only-lost}
 use Rattle.settling.specs.declared.Settings.the-variants.{Settled, Unsettled}
 use Rattle.writer.specs.Made.{wordIn}
 use Rattle.writer.specs.Image.{Utterance, multiframesOf, imageOf, rate-small, kind-small}
@@ -101,7 +101,54 @@ enough u s d x = by (decLt (multiframesOf u) 2) x
     by (yes l) (inl h) = two h
     by (yes l) (inr z) = inr (omega arith, z)
 
--- headers of at most three flips, whatever happened to the pairs
+-- a header of at most three flips is read as it was sent, or is lost
+module _ (u : Utterance) (s : List ℕ) (k : ℕ) (h : k < multiframesOf u) (most : headerFlips (imageOf u) s k ≤ 3) where
+  pub heard : H.reading (wordIn s k) ≡ heardAs (sentMessage u k) (headerFlips (imageOf u) s k)
+  heard =
+      elim (decLt 2 (headerFlips (imageOf u) s k)) [
+        | yes y ↦ let e : headerFlips (imageOf u) s k ≡ 3 = omega arith in header-lost u s k h e ∙ sym (heard-lost (sentMessage u k) (headerFlips (imageOf u) s k) y)
+        | no n ↦
+            let l : headerFlips (imageOf u) s k ≤ 2 = omega arith in
+            header-read u s k h l ∙ sym (heard-read (sentMessage u k) (headerFlips (imageOf u) s k) l)
+      ]
+
+  -- so where it is read its common bits are those sent
+  read-sent : (a f : ℕ) → H.reading (wordIn s k) ≡ Codeword a f → commonBits a ≡ sentCommon u
+  read-sent a f e =
+      elim (decLt 2 (headerFlips (imageOf u) s k)) [
+        | yes y ↦ absurd (lost-not-read a f (sym (heard ∙ heard-lost (sentMessage u k) (headerFlips (imageOf u) s k) y) ∙ e))
+        | no n ↦
+            ap commonBits (same-message a (sentMessage u k) f (headerFlips (imageOf u) s k) (sym e ∙ heard ∙ heard-read (sentMessage u k) (headerFlips (imageOf u) s k) (omega arith)))
+            ∙ common-sent u k
+      ]
+
+-- all headers but perhaps one, number j, have at most three flips, whatever happened to the pairs
+module _ (u : Utterance) (s : List ℕ) (j : ℕ) (others : (k : ℕ) → k < multiframesOf u → (k ≡ j → ⊥) → headerFlips (imageOf u) s k ≤ 3) where
+  abbrev hs : List Header
+  hs = readings s (rowOf (multiframesOf u))
+
+  length-hs : length hs ≡ multiframesOf u
+  length-hs = ap length (readings-are s (multiframesOf u)) ∙ length-each (λ k. H.reading (wordIn s k)) (multiframesOf u)
+
+  -- none of those that are read has other common bits than those sent
+  others-sent : (k d : ℕ) → (k ≡ j → ⊥) → Has hs k d → d ≡ sentCommon u
+  others-sent k d n x = by (decLt k (multiframesOf u))
+    where
+      r : (a : ℕ) × ((f : ℕ) × ((getD hs k Lost ≡ Codeword a f) × (commonBits a ≡ d)))
+      r = has-read hs k d x
+
+      by : Dec (k < multiframesOf u) → d ≡ sentCommon u
+      by (no o) = absurd (lost-not-read (r .0) (r .1 .0) (sym (List·getD-eq-default hs Lost (omega (arith, length-hs))) ∙ r .1 .1 .0))
+      by (yes h) =
+          sym (r .1 .1 .1)
+          ∙ read-sent u s k h (others k h n) (r .0) (r .1 .0)
+          (sym (ap (λ (l : List Header). getD l k Lost) (readings-are s (multiframesOf u)) ∙ each-at (λ k. H.reading (wordIn s k)) (multiframesOf u) k Lost h) ∙ r .1 .1 .0)
+
+  -- so of two headers or more nothing else is settled
+  pub settles-nothing-else : (d : ℕ) → 2 ≤ multiframesOf u → settling (readings s (rowOf (multiframesOf u))) ≡ Settled d → d ≡ sentCommon u
+  settles-nothing-else d two = settled-same hs (sentCommon u) j others-sent d (omega (arith, length-hs))
+
+-- all headers have at most three flips
 module _ (u : Utterance) (s : List ℕ) (most : (k : ℕ) → k < multiframesOf u → headerFlips (imageOf u) s k ≤ 3) where
   abbrev m : ℕ
   m = multiframesOf u
@@ -109,16 +156,9 @@ module _ (u : Utterance) (s : List ℕ) (most : (k : ℕ) → k < multiframesOf 
   abbrev flips : ℕ → ℕ
   flips k = headerFlips (imageOf u) s k
 
-  heard : (k : ℕ) → k < m → H.reading (wordIn s k) ≡ heardAs (sentMessage u k) (flips k)
-  heard k h =
-      elim (decLt 2 (flips k)) [
-        | yes y ↦ let l = most k h in let e : flips k ≡ 3 = omega arith in header-lost u s k h e ∙ sym (heard-lost (sentMessage u k) (flips k) y)
-        | no n ↦ let l : flips k ≤ 2 = omega arith in header-read u s k h l ∙ sym (heard-read (sentMessage u k) (flips k) l)
-      ]
-
   pub headers-read : readings s (rowOf m) ≡ each (λ k. heardAs (sentMessage u k) (flips k)) m
   headers-read =
-      readings-are s m ∙ same-each (λ k. H.reading (wordIn s k)) (λ k. heardAs (sentMessage u k) (flips k)) m (λ k h. heard k h)
+      readings-are s m ∙ same-each (λ k. H.reading (wordIn s k)) (λ k. heardAs (sentMessage u k) (flips k)) m (λ k h. heard u s k h (most k h))
 
   header-is : (k : ℕ) → k < m → getD (readings s (rowOf m)) k Lost ≡ heardAs (sentMessage u k) (flips k)
   header-is k h = ap (λ (l : List Header). getD l k Lost) headers-read ∙ each-at (λ k. heardAs (sentMessage u k) (flips k)) m k Lost h
@@ -129,30 +169,12 @@ module _ (u : Utterance) (s : List ℕ) (most : (k : ℕ) → k < multiframesOf 
       subst (Has (readings s (rowOf m)) k) (common-sent u k)
       (read-has (readings s (rowOf m)) k (sentMessage u k) (flips k) (header-is k h ∙ heard-read (sentMessage u k) (flips k) few))
 
-  -- and none with others
-  all-sent : (k d : ℕ) → (k ≡ m → ⊥) → Has (readings s (rowOf m)) k d → d ≡ sentCommon u
-  all-sent k d n x = by (decLt k m) (decLt 2 (flips k))
-    where
-      r : (a : ℕ) × ((f : ℕ) × ((getD (readings s (rowOf m)) k Lost ≡ Codeword a f) × (commonBits a ≡ d)))
-      r = has-read (readings s (rowOf m)) k d x
-
-      by : Dec (k < m) → Dec (2 < flips k) → d ≡ sentCommon u
-      by (no o) y =
-          absurd
-          (lost-not-read (r .0) (r .1 .0)
-          (sym (List·getD-eq-default (readings s (rowOf m)) Lost (omega (arith, ap length headers-read, length-each (λ k. heardAs (sentMessage u k) (flips k)) m))) ∙ r .1 .1 .0))
-      by (yes h) (yes y) = absurd (lost-not-read (r .0) (r .1 .0) (sym (header-is k h ∙ heard-lost (sentMessage u k) (flips k) y) ∙ r .1 .1 .0))
-      by (yes h) (no y) =
-          sym (r .1 .1 .1)
-          ∙ ap commonBits (same-message (r .0) (sentMessage u k) (r .1 .0) (flips k) (sym (r .1 .1 .0) ∙ header-is k h ∙ heard-read (sentMessage u k) (flips k) (omega arith)))
-          ∙ common-sent u k
-
   -- two readable headers settle the common bits sent, and so does an only one that is untouched
   pub settles : Settling u s → settling (readings s (rowOf m)) ≡ Settled (sentCommon u)
   settles (inl t) =
       let l = t .order in
       let w = t .within in
-      two-settle (readings s (rowOf m)) (sentCommon u) m all-sent (t .one) (t .two) l (has-sent (t .one) (omega arith) (t .few-of-one)) (has-sent (t .two) w (t .few-of-two))
+      two-settle (readings s (rowOf m)) (sentCommon u) m (others-sent u s m (λ k h n. most k h)) (t .one) (t .two) l (has-sent (t .one) (omega arith) (t .few-of-one)) (has-sent (t .two) w (t .few-of-two))
   settles (inr x) =
       ap settling headers-read ∙ ap (λ (n : ℕ). settling (each (λ k. heardAs (sentMessage u k) (flips k)) n)) (x .0)
       ∙ ap (λ (f : ℕ). settling (heardAs (sentMessage u 0) f ∷ [])) (x .1) ∙ only-clean (sentMessage u 0) ∙ ap Settled (common-sent u 0)

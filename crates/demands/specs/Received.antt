@@ -1,5 +1,5 @@
--- A damaged image as the reader takes it: its headers settle the settings sent, its notes name the damaged pairs and those that 01's
--- consistency rule makes bad, and its undamaged pairs are the frames written.
+-- The pairs of a damaged image as the reader takes them: the notes name the damaged ones and those that 01's consistency rule makes bad, and
+-- the undamaged ones are the frames written. Whatever happened to the headers.
 -- Assumes nothing.
 use mathlib.Core.Path.{_≡_, refl, sym, ap, ap₂, _∙_, subst}
 use mathlib.Core.Bool.{Bool, true, false, not}

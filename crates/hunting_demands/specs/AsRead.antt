@@ -118,7 +118,7 @@ module _ (u : Utterance) (img s : List ℕ) (from at least : ℕ) (codebook thre
       inside = p .inside;
       stand = λ k h.
           passes-there least (bits s) (placeInRow at k) (sentMessage u k) (headerFlips (imageOf u) img k) (p .syncs k h)
-          (ap reading (p .there .words k h) ∙ header-read u img d k h);
+          (ap reading (p .there .words k h) ∙ header-read u img k h (d .headers k h));
       none-before = p .none-before;
       none-behind = p .none-behind;
     }
@@ -134,4 +134,4 @@ module _ (u : Utterance) (img s : List ℕ) (from at least : ℕ) (codebook thre
 
     -- so the note of every damaged pair is 1
     pub damaged-noted : (q : ℕ) → q < pairsOf u → Touched (imageOf u) img q → pairNoteIn (result .report) q ≡ 1
-    damaged-noted q h t = ap (λ (o : G.Outcome). pairNoteIn (o .report) q) (names-at-any-bit .here) ∙ names-at-any-bit .of-image .damaged q h t
+    damaged-noted q h t = ap (λ (o : G.Outcome). pairNoteIn (o .report) q) (names-at-any-bit .here) ∙ names-at-any-bit .of-image .damaged q h .1 t

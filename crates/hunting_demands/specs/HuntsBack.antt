@@ -82,7 +82,7 @@ module _ (u : Utterance) (s : List ℕ) (from at least : ℕ) (c : Carried u s f
   stands : (k : ℕ) → k < m → passes least (bits s) (placeInRow at k) ≡ true
   stands k h =
       passes-there least (bits s) (placeInRow at k) (sentMessage u k) (headerFlips (imageOf u) got k) (c .syncs k h)
-      (ap reading (sym (image-word s at m (c .inside) k h)) ∙ header-read u got damage k h)
+      (ap reading (sym (image-word s at m (c .inside) k h)) ∙ header-read u got k h (damage .headers k h))
 
   pub in-a-row : InARow (bits s) from at least m
   in-a-row = record { begins = c .begins; inside = c .inside; stand = stands; none-before = c .none-before; none-behind = c .none-behind }
