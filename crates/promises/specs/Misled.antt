@@ -1,0 +1,112 @@
+-- NEVER MISLED. "Syncs whole, pairs damaged in any way whatsoever. If of two multiframes or more at most one header has more than three flips,
+-- or an only header has at most five, a reading that succeeds gives the settings and the count sent." So 8 kHz never goes to the 11 kHz model.
+-- Assumes nothing.
+use mathlib.Core.Path.{_≡_, sym, ap, _∙_, subst}
+use mathlib.Core.List.{List, []}
+use mathlib.Core.Logic.{_⊎_, ⊎-elim}
+use Prim.Native.Nat.{ℕ, _+_, _≤_, _<_}
+use native.Mathlib.Decide.{ℕ-discrete}
+use native.Mathlib.Omega.{arith}
+use lib.IntN.{ℤ}
+use lib.ListN.{length}
+use Rattle.lists.specs.Rows.{each}
+use Rattle.cutting.specs.Cutting.{Cutting, cutting}
+use Rattle.cutting.specs.Laws.{every-length}
+use Rattle.header_code.specs.Code.Distance.{far-from-one}
+use Rattle.header.specs.Message.{rateOf, typeOf, commonBits}
+use Rattle.header.specs.Message.Laws.{message-lt}
+use Rattle.header.specs.Reading as H
+use Rattle.header.specs.Reading.Laws.{reads}
+use Rattle.header.specs.declared.Header.{Header}
+use Rattle.header.specs.declared.Header.the-variants.{Codeword}
+use Rattle.settling.specs.Settling.{readings, settling}
+use Rattle.settling.specs.Laws.{only-settles}
+use Rattle.settling.specs.declared.Settings.the-variants.{Settled}
+use Rattle.reader.specs.Reading.{reading}
+use Rattle.reader.specs.declared.Summary.{Summary}
+use Rattle.reader.specs.declared.Answer.the-variants.{Read}
+use Rattle.writer.specs.Laws.{few-multiframes, length-image}
+use Rattle.writer.specs.Made.{syncIn, wordIn}
+use Rattle.writer.specs.Image.{image-sync, Utterance, multiframesOf, imageOf, is-accepted}
+use Rattle.demands.specs.Damage.{headerFlips, sentMessage, header-near}
+use Rattle.demands.specs.Headers.{sentCommon, common-sent, rate-sent, kind-sent, settles-nothing-else}
+use Rattle.demands.specs.Whole.{rowOf, readings-are, cut-is}
+use Rattle.demands.specs.WritesAgain as A
+
+module _ (u : Utterance) (s : List ℕ) where
+  -- "of two multiframes or more at most one header", number but, "has more than three flips"
+  pub record AllButOne : Type 0 where
+    pub two : 2 ≤ multiframesOf u
+    pub but : ℕ
+    pub others : (k : ℕ) → k < multiframesOf u → (k ≡ but → ⊥) → headerFlips (imageOf u) s k ≤ 3
+
+  -- "an only header has at most five"
+  pub record OnlyFive : Type 0 where
+    pub single : multiframesOf u ≡ 1
+    pub five : headerFlips (imageOf u) s 0 ≤ 5
+
+  pub record Premises : Type 0 where
+    -- no octet is lost or added
+    pub size : length s ≡ length (imageOf u)
+    -- "syncs whole"
+    pub syncs : (k : ℕ) → k < multiframesOf u → syncIn s k ≡ syncIn (imageOf u) k
+    pub headers : AllButOne ⊎ OnlyFive
+
+  -- "the settings and the count sent"
+  pub record AsSent (given : Summary) : Type 0 where
+    pub rate : given .rate ≡ u .rate
+    pub kind : given .kind ≡ u .kind
+    pub multiframes : given .multiframes ≡ multiframesOf u
+
+  module _ (p : Premises) where
+    abbrev m : ℕ
+    m = multiframesOf u
+
+    cut : cutting s .places ≡ rowOf m
+    cut =
+        ap (λ (w : Cutting). w .places)
+        (cut-is s m (few-multiframes (u .rate) (u .kind) (u .indices) (is-accepted u .sizes)) (p .size ∙ length-image (u .rate) (u .kind) (u .indices) m)
+        (λ k h. p .syncs k h ∙ image-sync (u .rate) (u .kind) (u .indices) m k h))
+
+    -- an only header that is a codeword and has at most five flips is the one sent: six bits lie between two codewords
+    only-sent : OnlyFive → (d : ℕ) → settling (readings s (rowOf m)) ≡ Settled d → d ≡ sentCommon u
+    only-sent o d e =
+        let x = only-settles (H.reading (wordIn s 0)) d (sym (ap settling (readings-are s m) ∙ ap (λ (n : ℕ). settling (each (λ k. H.reading (wordIn s k)) n)) (o .single)) ∙ e) in
+        let r : H.ReadAs (wordIn s 0) (Codeword (x .0) 0) = read (x .1 .0) in
+        sym (x .1 .1)
+        ∙ elim (ℕ-discrete (x .0) (sentMessage u 0)) [
+          | yes y ↦ ap commonBits y ∙ common-sent u 0
+          | no n ↦
+              absurd
+              (omega (
+                arith,
+                r .1,
+                o .five,
+                header-near u s 0 (omega arith),
+                far-from-one (wordIn s 0) (x .0) (sentMessage u 0) (r .0) (message-lt (u .rate) (u .kind) 1 0) n,
+              ))
+        ]
+      where
+        read : {h : Header} → H.reading (wordIn s 0) ≡ h → H.ReadAs (wordIn s 0) h
+        read e = subst (H.ReadAs (wordIn s 0)) e (reads (wordIn s 0))
+
+    settled-sent : (d : ℕ) → settling (readings s (rowOf m)) ≡ Settled d → d ≡ sentCommon u
+    settled-sent d e = ⊎-elim (λ a. settles-nothing-else u s (a .but) (a .others) d (a .two) e) (λ o. only-sent o d e) (p .headers)
+
+    module _ (codebook thresholds : List ℤ) (index report : List ℕ) (given : Summary) (e : reading s codebook thresholds index report .answer ≡ Read given) where
+      w : A.WasRead s codebook thresholds index report [] given
+      w = A.was-read s codebook thresholds index report [] given e
+
+      common : w .common ≡ sentCommon u
+      common = settled-sent (w .common) (sym (ap (λ (ps : List ℕ). settling (readings s ps)) cut) ∙ w .reader-accepts .fitting .settles)
+
+      proof : AsSent given
+      proof = record {
+        rate = ap (λ (g : Summary). g .rate) (w .given-is) ∙ ap rateOf common ∙ rate-sent u;
+        kind = ap (λ (g : Summary). g .kind) (w .given-is) ∙ ap typeOf common ∙ kind-sent u;
+        multiframes = ap (λ (g : Summary). g .multiframes) (w .given-is) ∙ ap length cut ∙ every-length 0 m;
+      }
+
+pub never-misled : (u : Utterance) (s : List ℕ) → Premises u s → (codebook thresholds : List ℤ) (index report : List ℕ) (given : Summary)
+    → reading s codebook thresholds index report .answer ≡ Read given → AsSent u s given
+never-misled = proof

@@ -1,0 +1,209 @@
+-- A LIST WITHOUT A WARNING CAN BE TRUSTED. "Under demand 3's damage, a reading that succeeds with all notes 0 is of the image as written:
+-- settings, frames, speech and end are those sent. Neither premise of demand 3 is needed." Nor are its limits on headers: it is enough that one
+-- of them has at most five flips, since a header with note 0 is a codeword and two codewords are six bits apart.
+-- Assumes nothing.
+use mathlib.Core.Path.{_≡_, sym, ap, ap₂, _∙_, subst}
+use mathlib.Core.List.{List, [], _∷_}
+use Prim.Native.Nat.{ℕ, _+_, _*_, _/_, _%_, _≤_, _<_}
+use native.Mathlib.Nat.{mod-eq-of-lt}
+use native.Mathlib.Decide.{ℕ-discrete}
+use native.Mathlib.Omega.{arith}
+use lib.Bits.{xor-zero-r}
+use lib.Count.{ones-le}
+use lib.Dec.{lit<}
+use lib.IntN.{ℤ}
+use lib.ListN.{length, getD, replicate}
+use Rattle.lists.specs.Parts.{over}
+use Rattle.lists.specs.Rows.{each-at}
+use Rattle.layout.specs.Layout.{multiframePairs, multiframeOctets, indexOctets, reportOctets}
+use Rattle.packet.specs.Packet.{packetOf}
+use Rattle.header_code.specs.Code.{codeword, flipsTo}
+use Rattle.header_code.specs.Code.Distance.{far-from-one}
+use Rattle.header.specs.Message.{message, rateOf, typeOf}
+use Rattle.header.specs.Message.Laws.{message-lt, rate-lt, type-lt, rate-back, type-back}
+use Rattle.header.specs.Reading as H
+use Rattle.header.specs.Reading.Laws.{flips-of}
+use Rattle.header.specs.declared.Header.{Header}
+use Rattle.header.specs.declared.Header.the-variants.{Lost}
+use Rattle.cutting.specs.Cutting.{Cutting, cutting, syncFirst, syncSecond}
+use Rattle.cutting.specs.Laws.{every-length}
+use Rattle.settling.specs.Settling.{readings, headerNote}
+use Rattle.pairs.specs.Pairs.{pairCount, pairNotes}
+use Rattle.pairs.specs.Laws.{length-notes}
+use Rattle.reader.specs.Reading.{Outcome, outcome, reading}
+use Rattle.reader.specs.declared.Summary.{Summary}
+use Rattle.reader.specs.declared.Answer.{Answer}
+use Rattle.reader.specs.declared.Answer.the-variants.{Read, Refused}
+use Rattle.writer.specs.Laws.{few-multiframes, length-image}
+use Rattle.writer.specs.Made.{syncIn, wordIn, packetIn}
+use Rattle.writer.specs.Image.{image-sync, Utterance, multiframesOf, imageOf, is-accepted, rate-small, kind-small}
+use Rattle.demands.specs.Damage.{DamageUpTo, Damage, headerBits, loosened, headerFlips, sentMessage, header-near, Fate, whole, hit, fate}
+use Rattle.demands.specs.Whole.{rowOf, Lent, readings-are, cut-is, headerNoteIn, pairNoteIn, header-note-is, pair-note-is}
+use Rattle.demands.specs.Received.{touched-note}
+use Rattle.demands.specs.Noteless.{clean-header, is-image}
+use Rattle.demands.specs.ReadsBack.{spoken, padded, reads-image}
+use Rattle.demands.specs.WritesAgain as A
+
+-- ---- "a reading that succeeds with all notes 0"
+module _ (s : List ℕ) (codebook thresholds : List ℤ) (index report : List ℕ) (given : Summary) where
+  abbrev pub result : Outcome
+  result = reading s codebook thresholds index report
+
+  pub record WithoutWarning : Type 0 where
+    pub succeeds : result .answer ≡ Read given
+    pub notes-0 : (i : ℕ) → i < reportOctets * given .multiframes → getD (result .report) i 0 ≡ 0
+
+-- ---- "is of the image as written: settings, frames, speech and end are those sent"
+module _ (u : Utterance) (s : List ℕ) (codebook thresholds : List ℤ) (index report : List ℕ) (given : Summary) where
+  pub record AsWritten : Type 0 where
+    pub image : s ≡ imageOf u
+    -- the same settings, m, speech equal to n, no bad pair, end 1
+    pub sent : given ≡ spoken u
+    -- the frames as written and zeros after them
+    pub frames : result s codebook thresholds index report given .index ≡ over index 0 (indexOctets * multiframesOf u) (padded u)
+    pub notes : result s codebook thresholds index report given .report ≡ over report 0 (reportOctets * multiframesOf u) (replicate (reportOctets * multiframesOf u) 0)
+
+-- demand 3's damage to pairs, any damage to headers but for one, which has at most five flips
+pub record Premises (u : Utterance) (s : List ℕ) : Type 0 where
+  pub damage : DamageUpTo headerBits (multiframesOf u) (imageOf u) s
+  pub header : ℕ
+  pub within : header < multiframesOf u
+  pub five : headerFlips (imageOf u) s header ≤ 5
+
+module _ (u : Utterance) (s : List ℕ) (p : Premises u s) (codebook thresholds : List ℤ) (index report : List ℕ) (given : Summary)
+    (x : WithoutWarning s codebook thresholds index report given) where
+  abbrev m : ℕ
+  m = multiframesOf u
+
+  abbrev d : DamageUpTo headerBits m (imageOf u) s
+  d = p .damage
+
+  size : length s ≡ multiframeOctets * m
+  size = d .size ∙ length-image (u .rate) (u .kind) (u .indices) m
+
+  syncs : (k : ℕ) → k < m → syncIn s k ≡ syncFirst ∷ syncSecond ∷ []
+  syncs k h = d .syncs k h ∙ image-sync (u .rate) (u .kind) (u .indices) m k h
+
+  cut : cutting s .places ≡ rowOf m
+  cut = ap (λ (w : Cutting). w .places) (cut-is s m (few-multiframes (u .rate) (u .kind) (u .indices) (is-accepted u .sizes)) size syncs)
+
+  w : A.WasRead s codebook thresholds index report [] given
+  w = A.was-read s codebook thresholds index report [] given (x .succeeds)
+
+  abbrev places : List ℕ
+  places = cutting s .places
+
+  abbrev ns : List ℕ
+  ns = pairNotes s places codebook thresholds
+
+  abbrev c : ℕ
+  c = w .common
+
+  rows : length places ≡ m
+  rows = ap length cut ∙ every-length 0 m
+
+  count : given .multiframes ≡ m
+  count = ap (λ (g : Summary). g .multiframes) (w .given-is) ∙ rows
+
+  notes-size : length ns ≡ pairCount places
+  notes-size = length-notes s places codebook thresholds
+
+  -- each header is a codeword with the settled bits
+  settled-word : (k : ℕ) → k < m → wordIn s k ≡ codeword (message (rateOf c) (typeOf c) (k + 1) 0)
+  settled-word k h =
+      let r : getD (readings s places) k Lost ≡ H.reading (wordIn s k) =
+      ap (λ (l : List ℕ). getD (readings s l) k Lost) cut ∙ ap (λ (l : List Header). getD l k Lost) (readings-are s m) ∙ each-at (λ k. H.reading (wordIn s k)) m k Lost h in
+      let z : headerNote c k (getD (readings s places) k Lost) ≡ 0 =
+      sym (ap (λ (o : Outcome). headerNoteIn (o .report) k) (w .result-is) ∙ header-note-is s places ns report c (reportOctets * length places) notes-size k (omega (arith, rows)))
+      ∙ x .notes-0 (13 * k) (omega (arith, count)) in
+      clean-header c k (wordIn s k) (w .reader-accepts .fitting .usable .exp) (ap (headerNote c k) (sym r) ∙ z)
+
+  -- of which one is that near to the one sent
+  same-message : message (rateOf c) (typeOf c) (p .header + 1) 0 ≡ sentMessage u (p .header)
+  same-message =
+      let k = p .header in
+      let a = message (rateOf c) (typeOf c) (k + 1) 0 in
+      let z : flipsTo (wordIn s k) a ≡ 0 =
+      ap (λ (x : ℕ). flipsTo x a) (settled-word k (p .within) ∙ sym (xor-zero-r (codeword a))) ∙ flips-of a 0 ∙ omega (arith, ones-le 0 0 (lit< tt)) in
+      elim (ℕ-discrete a (sentMessage u k)) [
+        | yes y ↦ y
+        | no n ↦
+            absurd
+            (omega (
+              arith,
+              z,
+              p .five,
+              header-near u s k (p .within),
+              far-from-one (wordIn s k) a (sentMessage u k) (message-lt (rateOf c) (typeOf c) (k + 1) 0) (message-lt (u .rate) (u .kind) (k + 1) 0) n,
+            ))
+      ]
+
+  rate : rateOf c ≡ u .rate
+  rate =
+      sym (rate-back (rateOf c) (typeOf c) (p .header + 1) 0 ∙ mod-eq-of-lt (rate-lt c)) ∙ ap rateOf same-message
+      ∙ rate-back (u .rate) (u .kind) (p .header + 1) 0 ∙ mod-eq-of-lt (rate-small u)
+
+  kind : typeOf c ≡ u .kind
+  kind =
+      sym (type-back (rateOf c) (typeOf c) (p .header + 1) 0 ∙ mod-eq-of-lt (type-lt c)) ∙ ap typeOf same-message
+      ∙ type-back (u .rate) (u .kind) (p .header + 1) 0 ∙ mod-eq-of-lt (kind-small u)
+
+  word : (k : ℕ) → k < m → wordIn s k ≡ codeword (message (u .rate) (u .kind) (k + 1) 0)
+  word k h = settled-word k h ∙ ap₂ (λ (a b : ℕ). codeword (message a b (k + 1) 0)) rate kind
+
+  -- each packet is the one sent: a damaged one has note 1
+  packet : (q : ℕ) → q < multiframePairs * m → packetOf (u .indices) q ≡ packetIn s q
+  packet q h = by (fate u s d q h)
+    where
+      z : getD ns q 0 ≡ 0
+      z =
+          sym (ap (λ (o : Outcome). pairNoteIn (o .report) q) (w .result-is) ∙ pair-note-is s places ns report c (reportOctets * length places) notes-size q (omega (arith, rows)))
+          ∙ x .notes-0 (13 * (q / 12) + 1 + q % 12) (omega (arith, count))
+
+      by : Fate u s d q h → packetOf (u .indices) q ≡ packetIn s q
+      by (whole a r) = sym a
+      by (hit t r) =
+          let one : getD ns q 0 ≡ 1 = ap (λ (l : List ℕ). getD (pairNotes s l codebook thresholds) q 0) cut ∙ touched-note u s d codebook thresholds q h t in
+          let y : _≡_ {A = ℕ} 0 1 = sym z ∙ one in absurd (omega arith)
+
+  is-sent : s ≡ imageOf u
+  is-sent = sym (is-image s m size (d .small) syncs (u .rate) (u .kind) (u .indices) word packet)
+
+  lent : Lent m codebook thresholds index report
+  lent = record {
+    codebook-size = w .reader-accepts .codebook-size;
+    thresholds-size = w .reader-accepts .thresholds-size;
+    index-room = subst (λ (n : ℕ). indexOctets * n ≤ length index) rows (w .reader-accepts .fitting .roomy .index-room);
+    report-room = subst (λ (n : ℕ). reportOctets * n ≤ length report) rows (w .reader-accepts .fitting .roomy .report-room);
+  }
+
+  read-is : result s codebook thresholds index report given
+      ≡ outcome (Read (spoken u)) (over index 0 (indexOctets * m) (padded u)) (over report 0 (reportOctets * m) (replicate (reportOctets * m) 0))
+  read-is = ap (λ (i : List ℕ). reading i codebook thresholds index report) is-sent ∙ reads-image u codebook thresholds index report lent
+
+  proof : AsWritten u s codebook thresholds index report given
+  proof = record {
+    image = is-sent;
+    sent = same-answer given (spoken u) (sym (x .succeeds) ∙ ap (λ (o : Outcome). o .answer) read-is);
+    frames = ap (λ (o : Outcome). o .index) read-is;
+    notes = ap (λ (o : Outcome). o .report) read-is;
+  }
+    where
+      summaryIn : Summary → Answer → Summary
+      summaryIn a (Read b) = b
+      summaryIn a (Refused b) = a
+
+      same-answer : (a b : Summary) → Read a ≡ Read b → a ≡ b
+      same-answer a b e = ap (summaryIn a) e
+
+-- TRUSTED BY ONE HEADER
+pub trusted-by-one : (u : Utterance) (s : List ℕ) → Premises u s → (codebook thresholds : List ℤ) (index report : List ℕ) (given : Summary)
+    → WithoutWarning s codebook thresholds index report given → AsWritten u s codebook thresholds index report given
+trusted-by-one = proof
+
+-- TRUSTED: demand 3's damage
+pub trusted : (u : Utterance) (s : List ℕ) → Damage (multiframesOf u) (imageOf u) s → (codebook thresholds : List ℤ) (index report : List ℕ) (given : Summary)
+    → WithoutWarning s codebook thresholds index report given → AsWritten u s codebook thresholds index report given
+trusted u s d =
+    trusted-by-one u s
+    (record { damage = loosened (lit< tt) d; header = 0; within = omega arith; five = let l = d .headers 0 (omega arith) in omega arith })

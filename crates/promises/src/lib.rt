@@ -1,0 +1,1 @@
+// What the yards are told, as theorems over the demands; no code.
