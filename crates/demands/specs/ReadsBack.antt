@@ -23,7 +23,7 @@ use Rattle.lists.specs.Parts.{part, over, length-part}
 use Rattle.lists.specs.Rows.{joined, same-joined}
 use Rattle.layout.specs.Layout.{frameIndices, multiframeFrames, multiframePairs, indexOctets, reportOctets, firstPair}
 use Rattle.packet.specs.Packet.{frameAt}
-use Rattle.packet.specs.Laws.{getD-row}
+use Rattle.packet.specs.Laws.{length-row, getD-row}
 use Rattle.cutting.specs.Laws.{every-length}
 use Rattle.header.specs.Message.{rateOf, typeOf}
 use Rattle.header.specs.declared.Header.the-variants.{Lost}
@@ -106,6 +106,13 @@ module _ (u : Utterance) where
   -- ---- speech and end
   frame-octet : (k j : ℕ) → k < multiframeFrames * m → j < frameIndices → getD (part (frameIndices * k) frameIndices (padded u)) j 0 ≡ getD (u .indices) (frameIndices * k + j) 0
   frame-octet k j h l = getD-take 7 (drop (7 * k) (padded u)) j 0 l ∙ getD-drop (7 * k) (padded u) j 0 ∙ padded-at (7 * k + j)
+
+  pub padded-frame : (k : ℕ) → k < multiframeFrames * multiframesOf u → part (frameIndices * k) frameIndices (padded u) ≡ frameAt (u .indices) k
+  padded-frame k h =
+      let f = part (7 * k) 7 (padded u) in
+      let lf : length f ≡ 7 = length-part (padded u) (7 * k) 7 (omega (arith, length-padded)) in
+      let lr : length (frameAt (u .indices) k) ≡ 7 = length-row (u .indices) (7 * k) 7 in
+      ext-getD 0 f (frameAt (u .indices) k) (lf ∙ sym lr) (λ j l. let b : j < 7 = omega arith in frame-octet k j h b ∙ sym (getD-row (u .indices) (7 * k) 7 j b))
 
   -- past the last frame stand zero frames
   zero-past : (k : ℕ) → n ≤ k → k < multiframeFrames * m → zeroFrame (padded u) k ≡ true

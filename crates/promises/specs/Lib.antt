@@ -1,3 +1,3 @@
 pub mod Misled
 pub mod Trusted
--- pub mod Heard
+pub mod Heard
