@@ -41,6 +41,29 @@ use Rattle.demands.specs.Whole.{rowOf, Lent, reads-as, headerNoteIn, pai
 use Rattle.demands.specs.Headers.{Settling, enough, settles, note-of-header, sentCommon, rate-sent, kind-sent, exp-sent}
 use Rattle.demands.specs.Received.{BadPair, ByRule, Tells, is-so, not-so, Count, tells-rule, tells-bad, touched-note, note-one, note-two, bad-counted, frames-kept}
 
+-- what a success answer and both buffers have to say of a damaged image s
+pub record Names (u : Utterance) (s : List ℕ) (codebook thresholds : List ℤ) (given : Summary) (index report : List ℕ) : Type 0 where
+  -- "gives the settings sent and m"
+  pub rate : given .rate ≡ u .rate
+  pub kind : given .kind ≡ u .kind
+  pub multiframes : given .multiframes ≡ multiframesOf u
+  -- "the note of every damaged pair is 1", and of no other
+  pub damaged : (q : ℕ) → q < pairsOf u → (pairNoteIn report q ≡ 1) ↔ Touched (imageOf u) s q
+  -- "a pair that is not damaged has a note other than 0 exactly if 01's consistency rule makes it bad"
+  pub others : (q : ℕ) → q < pairsOf u → (Touched (imageOf u) s q → ⊥) → (pairNoteIn report q ≡ 0 → ⊥) ↔ ByRule u s codebook thresholds q
+  -- and that note is 2
+  pub ruled : (q : ℕ) → q < pairsOf u → (Touched (imageOf u) s q → ⊥) → ByRule u s codebook thresholds q → pairNoteIn report q ≡ 2
+  -- `bad` is the number of these pairs
+  pub counted : Count (BadPair u s codebook thresholds) (pairsOf u) (given .bad)
+  -- "each header note is the number of bits flipped there"
+  pub flips : (k : ℕ) → k < multiframesOf u → headerNoteIn report k ≡ headerFlips (imageOf u) s k
+  -- "and each frame of the pairs with note 0 stands at its place in the index buffer as it was written"
+  pub frames : (k : ℕ) → k < frameCount (u .indices) → pairNoteIn report (pairOf k) ≡ 0
+      → part (frameIndices * k) frameIndices index ≡ part (frameIndices * k) frameIndices (u .indices)
+  -- "zeros where it was padding"
+  pub padding : (k : ℕ) → frameCount (u .indices) ≤ k → k < multiframeFrames * multiframesOf u → pairNoteIn report (pairOf k) ≡ 0
+      → part (frameIndices * k) frameIndices index ≡ replicate frameIndices 0
+
 module _ (u : Utterance) (s : List ℕ) (codebook thresholds : List ℤ) (index report : List ℕ) where
   pub record Premises : Type 0 where
     -- "every such damage"
@@ -77,28 +100,10 @@ module _ (u : Utterance) (s : List ℕ) (codebook thresholds : List ℤ) (index 
   result = reading s codebook thresholds index report
 
   pub record Named : Type 0 where
-    -- "the reader succeeds, gives the settings sent and m"
+    -- "the reader succeeds"
     pub given : Summary
     pub succeeds : result .answer ≡ Read given
-    pub rate : given .rate ≡ u .rate
-    pub kind : given .kind ≡ u .kind
-    pub multiframes : given .multiframes ≡ multiframesOf u
-    -- "the note of every damaged pair is 1", and of no other
-    pub damaged : (q : ℕ) → q < pairsOf u → (pairNoteIn (result .report) q ≡ 1) ↔ Touched (imageOf u) s q
-    -- "a pair that is not damaged has a note other than 0 exactly if 01's consistency rule makes it bad"
-    pub others : (q : ℕ) → q < pairsOf u → (Touched (imageOf u) s q → ⊥) → (pairNoteIn (result .report) q ≡ 0 → ⊥) ↔ ByRule u s codebook thresholds q
-    -- and that note is 2
-    pub ruled : (q : ℕ) → q < pairsOf u → (Touched (imageOf u) s q → ⊥) → ByRule u s codebook thresholds q → pairNoteIn (result .report) q ≡ 2
-    -- `bad` is the number of these pairs
-    pub counted : Count (BadPair u s codebook thresholds) (pairsOf u) (given .bad)
-    -- "each header note is the number of bits flipped there"
-    pub flips : (k : ℕ) → k < multiframesOf u → headerNoteIn (result .report) k ≡ headerFlips (imageOf u) s k
-    -- "and each frame of the pairs with note 0 stands at its place in the index buffer as it was written"
-    pub frames : (k : ℕ) → k < frameCount (u .indices) → pairNoteIn (result .report) (pairOf k) ≡ 0
-        → part (frameIndices * k) frameIndices (result .index) ≡ part (frameIndices * k) frameIndices (u .indices)
-    -- "zeros where it was padding"
-    pub padding : (k : ℕ) → frameCount (u .indices) ≤ k → k < multiframeFrames * multiframesOf u → pairNoteIn (result .report) (pairOf k) ≡ 0
-        → part (frameIndices * k) frameIndices (result .index) ≡ replicate frameIndices 0
+    pub names : Names u s codebook thresholds given (result .index) (result .report)
 
   module _ (p : Wider) where
     abbrev m : ℕ
@@ -216,20 +221,22 @@ module _ (u : Utterance) (s : List ℕ) (codebook thresholds : List ℤ) (index 
     proof = record {
       given = summary s (rowOf m) ns (sentCommon u);
       succeeds = ap (λ (o : Outcome). o .answer) read-is;
-      rate = rate-sent u;
-      kind = kind-sent u;
-      multiframes = rows;
-      damaged = λ q h. (
-        (λ e. note-one u s d codebook thresholds q h (sym (pair-note q h) ∙ e)),
-        (λ t. pair-note q h ∙ touched-note u s d codebook thresholds q h t),
-      );
-      others = rule;
-      ruled = λ q h n r. pair-note q h ∙ note-two u s d codebook thresholds q h n r;
-      counted = bad-counted u s d codebook thresholds;
-      flips = header-note;
-      frames = λ k h z.
-          frame-kept k (omega arith) z ∙ row-inside (u .indices) (frameIndices * k) frameIndices (omega (arith, whole-frames u));
-      padding = λ k l h z. frame-kept k h z ∙ row-past (u .indices) (frameIndices * k) frameIndices (omega (arith, whole-frames u));
+      names = record {
+        rate = rate-sent u;
+        kind = kind-sent u;
+        multiframes = rows;
+        damaged = λ q h. (
+          (λ e. note-one u s d codebook thresholds q h (sym (pair-note q h) ∙ e)),
+          (λ t. pair-note q h ∙ touched-note u s d codebook thresholds q h t),
+        );
+        others = rule;
+        ruled = λ q h n r. pair-note q h ∙ note-two u s d codebook thresholds q h n r;
+        counted = bad-counted u s d codebook thresholds;
+        flips = header-note;
+        frames = λ k h z.
+            frame-kept k (omega arith) z ∙ row-inside (u .indices) (frameIndices * k) frameIndices (omega (arith, whole-frames u));
+        padding = λ k l h z. frame-kept k h z ∙ row-past (u .indices) (frameIndices * k) frameIndices (omega (arith, whole-frames u));
+      };
     }
 
 pub names-wider : (u : Utterance) (s : List ℕ) (codebook thresholds : List ℤ) (index report : List ℕ)

@@ -2,7 +2,7 @@
 -- headers and streams stand in a row at any bit, and adds the bits outside and the places tested; so demand 3 is kept at any bit.
 -- Assumes nothing.
 use Prim.Native.Nat.{ℕ, _+_, _*_, _≤_, _<_}
-use mathlib.Core.Path.{_≡_, sym, ap, ap₂, _∙_}
+use mathlib.Core.Path.{_≡_, refl, sym, ap, ap₂, _∙_, subst}
 use mathlib.Core.List.{List, [], _∷_, _++_}
 use mathlib.Core.Bool.{Bool, false}
 use native.Mathlib.Omega.{arith}
@@ -18,8 +18,12 @@ use Rattle.header.specs.Reading.{reading}
 use Rattle.cutting.specs.Cutting.{syncFirst, syncSecond}
 use Rattle.hunt.specs.Hunt.{fewestMatches, syncBits, multiframeBits, sync, matches, passes, searched}
 use Rattle.reader.specs.Reading as R
+use Rattle.reader.specs.declared.Summary.{Summary}
+use Rattle.reader.specs.declared.Answer.{Answer}
 use Rattle.hunting.specs.Hunting as G
 use Rattle.hunting.specs.Hunting.{outsideOf, counted, huntingReading}
+use Rattle.hunting.specs.declared.Counted.{Counted}
+use Rattle.hunting.specs.declared.Answer.the-variants.{Read}
 use Rattle.writer.specs.Laws.{few-multiframes, length-image}
 use Rattle.writer.specs.Made.{Small, syncIn, wordIn, streamIn, framed, made-again}
 use Rattle.writer.specs.Image.{image-sync, Utterance, multiframesOf, pairsOf, imageOf, is-accepted}
@@ -102,11 +106,13 @@ module _ (u : Utterance) (img s : List ℕ) (from at least : ℕ) (codebook thre
   abbrev pub result : G.Outcome
   result = huntingReading s from least codebook thresholds index report
 
-  -- what the octet reader gives of the image is all that demand 3 says, and the hunting reader gives it too
+  -- what the octet reader says of the damaged image, demand 3's sentences, is what is said here, with the bits outside and the places tested
   pub record Named : Type 0 where
-    pub of-image : N.Named u img codebook thresholds index report
-    pub here : result
-        ≡ counted (N.result u img codebook thresholds index report) (outsideOf (bits s) from (multiframesOf u)) (testedInRow (bits s) from at (multiframesOf u))
+    pub given : Counted
+    pub succeeds : result .answer ≡ Read given
+    pub names : N.Names u img codebook thresholds (given .summary) (result .index) (result .report)
+    pub outside : given .outside ≡ outsideOf (bits s) from (multiframesOf u)
+    pub tested : given .tested ≡ testedInRow (bits s) from at (multiframesOf u)
 
   module _ (p : Premises) where
     abbrev d : Damage (multiframesOf u) (imageOf u) img
@@ -123,15 +129,26 @@ module _ (u : Utterance) (img s : List ℕ) (from at least : ℕ) (codebook thre
       none-behind = p .none-behind;
     }
 
-    pub names-at-any-bit : Named
-    names-at-any-bit = record {
-      of-image = N.names-the-damage u img codebook thresholds index report (p .of-image);
-      here = as-read img (multiframesOf u) (damaged-cut u img d) s at (p .there) from least codebook thresholds index report (p .low)
-          (at-most-all (syncAt (bits s) (placeInRow at 0)) least (p .syncs 0 (omega arith)))
-          (p .of-image .lent .codebook-size) (p .of-image .lent .thresholds-size) in-a-row (omega arith)
-          (few-multiframes (u .rate) (u .kind) (u .indices) (is-accepted u .sizes));
-    }
+    -- the same as the octet reader says of the image
+    pub read-there : result
+        ≡ counted (R.reading img codebook thresholds index report) (outsideOf (bits s) from (multiframesOf u)) (testedInRow (bits s) from at (multiframesOf u))
+    read-there =
+        as-read img (multiframesOf u) (damaged-cut u img d) s at (p .there) from least codebook thresholds index report (p .low)
+        (at-most-all (syncAt (bits s) (placeInRow at 0)) least (p .syncs 0 (omega arith)))
+        (p .of-image .lent .codebook-size) (p .of-image .lent .thresholds-size) in-a-row (omega arith)
+        (few-multiframes (u .rate) (u .kind) (u .indices) (is-accepted u .sizes))
 
-    -- so the note of every damaged pair is 1
-    pub damaged-noted : (q : ℕ) → q < pairsOf u → Touched (imageOf u) img q → pairNoteIn (result .report) q ≡ 1
-    damaged-noted q h t = ap (λ (o : G.Outcome). pairNoteIn (o .report) q) (names-at-any-bit .here) ∙ names-at-any-bit .of-image .damaged q h .1 t
+    pub names-at-any-bit : Named
+    names-at-any-bit =
+        let n = N.names-the-damage u img codebook thresholds index report (p .of-image) in
+        record {
+          given = record { summary = n .given; outside = outsideOf (bits s) from (multiframesOf u); tested = testedInRow (bits s) from at (multiframesOf u) };
+          succeeds = ap (λ (o : G.Outcome). o .answer) read-there
+              ∙ ap (λ (a : Answer). G.withCounts a (outsideOf (bits s) from (multiframesOf u)) (testedInRow (bits s) from at (multiframesOf u))) (n .succeeds);
+          names = ap-names (n .given) (sym read-there) (n .names);
+          outside = refl;
+          tested = refl;
+        }
+      where
+        ap-names : (g : Summary) {o r : G.Outcome} → o ≡ r → N.Names u img codebook thresholds g (o .index) (o .report) → N.Names u img codebook thresholds g (r .index) (r .report)
+        ap-names g e = subst (λ (x : G.Outcome). N.Names u img codebook thresholds g (x .index) (x .report)) e

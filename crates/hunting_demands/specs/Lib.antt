@@ -5,3 +5,4 @@ pub mod Laid
 pub mod Hurt
 pub mod Met
 pub mod Needed
+pub mod Radio

@@ -53,7 +53,7 @@ use Rattle.writer.specs.Made.{syncIn, wordIn, streamIn, packetIn, made-packet}
 use Rattle.writer.specs.Image.{image-packet, Utterance, multiframesOf, imageOf, is-accepted, rate-not-2}
 use Rattle.demands.specs.Damage.{Touched, sentMessage, differs}
 use Rattle.demands.specs.Whole.{Lent, rowOf, readings-are, cut-is, pairNoteIn, front-at, refuses-16}
-use Rattle.demands.specs.Received.{sentCommon, common-sent, rate-sent, exp-sent}
+use Rattle.demands.specs.Headers.{sentCommon, common-sent, rate-sent, exp-sent}
 use Rattle.demands.specs.Instances.{lone, says1}
 use Rattle.demands.specs.Met.{zeroBook, zeroThresholds, indexFor, reportFor, lent-zeros, distance, burstAt, doubleAt, hurtWord, hurtStream, hurtImage, hurts, names-met, says24, two-multiframes}
 use Rattle.demands.specs.Needed.{says1At11}
@@ -595,7 +595,7 @@ module _ (u : Utterance) (two : 2 ≤ multiframesOf u) (least : ℕ) (low : fewe
   }
 
   noted : pairNoteIn (huntingReading img 0 least zeroBook zeroThresholds (indexFor m) (reportFor m) .report) 0 ≡ 1
-  noted = A.damaged-noted u img img 0 0 least zeroBook zeroThresholds (indexFor m) (reportFor m) named 0 (omega arith) first-touched
+  noted = A.names-at-any-bit u img img 0 0 least zeroBook zeroThresholds (indexFor m) (reportFor m) named .names .damaged 0 (omega arith) .1 first-touched
 
   named-others : (p : Premise) → (p ≡ Streams → ⊥) → Holds u img 0 0 least zeroBook zeroThresholds (indexFor m) (reportFor m) p
   named-others Begins other = lit≤ tt

@@ -1,0 +1,114 @@
+-- NAMES THE DAMAGE AT ANY BIT, said of the bits received: an accepted utterance stands at any bit, up to 16 - T bits are flipped in each sync, at
+-- most two in each header, and its packets are damaged as demand 3 says; no place before it and none behind it passes the test. Then the hunting
+-- reader says of it all that demand 3 asks. And a list without a warning can be trusted there too.
+-- Assumes nothing.
+use Prim.Native.Nat.{ℕ, _+_, _*_, _/_, _≤_, _<_}
+use mathlib.Core.Path.{_≡_, sym, ap, _∙_, subst}
+use mathlib.Core.List.{List}
+use mathlib.Core.Bool.{Bool, false}
+use mathlib.Core.Logic.{_⊎_, inl, inr, ⊎-elim}
+use native.Mathlib.Omega.{arith}
+use lib.Bits.{bitXor}
+use lib.Count.{ones}
+use lib.IntN.{ℤ}
+use lib.ListN.{length}
+use Rattle.lists.specs.Parts.{part}
+use Rattle.layout.specs.Layout.{packetBits, packetStart, multiframeOf}
+use Rattle.bits.specs.Bits.{bits}
+use Rattle.crc.specs.Crc.{Damaged}
+use Rattle.hunt.specs.Hunt.{fewestMatches, multiframeBits, sync, matches, passes, searched}
+use Rattle.hunting.specs.Hunting as G
+use Rattle.writer.specs.Laws.{length-image}
+use Rattle.writer.specs.Made.{wordIn, packetIn}
+use Rattle.writer.specs.Image as I
+use Rattle.writer.specs.Image.{Utterance, multiframesOf, pairsOf, imageOf}
+use Rattle.demands.specs.Damage.{Damage, headerFlips}
+use Rattle.demands.specs.Whole.{Lent}
+use Rattle.demands.specs.Received.{BadPair}
+use Rattle.hunting_demands.specs.Standing.{placeInRow, row, syncAt, streamAt, image-size, image-small, image-sync, image-word, image-stream}
+use Rattle.hunting_demands.specs.AsRead.{Stands}
+use Rattle.hunting_demands.specs.AsRead as A
+use Rattle.hunting_demands.specs.HuntsBack.{receivedFlips}
+
+-- packet q of multiframes that stand from bit `at` on
+abbrev pub receivedPacket : List ℕ → ℕ → ℕ → List Bool
+receivedPacket s at q = part (packetStart q) packetBits (streamAt (bits s) (placeInRow at (multiframeOf q)))
+
+-- the multiframes that stand there, put together on octets
+abbrev pub together : Utterance → List ℕ → ℕ → List ℕ
+together u s at = G.imageOf s (row at (multiframesOf u))
+
+-- an utterance received at bit `at`, searched from bit `from` on, where a sync must match in `least` bits
+pub record OnAir (u : Utterance) (s : List ℕ) (from at least : ℕ) : Type 0 where
+  -- "T is the caller's, 12 to 16"
+  pub low : fewestMatches ≤ least
+  pub begins : from ≤ at
+  pub inside : at + multiframeBits * multiframesOf u ≤ searched (bits s)
+  -- "up to 16 - T flips in each sync"
+  pub syncs : (k : ℕ) → k < multiframesOf u → least ≤ matches (syncAt (bits s) (placeInRow at k)) sync
+  -- "at most two bits flipped in each header"
+  pub headers : (k : ℕ) → k < multiframesOf u → receivedFlips u s at k ≤ 2
+  -- demand 3's damage to the packets
+  pub packets : (q : ℕ) → q < pairsOf u → (receivedPacket s at q ≡ packetIn (imageOf u) q) ⊎ Damaged (packetIn (imageOf u) q) (receivedPacket s at q)
+  -- "if no place before it and none behind it fits"
+  pub none-before : (t : ℕ) → from ≤ t → t < at → passes least (bits s) t ≡ false
+  pub none-behind : (t : ℕ) → at + multiframeBits * multiframesOf u ≤ t → t + multiframeBits ≤ searched (bits s) → passes least (bits s) t ≡ false
+
+module _ (u : Utterance) (s : List ℕ) (from at least : ℕ) (o : OnAir u s from at least) where
+  abbrev m : ℕ
+  m = multiframesOf u
+
+  -- put together they are the image with that damage and whole syncs
+  pub flips-there : (k : ℕ) → k < multiframesOf u → headerFlips (imageOf u) (together u s at) k ≡ receivedFlips u s at k
+  flips-there k h = ap (λ (w : ℕ). ones (bitXor w (wordIn (imageOf u) k))) (image-word s at m (o .inside) k h)
+
+  pub packet-there : (q : ℕ) → q < pairsOf u → packetIn (together u s at) q ≡ receivedPacket s at q
+  packet-there q h = ap (part (packetStart q) packetBits) (image-stream s at m (o .inside) (q / 12) (omega arith))
+
+  pub on-air : Damage (multiframesOf u) (imageOf u) (together u s at)
+  on-air = record {
+    size = image-size s at m (o .inside) ∙ sym (length-image (u .rate) (u .kind) (u .indices) m);
+    small = image-small s at m (o .inside);
+    syncs = λ k h. image-sync s at m (o .inside) k h ∙ sym (I.image-sync (u .rate) (u .kind) (u .indices) m k h);
+    headers = λ k h. subst (λ (n : ℕ). n ≤ 2) (sym (flips-there k h)) (o .headers k h);
+    packets = λ q h.
+        let e = sym (packet-there q h) in
+        ⊎-elim (λ x. inl (sym e ∙ x)) (λ x. inr (subst (Damaged (packetIn (imageOf u) q)) e x)) (o .packets q h);
+  }
+
+  there : Stands (together u s at) m s at
+  there = record { words = λ k h. sym (image-word s at m (o .inside) k h); streams = λ k h. sym (image-stream s at m (o .inside) k h) }
+
+  module _ (codebook thresholds : List ℤ) (index report : List ℕ) where
+    pub record Premises : Type 0 where
+      -- "two multiframes or more, or an untouched only header"
+      pub settled : (2 ≤ multiframesOf u) ⊎ (receivedFlips u s at 0 ≡ 0)
+      -- "and one pair not bad"
+      pub pair : ℕ
+      pub within : pair < pairsOf u
+      pub not-bad : BadPair u (together u s at) codebook thresholds pair → ⊥
+      -- 01's tables and room
+      pub lent : Lent (multiframesOf u) codebook thresholds index report
+
+    of-radio : Premises → A.Premises u (together u s at) s from at least codebook thresholds index report
+    of-radio p = record {
+      of-image = record {
+        damage = on-air;
+        headers = ⊎-elim inl (λ e. inr (flips-there 0 (omega arith) ∙ e)) (p .settled);
+        pair = p .pair;
+        within = p .within;
+        not-bad = p .not-bad;
+        lent = p .lent;
+      };
+      there = there;
+      begins = o .begins;
+      inside = o .inside;
+      syncs = o .syncs;
+      none-before = o .none-before;
+      none-behind = o .none-behind;
+      low = o .low;
+    }
+
+    -- NAMES THE DAMAGE ON AIR
+    pub names-on-air : Premises → A.Named u (together u s at) s from at least codebook thresholds index report
+    names-on-air p = A.names-at-any-bit u (together u s at) s from at least codebook thresholds index report (of-radio p)
