@@ -1,6 +1,6 @@
 -- NAMES THE DAMAGE AT ANY BIT, said of the bits received: an accepted utterance stands at any bit, up to 16 - T bits are flipped in each sync, at
 -- most two in each header, and its packets are damaged as demand 3 says; no place before it and none behind it passes the test. Then the hunting
--- reader says of it all that demand 3 asks. And a list without a warning can be trusted there too.
+-- reader says of it all that demand 3 asks.
 -- Assumes nothing.
 use Prim.Native.Nat.{ℕ, _+_, _*_, _/_, _≤_, _<_}
 use mathlib.Core.Path.{_≡_, sym, ap, _∙_, subst}
@@ -13,19 +13,21 @@ use lib.Count.{ones}
 use lib.IntN.{ℤ}
 use lib.ListN.{length}
 use Rattle.lists.specs.Parts.{part}
-use Rattle.layout.specs.Layout.{packetBits, packetStart, multiframeOf}
+use Rattle.layout.specs.Layout.{packetBits, packetStart, multiframeOf, mostMultiframes}
 use Rattle.bits.specs.Bits.{bits}
 use Rattle.crc.specs.Crc.{Damaged}
 use Rattle.hunt.specs.Hunt.{fewestMatches, multiframeBits, sync, matches, passes, searched}
+use Rattle.header.specs.Reading.{reading}
 use Rattle.hunting.specs.Hunting as G
-use Rattle.writer.specs.Laws.{length-image}
+use Rattle.hunting.specs.Hunting.{Gathering, gathering}
+use Rattle.writer.specs.Laws.{few-multiframes, length-image}
 use Rattle.writer.specs.Made.{wordIn, packetIn}
 use Rattle.writer.specs.Image as I
-use Rattle.writer.specs.Image.{Utterance, multiframesOf, pairsOf, imageOf}
-use Rattle.demands.specs.Damage.{Damage, headerFlips}
+use Rattle.writer.specs.Image.{Utterance, multiframesOf, pairsOf, imageOf, is-accepted}
+use Rattle.demands.specs.Damage.{Damage, headerFlips, sentMessage, header-read}
 use Rattle.demands.specs.Whole.{Lent}
 use Rattle.demands.specs.Received.{BadPair}
-use Rattle.hunting_demands.specs.Standing.{placeInRow, row, syncAt, streamAt, image-size, image-small, image-sync, image-word, image-stream}
+use Rattle.hunting_demands.specs.Standing.{placeInRow, row, syncAt, streamAt, passes-there, InARow, found-in-a-row, image-size, image-small, image-sync, image-word, image-stream}
 use Rattle.hunting_demands.specs.AsRead.{Stands}
 use Rattle.hunting_demands.specs.AsRead as A
 use Rattle.hunting_demands.specs.HuntsBack.{receivedFlips}
@@ -78,6 +80,23 @@ module _ (u : Utterance) (s : List ℕ) (from at least : ℕ) (o : OnAir u s fro
 
   there : Stands (together u s at) m s at
   there = record { words = λ k h. sym (image-word s at m (o .inside) k h); streams = λ k h. sym (image-stream s at m (o .inside) k h) }
+
+  in-a-row : InARow (bits s) from at least m
+  in-a-row = record {
+    begins = o .begins;
+    inside = o .inside;
+    stand = λ k h.
+        passes-there least (bits s) (placeInRow at k) (sentMessage u k) (headerFlips (imageOf u) (together u s at) k) (o .syncs k h)
+        (ap reading (sym (image-word s at m (o .inside) k h)) ∙ header-read u (together u s at) k h (on-air .headers k h));
+    none-before = o .none-before;
+    none-behind = o .none-behind;
+  }
+
+  -- they are found, and no others
+  pub found-on-air : gathering (bits s) least mostMultiframes from .places ≡ row at (multiframesOf u)
+  found-on-air =
+      ap (λ (g : Gathering). g .places)
+      (found-in-a-row (bits s) from at least m in-a-row (omega arith) (few-multiframes (u .rate) (u .kind) (u .indices) (is-accepted u .sizes)))
 
   module _ (codebook thresholds : List ℤ) (index report : List ℕ) where
     pub record Premises : Type 0 where

@@ -1,0 +1,1 @@
+// The demands and what the yards are told, at the entries for C; no code.
