@@ -148,7 +148,7 @@ pattern-burst p a c r h nz = record {
   place = a + k;
   differs = λ e. one-changes (getD p (a + k) false) (getD (placed a r c) (a + k) false) there (e ∙ getD-mixed p (placed a r c) (a + k) same);
   before = λ i l. same-at i (nothing-before a i (sent r ++ replicate c false) l);
-  behind = λ i l. same-at i (nothing-behind a c i r l);
+  behind = λ i l. same-at i (nothing-behind a c i r (omega arith));
 }
   where
     same : length p ≡ length (placed a r c)
@@ -227,7 +227,7 @@ burst-pattern p q room b = go (decLe (b .start + 4) (length p))
         }
 
     go : Dec (b .start + 4 ≤ length p) → Shape p q
-    go (yes k) = shape (b .start) (length p - (b .start + 4)) (omega arith) (b .before) (b .behind)
+    go (yes k) = shape (b .start) (length p - (b .start + 4)) (omega arith) (b .before) (λ i j. b .behind i (omega arith))
     go (no k) =
         shape (length p - 4) 0 (omega arith) (λ i j. b .before i (omega arith))
         (λ i j. let hp : length p ≤ i = omega arith in let hq : length q ≤ i = omega arith in List·getD-eq-default p false hp ∙ sym (List·getD-eq-default q false hq))
@@ -283,11 +283,6 @@ two-flips-multiple p i j hi hj =
     )
 
 -- ---- multiples written out
--- 1 + X + X^4 itself, which takes five places
-pub generator-multiple : Multiple (true ∷ false ∷ false ∷ true ∷ true ∷ [])
-unfolding times mixed xor
-generator-multiple = record { quotient = true ∷ []; product = refl }
-
 -- 1 + X^15: bits 0 and 15 of sixteen
 pub fifteen-multiple : Multiple (true ∷ (replicate 14 false ++ (true ∷ [])))
 unfolding times mixed xor
