@@ -86,6 +86,10 @@ unfoldable pub times : List Bool → List Bool
 times [] = replicate 4 false
 times (a ∷ q) = mixed (a ∷ false ∷ false ∷ a ∷ a ∷ replicate (length q) false) (false ∷ times q)
 
+pub times-one : times (true ∷ []) ≡ true ∷ false ∷ false ∷ true ∷ true ∷ []
+unfolding times mixed xor
+times-one = refl
+
 -- bit i of l is flipped
 abbrev pub flip : List Bool → ℕ → List Bool
 flip l i = set l i (not (getD l i false))

@@ -1,4 +1,4 @@
--- Laws of the CRC, over any length: it is the remainder, it is linear, and which flips leave a packet right.
+-- Laws of the CRC, over any length: it is the remainder, it is linear, what one flip adds, and what the register holds.
 -- Assumes nothing.
 use mathlib.Core.Path.{_≡_, refl, sym, ap, ap₂, _∙_, subst}
 use mathlib.Core.Bool.{Bool, true, false, xor, not, _||_}
@@ -8,7 +8,7 @@ use Prim.Native.Nat.{ℕ, zero, suc, _+_, _-_, _*_, _/_, _%_, _<_}
 use native.Mathlib.Nat.{zero-add, suc-add, add-suc, div-add-mod', mod-lt}
 use native.Mathlib.Omega.{arith}
 use lib.Dec.{eqb, T, lit<, eqb→eq, eqb-refl}
-use lib.ListN.{length, length-drop, take-append-drop, take, drop, getD, length-set, length-append, replicate, length-replicate}
+use lib.ListN.{length, length-drop, take-append-drop, take, drop, length-append, replicate}
 use Rattle.lists.specs.Tests.{all, all-holds, true-false}
 use Rattle.bits.specs.Bits.{value}
 use Rattle.crc.specs.Crc.{Rem, rem, none, next, after, sent, crc, code, fed, fedAll, Right, right, alike, flip, mixed}
@@ -125,7 +125,8 @@ power-times (suc q) r =
     let e : suc q * 15 + r ≡ q * 15 + r + 15 = omega arith in
     ap power e ∙ power-period (q * 15 + r) ∙ power-times q r
 
-power-mod : (k : ℕ) → power k ≡ power (k % 15)
+-- the powers repeat after 15
+pub power-mod : (k : ℕ) → power k ≡ power (k % 15)
 power-mod k = ap power (sym (div-add-mod' k 15)) ∙ power-times (k / 15) (k % 15)
 
 -- two powers below 15 that are one remainder are one power
@@ -155,10 +156,11 @@ add-self (rem a b c d) = simp xor-self
 pub none-add : (r : Rem) → none ⊕ r ≡ r
 none-add (rem a b c d) = simp false-xor
 
-add-assoc : (r s t : Rem) → r ⊕ s ⊕ t ≡ r ⊕ (s ⊕ t)
+pub add-assoc : (r s t : Rem) → r ⊕ s ⊕ t ≡ r ⊕ (s ⊕ t)
 add-assoc (rem a b c d) (rem e f g h) (rem k l m n) = simp xor-assoc
 
-add-cancel : (r s : Rem) → r ⊕ s ≡ none → r ≡ s
+-- only equal remainders add to nothing
+pub add-cancel : (r s : Rem) → r ⊕ s ≡ none → r ≡ s
 add-cancel r s e = sym (add-none r) ∙ ap (_⊕_ r) (sym (add-self s)) ∙ sym (add-assoc r s s) ∙ ap (λ (q : Rem). q ⊕ s) e ∙ none-add s
 
 after-one : (r : Rem) (b : Bool) → after r (b ∷ []) ≡ next r b
@@ -206,27 +208,7 @@ right-iff n p h =
       (λ z. f .1 ∙ ap sent (sym (add-cancel k c (sym e ∙ z)))),
     )
 
--- TWO FLIPS in a right packet leave it right exactly if their distance is a multiple of 15
-pub two-flips : (n : ℕ) (p : List Bool) (i j : ℕ) → length p ≡ n + 4 → i < j → j < length p → Right n p
-    → Right n (flip (flip p i) j) ↔ ((j - i) % 15 ≡ 0)
-two-flips n p i j h hi hj ok =
-    let q = flip p i in
-    let a = length p - suc i in
-    let b = length p - suc j in
-    let lq : length q ≡ length p = length-set p i (not (getD p i false)) in
-    let lr : length (flip q j) ≡ n + 4 = length-set q j (not (getD q j false)) ∙ lq ∙ h in
-    let hip : i < length p = omega arith in
-    let hjq : j < length q = rw lq hj in
-    let z : after none p ≡ none = right-iff n p h .0 ok in
-    let e : after none (flip q j) ≡ power a ⊕ power b =
-    flip-after none q j hjq ∙ ap₂ _⊕_ (flip-after none p i hip ∙ ap (λ (r : Rem). r ⊕ power a) z ∙ none-add (power a)) (ap (λ (m : ℕ). power (m - suc j)) lq) in
-    let ea : a ≡ b + (j - i) = omega arith in (
-      (λ g. let s : a % 15 ≡ b % 15 = power-same a b (add-cancel (power a) (power b) (sym e ∙ right-iff n (flip q j) lr .0 g)) in omega arith),
-      (λ m. let s : a % 15 ≡ b % 15 = omega arith in
-          right-iff n (flip q j) lr .1 (e ∙ ap (λ (r : Rem). r ⊕ power b) (power-mod a ∙ ap power s ∙ sym (power-mod b)) ∙ add-self (power b))),
-    )
-
--- A BURST inside four neighbouring bits is detected
+-- ---- if nothing remains once zeros follow, nothing was there
 next-none : (r : Rem) → next r false ≡ none → r ≡ none
 next-none (rem a b c d) e = cc (false-xor a, xor-false d)
 
@@ -243,21 +225,6 @@ length-mixed (a ∷ l) (b ∷ m) = ap suc (length-mixed l m)
 
 pub length-sent : (r : Rem) → length (sent r) ≡ 4
 length-sent (rem a b c d) = refl
-
-pub burst : (n a c : ℕ) (p : List Bool) (b : Rem) → length p ≡ n + 4 → a + (4 + c) ≡ length p → (b ≡ none → ⊥) → Right n p
-    → Right n (mixed p (replicate a false ++ (sent b ++ replicate c false))) → ⊥
-burst n a c p b h l nz ok g =
-    let m = replicate a false ++ (sent b ++ replicate c false) in
-    let lm : length p ≡ length m = simp (length-append, length-sent, length-replicate) (sym l) in
-    let z : after none p ≡ none = right-iff n p h .0 ok in
-    let y : after none (mixed p m) ≡ none = right-iff n (mixed p m) (length-mixed p m ∙ h) .0 g in
-    let s : after none (mixed p m) ≡ after none m =
-    ap (λ (r : Rem). after r (mixed p m)) (sym (add-none none)) ∙ after-add none none p m lm ∙ ap (λ (r : Rem). r ⊕ after none m) z ∙ none-add (after none m) in
-    let f : after none m ≡ after b (replicate c false) =
-    after-append none (replicate a false) (sent b ++ replicate c false)
-    ∙ ap (λ (r : Rem). after r (sent b ++ replicate c false)) (after-none a)
-    ∙ after-append none (sent b) (replicate c false) ∙ ap (λ (r : Rem). after r (replicate c false)) (after-sent b) in
-    nz (after-zeros c b (sym f ∙ sym s ∙ y))
 
 -- ---- the register that is fed a bit at a time holds the CRC so far
 fed-add : (r : Rem) (b : Bool) → fed r b ≡ next r false ⊕ after none (b ∷ replicate 4 false)

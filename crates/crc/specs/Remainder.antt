@@ -21,8 +21,8 @@ term-none true k = after-none k
 term-none false k = after-none k
 
 -- the remainder of a sum, at start zero
-sum : (l m : List Bool) → length l ≡ length m → after none (mixed l m) ≡ after none l ⊕ after none m
-sum l m h = ap (λ (r : Rem). after r (mixed l m)) (sym (add-none none)) ∙ after-add none none l m h
+pub after-sum : (l m : List Bool) → length l ≡ length m → after none (mixed l m) ≡ after none l ⊕ after none m
+after-sum l m h = ap (λ (r : Rem). after r (mixed l m)) (sym (add-none none)) ∙ after-add none none l m h
 
 -- a multiple of 1 + X + X^4 leaves nothing
 pub times-none : (q : List Bool) → after none (times q) ≡ none
@@ -31,14 +31,14 @@ times-none [] = refl
 times-none (a ∷ q) =
     let l = a ∷ false ∷ false ∷ a ∷ a ∷ replicate (length q) false in
     let h : length l ≡ length (false ∷ times q) = rw (length-times, length-replicate) (omega arith) in
-    sum l (false ∷ times q) h ∙ ap₂ _⊕_ (term-none a (length q)) (times-none q)
+    after-sum l (false ∷ times q) h ∙ ap₂ _⊕_ (term-none a (length q)) (times-none q)
 
 -- ONLY ONE: whatever four bits are left of l beside a multiple are the remainder
 pub remainder-unique : (l q : List Bool) (r : Rem) → l ≡ mixed (times q) (replicate (length q) false ++ sent r) → after none l ≡ r
 remainder-unique l q r e =
     let m = replicate (length q) false ++ sent r in
     let h : length (times q) ≡ length m = rw (length-times, length-append, length-replicate, length-sent) (omega arith) in
-    ap (after none) e ∙ sum (times q) m h ∙ ap₂ _⊕_ (times-none q) (after-append none (replicate (length q) false) (sent r)
+    ap (after none) e ∙ after-sum (times q) m h ∙ ap₂ _⊕_ (times-none q) (after-append none (replicate (length q) false) (sent r)
     ∙ ap (λ (s : Rem). after s (sent r)) (after-none (length q)) ∙ after-sent r) ∙ none-add r
 
 mixed-assoc : (l m n : List Bool) → length l ≡ length m → mixed (mixed l m) n ≡ mixed l (mixed m n)

@@ -10,7 +10,7 @@ use Rattle.gf2.specs.Gf2.{reduced, remainder}
 use Rattle.gf2.specs.Xor.{digit, low, xor-swap}
 
 -- a digit times g: where both are there, nothing is left
-times-xor : (g x y : ℕ) → x < 2 → y < 2 → bitXor x y * g ≡ bitXor (x * g) (y * g)
+pub times-xor : (g x y : ℕ) → x < 2 → y < 2 → bitXor x y * g ≡ bitXor (x * g) (y * g)
 times-xor g x y hx hy =
     digit (λ (x : ℕ). bitXor x y * g ≡ bitXor (x * g) (y * g)) (rw (zero-mul g))
     (digit (λ (y : ℕ). bitXor 1 y * g ≡ bitXor (1 * g) (y * g)) (rw (zero-mul g) (sym (xor-zero-r (1 * g))))

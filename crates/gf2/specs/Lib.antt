@@ -1,4 +1,5 @@
 pub mod Gf2
 pub mod Xor
 pub mod Division
+pub mod Quotient
 pub mod Light

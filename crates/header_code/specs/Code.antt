@@ -8,6 +8,7 @@ use lib.Count.{ones}
 use lib.Dec.{eqb}
 use Rattle.gf2.specs.Gf2.{remainder}
 pub mod Parity
+pub mod Division
 pub mod Distance
 pub mod Syndrome
 pub mod Examples

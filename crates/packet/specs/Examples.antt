@@ -10,7 +10,7 @@ use lib.ListN.{length, replicate}
 use Rattle.layout.specs.Layout.{widths, dataBits, packetBits}
 use Rattle.bits.specs.Bits.{field, laid}
 use Rattle.crc.specs.Crc.{rem, crc, after, Right, flip}
-use Rattle.crc.specs.Laws.{two-flips}
+use Rattle.crc.specs.Damage.{two-flips}
 use Rattle.packet.specs.Packet.{frame, guarded, packet}
 
 -- frame 1,0,0,0,0,0,0 and a zero frame

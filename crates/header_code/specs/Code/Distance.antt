@@ -1,14 +1,14 @@
 -- Two different codewords differ in at least six bits, and two differ in six: so two flips can be mended and three cannot.
 -- Only messages of at most four ones are computed; a heavier one has five ones already, and five is lifted to six by evenness.
 -- Assumes nothing.
-use mathlib.Core.Path.{_≡_, refl, sym, ap, ap₂, _∙_}
+use mathlib.Core.Path.{_≡_, refl, sym, ap, _∙_}
 use mathlib.Core.Bool.{Bool, true}
 use Prim.Native.Nat.{ℕ, zero, suc, _+_, _*_, _%_, _^_, _≤_, _<_}
 use native.Mathlib.Decide.{decLe, ℕ-discrete}
 use native.Mathlib.Omega.{arith}
 use lib.Bits.{bitXor, xor-block, xor-lt}
 use lib.Count.{ones, onesIn, ones-cat}
-use lib.Dec.{T, lit<, leb, leb→le}
+use lib.Dec.{T, leb, leb→le}
 use Rattle.gf2.specs.Gf2.{remainder}
 use Rattle.gf2.specs.Xor.{digit, low, xor-twice, between, ones-xor, ones-xor-le}
 use Rattle.gf2.specs.Light.{light, light-holds, ones-in}

@@ -8,10 +8,10 @@ use native.Mathlib.Nat.{mod-lt, add-comm, zero-mul, one-mul, mul-zero, mul-one}
 use native.Mathlib.Omega.{arith}
 use lib.Bits.{bitXor, bitOr, bitAnd, xor-shifted, xor-comm, and-mask, or-shifted}
 use lib.Count.{ones}
-use lib.Dec.{T, eqb, eqb→eq}
+use lib.Dec.{eqb, eqb→eq}
 use lib.ListN.{getD}
 use lib.Pow.{pow-pos, mod-pow-add, shl-exact}
-use Rattle.lists.specs.Tests.{all, all-holds}
+use Rattle.lists.specs.Tests.{all-holds}
 use Rattle.gf2.specs.Gf2.{remainder}
 use Rattle.gf2.specs.Xor.{digit, low, xor-shl}
 use Rattle.gf2.specs.Division.{remainder-lt, remainder-xor}

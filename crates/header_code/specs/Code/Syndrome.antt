@@ -4,7 +4,7 @@
 use mathlib.Core.Path.{_≡_, refl, sym, ap, ap₂, _∙_, subst}
 use mathlib.Core.Bool.{Bool}
 use mathlib.Core.List.{List}
-use Prim.Native.Nat.{ℕ, _+_, _-_, _*_, _/_, _%_, _^_, _≤_, _<_}
+use Prim.Native.Nat.{ℕ, _+_, _-_, _*_, _/_, _%_, _^_, _<_}
 use native.Mathlib.Nat.{mod-lt, div-add-mod'}
 use native.Mathlib.Decide.{ℕ-discrete, decLt}
 use native.Mathlib.Omega.{arith}
@@ -20,7 +20,7 @@ use Rattle.gf2.specs.Xor.{digit, low, xor-swap, xor-twice, ones-xor}
 use Rattle.gf2.specs.Light.{ones-in}
 use Rattle.header_code.specs.Code.{parity, front, codeword, syndrome}
 use Rattle.header_code.specs.Code.Parity.{parity-lt, parity-xor, words}
-use Rattle.header_code.specs.Code.Distance.{codeword-even, codeword-low, codeword-lt, front-lt}
+use Rattle.header_code.specs.Code.Distance.{codeword-even, codeword-low, front-lt}
 
 -- the evenness of a sum
 odd-digits : (x y z : ℕ) → x < 2 → y < 2 → (z % 2 ≡ (x + y) % 2) → z % 2 ≡ bitXor x y
