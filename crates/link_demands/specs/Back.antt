@@ -29,7 +29,7 @@ use Rattle.demands.specs.WritesAgain as A
 use Rattle.link_demands.specs.Calls.{beyond, WriteReturned, dsrWrite, write-zero, dsrRead, read-success, read-zero}
 
 -- dsr_write's success is the writer's
-accepted : (rate kind : ℕ) (indices out : List ℕ) (n : ℕ) → writing rate kind indices out .answer ≡ Written n → verdict rate kind indices (length out) ≡ Written n
+pub accepted : (rate kind : ℕ) (indices out : List ℕ) (n : ℕ) → writing rate kind indices out .answer ≡ Written n → verdict rate kind indices (length out) ≡ Written n
 unfolding writing
 accepted rate kind indices out n e = by (verdict rate kind indices (length out)) e
   where

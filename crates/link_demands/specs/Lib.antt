@@ -1,3 +1,5 @@
 pub mod Calls
 pub mod Back
 pub mod Named
+pub mod OnAir
+pub mod Apart

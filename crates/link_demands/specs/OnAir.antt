@@ -1,0 +1,128 @@
+-- AT ANY BIT: what holds at dsr_read for an image holds at dsr_read_bits for an utterance received at any bit, with up to 16 - T flips in each
+-- sync besides, if no place before it and none behind it passes the test. Reading back, names-the-damage and trusted, in the numbers, octets and
+-- buffers that a caller in C has.
+-- Assumes nothing.
+use mathlib.Core.Path.{_≡_, refl, sym, ap, ap₂, _∙_, subst}
+use mathlib.Core.List.{List, [], _∷_, _++_}
+use Prim.Native.Nat.{ℕ, _+_, _*_, _≤_, _<_}
+use native.Mathlib.Omega.{arith}
+use lib.IntN.{ℤ}
+use lib.ListN.{length, getD, List·getD-eq-default}
+use Rattle.lists.specs.Parts.{over}
+use Rattle.layout.specs.Layout.{indexOctets, reportOctets, mostMultiframes}
+use Rattle.bits.specs.Bits.{bits}
+use Rattle.reader.specs.Reading as R
+use Rattle.reader.specs.declared.Summary.{Summary}
+use Rattle.reader.specs.declared.Answer.the-variants as RA
+use Rattle.hunting.specs.Hunting as G
+use Rattle.hunting.specs.Hunting.{outsideOf, gathering, huntingReading}
+use Rattle.hunting.specs.Says as F
+use Rattle.hunting.specs.declared.Counted.{Counted}
+use Rattle.hunting.specs.declared.Answer.the-variants.{Read}
+use Rattle.writer.specs.Writing.{frameCount}
+use Rattle.writer.specs.Image.{Utterance, multiframesOf, imageOf, whole-frames}
+use Rattle.link.specs.Link.{answerNumbers, summaryNumbers}
+use Rattle.link.specs.Bits.{countedNumbers, numbersOf, BitsReturned, bitsReturned}
+use Rattle.demands.specs.Damage.{headerFlips}
+use Rattle.demands.specs.Whole.{front-at}
+use Rattle.demands.specs.NamesTheDamage as N
+use Rattle.demands.specs.ReadsBack.{spoken, padded, length-padded, padded-at}
+use Rattle.promises.specs.Trusted as T
+use Rattle.hunting_demands.specs.Standing.{row, testedInRow}
+use Rattle.hunting_demands.specs.HuntsBack as B
+use Rattle.hunting_demands.specs.HuntsBack.{receivedFlips}
+use Rattle.hunting_demands.specs.Radio.{together, OnAir, on-air, found-on-air}
+use Rattle.hunting_demands.specs.Radio as Radio
+use Rattle.link_demands.specs.Calls.{dsrReadBits, bits-success, bits-zero}
+use Rattle.link_demands.specs.Named.{headerNoteAt, Tells, tells}
+
+module _ (u : Utterance) (s : List ℕ) (from at least : ℕ) (codebook thresholds : List ℤ) (index report answer : List ℕ) (place : ℕ) where
+  abbrev c : BitsReturned
+  c = dsrReadBits s from least codebook thresholds index report answer place
+
+  abbrev o : G.Outcome
+  o = huntingReading s from least codebook thresholds index report
+
+  -- the bits outside, the places tested, and the place as it came
+  pub record Counts : Type 0 where
+    pub outside : getD (c .answer) 6 0 ≡ outsideOf (bits s) from (multiframesOf u)
+    pub tested : getD (c .answer) 7 0 ≡ testedInRow (bits s) from at (multiframesOf u)
+    pub place-stays : c .place ≡ place
+
+  -- NAMES THE DAMAGE at dsr_read_bits
+  pub c-names-on-air : (a : OnAir u s from at least) → Radio.Premises u s from at least a codebook thresholds index report → countedNumbers ≤ length answer
+      → Tells u (together u s at) codebook thresholds (c .number) (c .answer) (c .index) (c .report) × Counts
+  c-names-on-air a p room =
+      let n = Radio.names-on-air u s from at least a codebook thresholds index report p in
+      let e = bits-success answer place index report o room (n .given) (n .succeeds) in
+      let f : (k : ℕ) → getD (c .answer) k 0 ≡ getD (over answer 0 countedNumbers (numbersOf (n .given))) k 0 = λ k. ap (λ (x : BitsReturned). getD (x .answer) k 0) e in (
+        tells u (together u s at) codebook thresholds (n .given .summary) (c .answer) (c .index) (c .report)
+            (subst (λ (x : BitsReturned). N.Names u (together u s at) codebook thresholds (n .given .summary) (x .index) (x .report)) (sym e) (n .names)) (c .number)
+            (ap (λ (x : BitsReturned). x .number) e) (f 0) (f 1) (f 2) (f 4),
+        record { outside = f 6 ∙ n .outside; tested = f 7 ∙ n .tested; place-stays = ap (λ (x : BitsReturned). x .place) e },
+      )
+
+  -- what a caller hears of all of an utterance
+  pub record HearsAll : Type 0 where
+    pub success : c .number ≡ 0
+    pub rate : getD (c .answer) 0 0 ≡ u .rate
+    pub kind : getD (c .answer) 1 0 ≡ u .kind
+    pub multiframes : getD (c .answer) 2 0 ≡ multiframesOf u
+    pub speech : getD (c .answer) 3 0 ≡ frameCount (u .indices)
+    pub bad : getD (c .answer) 4 0 ≡ 0
+    pub end : getD (c .answer) 5 0 ≡ 1
+    pub frames : (i : ℕ) → i < length (u .indices) → getD (c .index) i 0 ≡ getD (u .indices) i 0
+    pub padding : (i : ℕ) → length (u .indices) ≤ i → i < indexOctets * multiframesOf u → getD (c .index) i 0 ≡ 0
+
+  hears : countedNumbers ≤ length answer → (g : Counted) → o .answer ≡ Read g → g .summary ≡ spoken u → o .index ≡ over index 0 (indexOctets * multiframesOf u) (padded u) → HearsAll
+  hears room g eg es ei =
+      let e = bits-success answer place index report o room g eg in
+      let f : (k : ℕ) → getD (c .answer) k 0 ≡ getD (over answer 0 countedNumbers (numbersOf g)) k 0 = λ k. ap (λ (x : BitsReturned). getD (x .answer) k 0) e in
+      let octet : (i : ℕ) → i < indexOctets * multiframesOf u → getD (c .index) i 0 ≡ getD (u .indices) i 0 =
+      λ i h. ap (λ (x : BitsReturned). getD (x .index) i 0) e ∙ ap (λ (l : List ℕ). getD l i 0) ei
+      ∙ front-at index (padded u) (indexOctets * multiframesOf u) i (omega (arith, length-padded u)) ∙ padded-at u i in
+      record {
+        success = ap (λ (x : BitsReturned). x .number) e;
+        rate = f 0 ∙ ap (λ (x : Summary). x .rate) es;
+        kind = f 1 ∙ ap (λ (x : Summary). x .kind) es;
+        multiframes = f 2 ∙ ap (λ (x : Summary). x .multiframes) es;
+        speech = f 3 ∙ ap (λ (x : Summary). x .speech) es;
+        bad = f 4 ∙ ap (λ (x : Summary). x .bad) es;
+        end = f 5 ∙ ap (λ (x : Summary). x .end) es;
+        frames = λ i h. octet i (omega (arith, whole-frames u));
+        padding = λ i l h. octet i h ∙ List·getD-eq-default (u .indices) 0 l;
+      }
+
+  -- READING BACK at dsr_read_bits
+  pub c-hunts-back : B.Premises u s from at least codebook thresholds index report → countedNumbers ≤ length answer → HearsAll × Counts
+  c-hunts-back p room =
+      let q = B.hunts-back u s from at least codebook thresholds index report p in
+      let g : Counted = record { summary = spoken u; outside = outsideOf (bits s) from (multiframesOf u); tested = testedInRow (bits s) from at (multiframesOf u) } in
+      let r : o .answer ≡ Read g = ap (λ (x : G.Outcome). x .answer) q in
+      let e = bits-success answer place index report o room g r in (
+        hears room g r refl (ap (λ (x : G.Outcome). x .index) q),
+        record {
+          outside = ap (λ (x : BitsReturned). getD (x .answer) 6 0) e;
+          tested = ap (λ (x : BitsReturned). getD (x .answer) 7 0) e;
+          place-stays = ap (λ (x : BitsReturned). x .place) e;
+        },
+      )
+
+  -- A LIST WITHOUT A WARNING CAN BE TRUSTED at dsr_read_bits: 0 and all notes 0, and what stands there is the utterance as written
+  pub c-trusted-on-air : OnAir u s from at least → c .number ≡ 0 → ((i : ℕ) → i < reportOctets * getD (c .answer) 2 0 → getD (c .report) i 0 ≡ 0)
+      → (together u s at ≡ imageOf u) × HearsAll
+  c-trusted-on-air a zero clean =
+      let z = bits-zero answer place index report o zero in
+      let g = z .1 .0 in
+      let e = bits-success answer place index report o (z .0) g (z .1 .1) in
+      let y : R.reading (together u s at) codebook thresholds index report ≡ R.outcome (RA.Read (g .summary)) (o .index) (o .report) =
+      ap (λ (ps : List ℕ). R.reading (G.imageOf s ps) codebook thresholds index report) (sym (found-on-air u s from at least a))
+      ∙ F.success s from least codebook thresholds index report g (z .1 .1) .as-01-says in
+      let w = T.trusted u (together u s at) (on-air u s from at least a) codebook thresholds index report (g .summary)
+      (record {
+        succeeds = ap (λ (x : R.Outcome). x .answer) y;
+        notes-0 = λ i h.
+            ap (λ (x : R.Outcome). getD (x .report) i 0) y ∙ ap (λ (x : BitsReturned). getD (x .report) i 0) (sym e)
+            ∙ clean i (subst (λ (n : ℕ). i < reportOctets * n) (sym (ap (λ (x : BitsReturned). getD (x .answer) 2 0) e)) h);
+      }) in
+      (w .image, hears (z .0) g (z .1 .1) (w .sent) (ap (λ (x : R.Outcome). x .index) (sym y) ∙ w .frames))
