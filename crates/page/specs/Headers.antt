@@ -1,8 +1,8 @@
 -- The octets of the headers that the literal images have. The header code is shut: each word comes from its laws, the words of matrix 6.2 first.
 -- Assumes nothing.
 use mathlib.Core.Path.{_≡_, refl, sym, ap, ap₂, _∙_}
-use mathlib.Core.List.{List, [], _∷_}
-use Prim.Native.Nat.{ℕ, zero, suc, _*_, _/_, _%_, _^_, _≤_, _<_}
+use mathlib.Core.List.{List, [], _∷_, _++_}
+use Prim.Native.Nat.{ℕ, zero, suc, _+_, _*_, _/_, _%_, _^_, _≤_, _<_}
 use native.Mathlib.Nat.{mod-eq-of-lt}
 use native.Mathlib.Numerals.{add-one}
 use native.Mathlib.Omega.{arith}
@@ -11,14 +11,16 @@ use lib.Count.{onesIn}
 use lib.Dec.{lit<}
 use lib.ListN.{getD}
 use Rattle.gf2.specs.Light.{ones-in}
-use Rattle.layout.specs.Layout.{headerOctets}
+use Rattle.layout.specs.Layout.{headerOctets, streamOctets, firstPair, multiframePairs}
 use Rattle.bits.specs.Bits.{numbers, value, field, octets}
 use Rattle.bits.specs.Laws.{take-field, drop-field, value-field}
+use Rattle.packet.specs.Packet.{stream}
 use Rattle.header_code.specs.Code.{parity, codeword}
 use Rattle.header_code.specs.Code.Parity.{parity-zero, parity-next, words, words-right, codeword-packed}
 use Rattle.header_code.specs.Code.Examples as E
 use Rattle.header.specs.Message.{message, rateOf, typeOf}
 use Rattle.header.specs.Message.Laws.{message-back, rate-masked, type-masked, count-masked, exp-shifted}
+use Rattle.writer.specs.Writing.{multiframe}
 
 -- ---- the octets of a word as an image lays them are those of 01's (P) examples
 four-octets : (w : ℕ) → octets headerOctets (field 32 w) ≡ w % 2 ^ 8 ∷ w / 2 ^ 8 % 2 ^ 8 ∷ w / 2 ^ 8 / 2 ^ 8 % 2 ^ 8 ∷ w / 2 ^ 8 / 2 ^ 8 / 2 ^ 8 % 2 ^ 8 ∷ []
@@ -69,6 +71,12 @@ header-is : (m : ℕ) → m < 2 ^ 16 → front m < 2 ^ 31 → m / 128 ≡ 0 → 
 header-is m h l z =
     ap (λ (w : ℕ). octets headerOctets (field 32 w))
     (ap (λ (e : ℕ). codeword (message (bitAnd m 3) (bitAnd (m / 4) 1) (bitAnd (m / 8) 15) e)) (sym z) ∙ ap codeword (message-is m h) ∙ codeword-is m h l)
+
+-- a multiframe from its header and its stream
+pub multiframe-is : (rate kind : ℕ) (idx : List ℕ) (k : ℕ) (h b : List ℕ) → header rate kind (k + 1) ≡ h → octets streamOctets (stream idx (firstPair k) multiframePairs) ≡ b
+    → multiframe rate kind idx k ≡ 0x87 ∷ 0xB2 ∷ (h ++ b)
+unfolding multiframe
+multiframe-is rate kind idx k h b eh eb = ap₂ (λ (x y : List ℕ). 0x87 ∷ 0xB2 ∷ (x ++ y)) eh eb
 
 -- the octets, as a program outside of Rattle gives them
 pub record Table : Type 0 where

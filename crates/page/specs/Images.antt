@@ -22,7 +22,7 @@ use Rattle.header_code.specs.Code.{codeword}
 use Rattle.header_code.specs.Code.Distance.{codeword-lt}
 use Rattle.header.specs.Message.{message}
 use Rattle.header.specs.Message.Laws.{message-lt}
-use Rattle.writer.specs.Writing.{firstFrom, roomAnswer, verdict, multiframe, image, outcome, writing}
+use Rattle.writer.specs.Writing.{firstFrom, roomAnswer, verdict, image, outcome, writing}
 use Rattle.writer.specs.declared.Answer.the-variants.{Written}
 use Rattle.writer.specs.Made.{Small, headerIn}
 use Rattle.writer.specs.Image.{image-header, Utterance, writes}
@@ -34,7 +34,7 @@ use Rattle.demands.specs.Examples as E
 use Rattle.demands.specs.Instances.{says1}
 use Rattle.demands.specs.Met.{zeroBook, zeroThresholds}
 use Rattle.demands.specs.ReadsBack.{reads-image}
-use Rattle.page.specs.Headers.{same-octets}
+use Rattle.page.specs.Headers.{same-octets, multiframe-is}
 use Rattle.page.specs.Headers as H
 
 -- a buffer before: every octet is AA
@@ -103,16 +103,15 @@ unfolding numbers value stream packetOf packet guarded crc after laid field xor 
 second-stream = refl
 
 -- ---- the images
-framed : List ℕ → List ℕ → List ℕ
-framed h b = 0x87 ∷ 0xB2 ∷ (h ++ b)
-
 one-image : image 0 0 oneFrame 1 ≡ dsrlistInput
-unfolding image multiframe framed
-one-image = ap₂ framed (H.table .header-0-0) one-stream
+unfolding image
+one-image = multiframe-is 0 0 oneFrame 0 (part 2 4 dsrlistInput) (drop 6 dsrlistInput) (H.table .header-0-0) one-stream
 
 said-image : image 3 1 said 2 ≡ saidFirst ++ saidSecond
-unfolding image multiframe framed
-said-image = ap₂ (λ (x y : List ℕ). x ++ y) (ap₂ framed (H.table .header-3-1) first-stream) (ap₂ framed (H.table .second-3-1) second-stream)
+unfolding image
+said-image =
+    ap₂ (λ (x y : List ℕ). x ++ y) (multiframe-is 3 1 said 0 (part 2 4 saidFirst) (drop 6 saidFirst) (H.table .header-3-1) first-stream)
+    (multiframe-is 3 1 said 1 (part 2 4 saidSecond) (drop 6 saidSecond) (H.table .second-3-1) second-stream)
 
 header-in : (idx : List ℕ) (m k : ℕ) → k < m → headerIn (image 0 0 idx m) k ≡ header8 (k + 1)
 header-in idx m k h = image-header 0 0 idx m k h ∙ same-octets (codeword (message 0 0 (k + 1) 0)) (codeword-lt (message 0 0 (k + 1) 0) (message-lt 0 0 (k + 1) 0))
