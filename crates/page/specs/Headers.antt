@@ -22,12 +22,18 @@ use Rattle.header.specs.Message.{message, rateOf, typeOf}
 use Rattle.header.specs.Message.Laws.{message-back, rate-masked, type-masked, count-masked, exp-shifted}
 use Rattle.writer.specs.Writing.{multiframe}
 
--- ---- the octets of a word as an image lays them are those of 01's (P) examples
-four-octets : (w : ℕ) → octets headerOctets (field 32 w) ≡ w % 2 ^ 8 ∷ w / 2 ^ 8 % 2 ^ 8 ∷ w / 2 ^ 8 / 2 ^ 8 % 2 ^ 8 ∷ w / 2 ^ 8 / 2 ^ 8 / 2 ^ 8 % 2 ^ 8 ∷ []
+-- ---- the octets of a word
+four-octets : (w : ℕ)
+    → octets headerOctets (field 32 w) ≡ w % 2 ^ 8 ∷ w / 2 ^ 8 % 2 ^ 8 ∷ w / 2 ^ 8 / 2 ^ 8 % 2 ^ 8 ∷ w / 2 ^ 8 / 2 ^ 8 / 2 ^ 8 % 2 ^ 8 ∷ []
 unfolding numbers
 four-octets w =
-    rw (take-field 8 24 w, drop-field 8 24 w, take-field 8 16 (w / 2 ^ 8), drop-field 8 16 (w / 2 ^ 8), take-field 8 8 (w / 2 ^ 8 / 2 ^ 8), drop-field 8 8 (w / 2 ^ 8 / 2 ^ 8), value-field 8 w, value-field 8 (w / 2 ^ 8), value-field 8 (w / 2 ^ 8 / 2 ^ 8), take-field 8 0 (w / 2 ^ 8 / 2 ^ 8 / 2 ^ 8), value-field 8 (w / 2 ^ 8 / 2 ^ 8 / 2 ^ 8))
+    let a = w / 2 ^ 8 in
+    let b = a / 2 ^ 8 in
+    let c = b / 2 ^ 8 in
+    rw (take-field 8 24 w, drop-field 8 24 w, take-field 8 16 a, drop-field 8 16 a, take-field 8 8 b, drop-field 8 8 b, value-field 8 w, value-field 8 a)
+    (rw (value-field 8 b, take-field 8 0 c, value-field 8 c))
 
+-- as an image lays them, they are those of 01's (P) examples
 pub same-octets : (w : ℕ) → w < 2 ^ 32 → octets headerOctets (field 32 w) ≡ E.octets w
 same-octets w h =
     let a : w / 2 ^ 8 / 2 ^ 8 % 2 ^ 8 ≡ w / 65536 % 256 = omega arith in
@@ -67,14 +73,15 @@ message-is m h =
 abbrev pub header : ℕ → ℕ → ℕ → List ℕ
 header rate kind count = octets headerOctets (field 32 (codeword (message rate kind count 0)))
 
-header-is : (m : ℕ) → m < 2 ^ 16 → front m < 2 ^ 31 → m / 128 ≡ 0 → header (bitAnd m 3) (bitAnd (m / 4) 1) (bitAnd (m / 8) 15) ≡ octets headerOctets (field 32 (word m))
+header-is : (m : ℕ) → m < 2 ^ 16 → front m < 2 ^ 31 → m / 128 ≡ 0
+    → header (bitAnd m 3) (bitAnd (m / 4) 1) (bitAnd (m / 8) 15) ≡ octets headerOctets (field 32 (word m))
 header-is m h l z =
     ap (λ (w : ℕ). octets headerOctets (field 32 w))
     (ap (λ (e : ℕ). codeword (message (bitAnd m 3) (bitAnd (m / 4) 1) (bitAnd (m / 8) 15) e)) (sym z) ∙ ap codeword (message-is m h) ∙ codeword-is m h l)
 
 -- a multiframe from its header and its stream
-pub multiframe-is : (rate kind : ℕ) (idx : List ℕ) (k : ℕ) (h b : List ℕ) → header rate kind (k + 1) ≡ h → octets streamOctets (stream idx (firstPair k) multiframePairs) ≡ b
-    → multiframe rate kind idx k ≡ 0x87 ∷ 0xB2 ∷ (h ++ b)
+pub multiframe-is : (rate kind : ℕ) (idx : List ℕ) (k : ℕ) (h b : List ℕ) → header rate kind (k + 1) ≡ h
+    → octets streamOctets (stream idx (firstPair k) multiframePairs) ≡ b → multiframe rate kind idx k ≡ 0x87 ∷ 0xB2 ∷ (h ++ b)
 unfolding multiframe
 multiframe-is rate kind idx k h b eh eb = ap₂ (λ (x y : List ℕ). 0x87 ∷ 0xB2 ∷ (x ++ y)) eh eb
 

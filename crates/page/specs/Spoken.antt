@@ -1,32 +1,42 @@
 -- Accepted utterances of every length, up to the 6,119 frames that make 255 multiframes (01, "Writing"): frames of ones, of all settings.
 -- With them the theorems on reading back and on named damage speak of utterances as long as 01 allows.
 -- Assumes nothing.
-use mathlib.Core.Path.{_≡_, refl, sym, ap, _∙_, subst}
-use mathlib.Core.Bool.{Bool, true, false, not}
+use mathlib.Core.Path.{_≡_, refl, sym, ap, ap₂, _∙_, subst}
+use mathlib.Core.Bool.{Bool, true, false}
 use mathlib.Core.List.{List}
-use Prim.Native.Nat.{ℕ, zero, suc, _+_, _-_, _*_, _/_, _%_, _^_, _≤_, _<_}
+use mathlib.Core.Logic.{inl, inr}
+use Prim.Native.Nat.{ℕ, zero, suc, _+_, _*_, _/_, _%_, _^_, _≤_, _<_}
 use native.Mathlib.Omega.{arith}
-use lib.Dec.{eqb, ltb, lit<, lit≤}
+use lib.Bits.{xor-lt}
+use lib.Count.{onesIn}
+use lib.Count as Count
+use lib.Dec.{ltb, lit<, lit≤}
 use lib.ListN.{length, getD, replicate, length-replicate, getD-replicate}
+use Rattle.gf2.specs.Light.{ones-in}
 use Rattle.lists.specs.Tests.{when}
-use Rattle.layout.specs.Layout.{frameIndices, multiframeFrames, multiframeOctets, mostFrames}
-use Rattle.writer.specs.Writing.{Search, nowhere, firstFrom, isFound, settingsRight, frameCount, isWide, isZero, mustSpeak, endsEarly, firstWide, firstEarly, needed, verdict, Outcome, writing}
+use Rattle.lists.specs.Parts.{part}
+use Rattle.layout.specs.Layout.{packetBits, frameIndices, firstPair, multiframeFrames, multiframeOctets, mostFrames}
+use Rattle.crc.specs.Damage.{flips-burst, flips-double}
+use Rattle.packet.specs.Packet.{packetOf}
+use Rattle.packet.specs.Laws.{length-packetOf}
+use Rattle.header_code.specs.Code.{codeword, flipsTo}
+use Rattle.header_code.specs.Code.Distance.{codeword-lt}
+use Rattle.header.specs.Message.Laws.{message-lt}
+use Rattle.header.specs.Reading.Laws.{flips-of}
+use Rattle.writer.specs.Writing.{nowhere, firstFrom, isFound, settingsRight, frameCount, isWide, isZero, mustSpeak, endsEarly, needed, verdict, Outcome, writing}
 use Rattle.writer.specs.Laws.{Sized, accepts}
-use Rattle.writer.specs.Made.{Small}
-use Rattle.writer.specs.Image.{Utterance, multiframesOf, writes}
+use Rattle.writer.specs.Made.{packetIn, made-word, made-packet}
+use Rattle.writer.specs.Image.{Utterance, multiframesOf, imageOf, image-packet, writes}
 use Rattle.writer.specs.declared.Answer.the-variants.{Written}
-use Rattle.demands.specs.Met.{zeroBook, zeroThresholds, indexFor, reportFor, hurtImage, reads-back-met, names-met}
+use Rattle.demands.specs.Damage.{headerFlips, Touched, sentMessage, differs, header-near}
+use Rattle.demands.specs.Met.{zeroBook, zeroThresholds, indexFor, reportFor, burstAt, doubleAt, distance, hurtWord, hurtStream, hurtImage, length-hurt, part-0, part-1, hurts, small-ones, reads-back-met, names-met}
+use Rattle.demands.specs.Whole.{headerNoteIn, pairNoteIn}
 use Rattle.demands.specs.ReadsBack as R
 use Rattle.demands.specs.NamesTheDamage as N
 
 -- n frames of ones
 abbrev pub ones : ℕ → List ℕ
 ones n = replicate (frameIndices * n) 1
-
-small-ones : (n : ℕ) → Small (replicate n 1)
-small-ones zero i = lit< tt
-small-ones (suc n) zero = lit< tt
-small-ones (suc n) (suc i) = small-ones n i
 
 pub count-ones : (n : ℕ) → frameCount (ones n) ≡ n
 count-ones n = ap (λ (l : ℕ). l / frameIndices) (length-replicate (frameIndices * n) 1) ∙ omega arith
@@ -118,3 +128,57 @@ names-says6119 = names-met says6119 (omega (arith, longest .multiframes))
 pub named6119 : N.Named says6119 (hurtImage says6119) zeroBook zeroThresholds (indexFor (multiframesOf says6119)) (reportFor (multiframesOf says6119))
 named6119 =
     N.names-the-damage says6119 (hurtImage says6119) zeroBook zeroThresholds (indexFor (multiframesOf says6119)) (reportFor (multiframesOf says6119)) names-says6119
+
+-- ---- and that damage is in every one of its multiframes: two flips in the header, and its first two pairs
+module _ (u : Utterance) (k : ℕ) (h : k < multiframesOf u) where
+  -- the packet of pair r of the multiframe, as it came and as it was sent
+  came : (r : ℕ) → r < 12 → packetIn (hurtImage u) (firstPair k + r) ≡ part (packetBits * r) packetBits (hurtStream u k)
+  came r l =
+      let a : (12 * k + r) / 12 ≡ k = omega arith in
+      let b : (12 * k + r) % 12 ≡ r = omega arith in
+      made-packet (hurtWord u) (hurtStream u) (multiframesOf u) (firstPair k + r) (omega arith) (length-hurt u ((12 * k + r) / 12))
+      ∙ ap₂ (λ (i j : ℕ). part (packetBits * j) packetBits (hurtStream u i)) a b
+
+  sent : (r : ℕ) → r < 12 → packetIn (imageOf u) (firstPair k + r) ≡ packetOf (u .indices) (firstPair k + r)
+  sent r l = image-packet (u .rate) (u .kind) (u .indices) (multiframesOf u) (firstPair k + r) (omega arith)
+
+  first-hurt : Touched (imageOf u) (hurtImage u) (firstPair k + 0)
+  first-hurt e =
+      let p = packetOf (u .indices) (firstPair k) in
+      let z : 12 * k + 0 ≡ 12 * k = omega arith in
+      differs p (burstAt u k) (inl (flips-burst p 0 2 (lit< tt) (lit< tt) (omega (arith, length-packetOf (u .indices) (12 * k)))))
+      (sym (came 0 (lit< tt) ∙ part-0 u k) ∙ e ∙ sent 0 (lit< tt) ∙ ap (packetOf (u .indices)) z)
+
+  second-hurt : Touched (imageOf u) (hurtImage u) (firstPair k + 1)
+  second-hurt e =
+      let p = packetOf (u .indices) (firstPair k + 1) in
+      differs p (doubleAt u k) (inr (flips-double p 0 distance (lit< tt) (omega (arith, length-packetOf (u .indices) (12 * k + 1))) (λ x. omega arith)))
+      (sym (came 1 (lit< tt) ∙ part-1 u k) ∙ e ∙ sent 1 (lit< tt))
+
+  header-hurt : headerFlips (imageOf u) (hurtImage u) k ≡ 2
+  unfolding onesIn
+  header-hurt =
+      let e : Count.ones 3 ≡ 2 = sym (ones-in 2 3 (lit< tt)) in
+      let l : hurtWord u k < 2 ^ 32 = xor-lt 32 (codeword (sentMessage u k)) 3 (codeword-lt (sentMessage u k) (message-lt (u .rate) (u .kind) (k + 1) 0)) (lit< tt) in
+      sym (header-near u (hurtImage u) (hurts u) k h)
+      ∙ ap (λ (w : ℕ). flipsTo w (sentMessage u k)) (made-word (hurtWord u) (hurtStream u) (multiframesOf u) k h l) ∙ flips-of (sentMessage u k) 3 ∙ e
+
+-- the report of that reading
+abbrev pub report6119 : List ℕ
+report6119 = N.result says6119 (hurtImage says6119) zeroBook zeroThresholds (indexFor (multiframesOf says6119)) (reportFor (multiframesOf says6119)) .report
+
+-- it names all of it, in each of the 255 multiframes
+pub record Noted (k : ℕ) : Type 0 where
+  pub header : headerNoteIn report6119 k ≡ 2
+  pub first : pairNoteIn report6119 (firstPair k) ≡ 1
+  pub second : pairNoteIn report6119 (firstPair k + 1) ≡ 1
+
+pub noted6119 : (k : ℕ) → k < 255 → Noted k
+noted6119 k h =
+    let l : k < multiframesOf says6119 = omega (arith, longest .multiframes) in
+    let z : 12 * k + 0 ≡ 12 * k = omega arith in
+    record {
+      header = named6119 .flips k l ∙ header-hurt says6119 k l;
+      first = subst (λ (q : ℕ). pairNoteIn report6119 q ≡ 1) z (named6119 .damaged (12 * k + 0) (omega arith) (first-hurt says6119 k l));
+      second = named6119 .damaged (12 * k + 1) (omega arith) (second-hurt says6119 k l);
+    }

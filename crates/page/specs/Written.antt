@@ -1,10 +1,10 @@
 -- The writer's answers, case by case (01, "Writing"): each number with its place, each pair of neighbours in the order with both applying, and
--- what is accepted. Numbers and places are those that the contract's definition gives; sizes stand as 01 prints them.
+-- what is accepted. A line for every output says that it stays as it came. Sizes stand as 01 prints them.
 -- Assumes nothing.
-use mathlib.Core.Path.{_≡_, refl, sym, ap, ap₂, _∙_}
+use mathlib.Core.Path.{_≡_, refl, ap}
 use mathlib.Core.Bool.{xor}
 use mathlib.Core.List.{List, [], _∷_, _++_}
-use Prim.Native.Nat.{ℕ, _+_, _*_, _≤_}
+use Prim.Native.Nat.{ℕ, _*_, _≤_}
 use lib.Dec.{lit≤}
 use lib.ListN.{length, replicate}
 use Rattle.layout.specs.Layout.{streamOctets, firstPair, multiframePairs}
@@ -17,7 +17,7 @@ use Rattle.writer.specs.declared.Answer.the-variants.{Written}
 use Rattle.page.specs.Headers.{header, multiframe-is}
 use Rattle.page.specs.Headers as H
 use Rattle.page.specs.Images.{lent}
-use Rattle.page.specs.Spoken.{ones, written-ones}
+use Rattle.page.specs.Spoken.{written-ones}
 
 -- what is seen of a call: the answer's number and place, and the output
 pub record Seen : Type 0 where
@@ -39,13 +39,17 @@ told rate kind idx out = (numberOf (writing rate kind idx out .answer), placeOf 
 abbrev pub silence : List ℕ → List ℕ
 silence header = 0x87 ∷ 0xB2 ∷ (header ++ (replicate 138 0 ++ lent 2))
 
--- frames of zeros, and a frame with an index that is too large
+-- n frames of ones, n frames of zeros, and a frame whose sixth index is too large
+abbrev pub ones : ℕ → List ℕ
+ones n = replicate (7 * n) 1
+
 abbrev pub zeros : ℕ → List ℕ
 zeros n = replicate (7 * n) 0
 
 abbrev pub wide : List ℕ
 wide = 1 ∷ 1 ∷ 1 ∷ 1 ∷ 1 ∷ 64 ∷ 1 ∷ []
 
+-- 01's table of the writer's refusals, and the examples of what is accepted
 pub record Table : Type 0 where
   -- "1: rate not 0, 1 or 3, or type above 1; place 0"
   pub rate-2 : (out : List ℕ) → write 2 0 [] out ≡ seen 1 0 out
@@ -67,7 +71,7 @@ pub record Table : Type 0 where
   -- "6: output shorter than 144m; octets needed"
   pub short-143 : write 0 0 [] (lent 143) ≡ seen 6 144 (lent 143)
   pub short-287 : write 0 0 (ones 24) (lent 287) ≡ seen 6 288 (lent 287)
-  -- "Order is by number": both apply
+  -- "Order is by number": of two neighbours both apply, and 4 is searched over all frames before 5
   pub one-before-two : (out : List ℕ) → write 2 0 (1 ∷ []) out ≡ seen 1 0 out
   pub two-before-three : (out : List ℕ) → write 0 0 (replicate 42841 1) out ≡ seen 2 42841 out
   pub three-before-four : (out : List ℕ) → write 0 0 (replicate 42840 64) out ≡ seen 3 6120 out
