@@ -170,7 +170,7 @@ module _ (u : Utterance) where
       ap (take packetBits) (drop-at (burstAt k) (doubleAt k ++ stream (u .indices) (firstPair k + 2) 10) packetBits (length-flips (firstPair k) 0 2))
       ∙ take-at (doubleAt k) (stream (u .indices) (firstPair k + 2) 10) packetBits (length-flips (firstPair k + 1) 0 distance)
 
-  part-on : (k j : ℕ) → j < 10 → part (packetBits * suc (suc j)) packetBits (hurtStream k) ≡ packetOf (u .indices) (firstPair k + suc (suc j))
+  pub part-on : (k j : ℕ) → j < 10 → part (packetBits * suc (suc j)) packetBits (hurtStream k) ≡ packetOf (u .indices) (firstPair k + suc (suc j))
   part-on k j h =
       let b = burstAt k in
       let d = doubleAt k in

@@ -20,8 +20,9 @@ use Rattle.packet.specs.Packet.{packet, guarded, row, packetOf, stream}
 use Rattle.packet.specs.Examples.{oneFrame, zeroFrame}
 use Rattle.header_code.specs.Code.{codeword}
 use Rattle.header_code.specs.Code.Distance.{codeword-lt}
+use Rattle.header_code.specs.Code.Examples as C
 use Rattle.header.specs.Message.{message}
-use Rattle.header.specs.Message.Laws.{message-lt}
+use Rattle.header.specs.Message.Laws.{message-lt, message-nothing, count-mod}
 use Rattle.writer.specs.Writing.{firstFrom, roomAnswer, verdict, image, outcome, writing}
 use Rattle.writer.specs.declared.Answer.the-variants.{Written}
 use Rattle.writer.specs.Made.{Small, headerIn}
@@ -77,6 +78,9 @@ pub record Table : Type 0 where
   pub header-1 : (idx : List ℕ) (m : ℕ) → 0 < m → part 2 4 (image 0 0 idx m) ≡ 0x08 ∷ 0x00 ∷ 0x0E ∷ 0xEE ∷ []
   pub header-2 : (idx : List ℕ) (m : ℕ) → 1 < m → part 146 4 (image 0 0 idx m) ≡ 0x10 ∷ 0x00 ∷ 0x1D ∷ 0x0D ∷ []
   pub header-3 : (idx : List ℕ) (m : ℕ) → 2 < m → part 290 4 (image 0 0 idx m) ≡ 0x18 ∷ 0x00 ∷ 0x13 ∷ 0xE3 ∷ []
+  -- "The counter is 1 in the first multiframe and steps modulo 16": 0 in the sixteenth, 1 in the seventeenth
+  pub header-16 : (idx : List ℕ) (m : ℕ) → 15 < m → part 2162 4 (image 0 0 idx m) ≡ 0x00 ∷ 0x00 ∷ 0x00 ∷ 0x00 ∷ []
+  pub header-17 : (idx : List ℕ) (m : ℕ) → 16 < m → part 2306 4 (image 0 0 idx m) ≡ 0x08 ∷ 0x00 ∷ 0x0E ∷ 0xEE ∷ []
   -- "Frame 1,0,0,0,0,0,0 with a zero frame: the CRC is the single term X, stream bit 90": the stream begins at bit 48 of the image, behind a
   -- sync of 16 and a header of 32, with the packet of the (P) example
   pub first-packet : part 48 92 (bits (image 0 0 oneFrame 1)) ≡ packet widths oneFrame zeroFrame
@@ -148,6 +152,8 @@ table = record {
   header-1 = λ idx m h. header-in idx m 0 h ∙ E.table .header-count-1;
   header-2 = λ idx m h. header-in idx m 1 h ∙ E.table .header-count-2;
   header-3 = λ idx m h. header-in idx m 2 h ∙ E.table .header-count-3;
+  header-16 = λ idx m h. header-in idx m 15 h ∙ ap (λ (x : ℕ). C.octets (codeword x)) (sym (count-mod 0 0 16 0) ∙ message-nothing) ∙ ap C.octets C.codeword-0;
+  header-17 = λ idx m h. header-in idx m 16 h ∙ ap (λ (x : ℕ). C.octets (codeword x)) (sym (count-mod 0 0 17 0)) ∙ E.table .header-count-1;
   first-packet = ap (λ (i : List ℕ). part 48 92 (bits i)) one-image ∙ packet-in;
   stream-bit-90 = ap (λ (i : List ℕ). getD (bits i) (48 + 90) false) one-image ∙ bit-in;
   octet-17 = ap (λ (i : List ℕ). getD i 17 0) one-image;

@@ -5,7 +5,8 @@ use mathlib.Core.Path.{_≡_, refl, sym, ap, ap₂, _∙_, subst}
 use mathlib.Core.Bool.{Bool, true, false}
 use mathlib.Core.List.{List}
 use mathlib.Core.Logic.{inl, inr}
-use Prim.Native.Nat.{ℕ, zero, suc, _+_, _*_, _/_, _%_, _^_, _≤_, _<_}
+use Prim.Native.Nat.{ℕ, zero, suc, _+_, _-_, _*_, _/_, _%_, _^_, _≤_, _<_}
+use native.Mathlib.Decide.{ℕ-discrete}
 use native.Mathlib.Omega.{arith}
 use lib.Bits.{xor-lt}
 use lib.Count.{onesIn}
@@ -13,11 +14,11 @@ use lib.Count as Count
 use lib.Dec.{ltb, lit<, lit≤}
 use lib.ListN.{length, getD, replicate, length-replicate, getD-replicate}
 use Rattle.gf2.specs.Light.{ones-in}
-use Rattle.lists.specs.Tests.{when}
+use Rattle.lists.specs.Tests.{when, true-false}
 use Rattle.lists.specs.Parts.{part}
-use Rattle.layout.specs.Layout.{packetBits, frameIndices, firstPair, multiframeFrames, multiframeOctets, mostFrames}
+use Rattle.layout.specs.Layout.{packetBits, frameIndices, firstFrame, secondFrame, firstPair, multiframePairs, multiframeFrames, multiframeOctets, mostFrames}
 use Rattle.crc.specs.Damage.{flips-burst, flips-double}
-use Rattle.packet.specs.Packet.{packetOf}
+use Rattle.packet.specs.Packet.{frameAt, packetOf}
 use Rattle.packet.specs.Laws.{length-packetOf}
 use Rattle.header_code.specs.Code.{codeword, flipsTo}
 use Rattle.header_code.specs.Code.Distance.{codeword-lt}
@@ -26,10 +27,10 @@ use Rattle.header.specs.Reading.Laws.{flips-of}
 use Rattle.writer.specs.Writing.{nowhere, firstFrom, isFound, settingsRight, frameCount, isWide, isZero, mustSpeak, endsEarly, needed, verdict, Outcome, writing}
 use Rattle.writer.specs.Laws.{Sized, accepts}
 use Rattle.writer.specs.Made.{packetIn, made-word, made-packet}
-use Rattle.writer.specs.Image.{Utterance, multiframesOf, imageOf, image-packet, writes}
+use Rattle.writer.specs.Image.{Utterance, multiframesOf, pairsOf, imageOf, image-packet, writes}
 use Rattle.writer.specs.declared.Answer.the-variants.{Written}
 use Rattle.demands.specs.Damage.{headerFlips, Touched, sentMessage, differs, header-near}
-use Rattle.demands.specs.Met.{zeroBook, zeroThresholds, indexFor, reportFor, burstAt, doubleAt, distance, hurtWord, hurtStream, hurtImage, length-hurt, part-0, part-1, hurts, small-ones, reads-back-met, names-met}
+use Rattle.demands.specs.Met.{zeroBook, zeroThresholds, indexFor, reportFor, burstAt, doubleAt, distance, hurtWord, hurtStream, hurtImage, length-hurt, part-0, part-1, part-on, hurts, zero-consistent, small-ones, reads-back-met, names-met}
 use Rattle.demands.specs.Whole.{headerNoteIn, pairNoteIn}
 use Rattle.demands.specs.ReadsBack as R
 use Rattle.demands.specs.NamesTheDamage as N
@@ -155,6 +156,12 @@ module _ (u : Utterance) (k : ℕ) (h : k < multiframesOf u) where
       differs p (doubleAt u k) (inr (flips-double p 0 distance (lit< tt) (omega (arith, length-packetOf (u .indices) (12 * k + 1))) (λ x. omega arith)))
       (sym (came 1 (lit< tt) ∙ part-1 u k) ∙ e ∙ sent 1 (lit< tt))
 
+  others-whole : (r : ℕ) → 1 < r → r < 12 → packetIn (hurtImage u) (firstPair k + r) ≡ packetIn (imageOf u) (firstPair k + r)
+  others-whole r o l =
+      let e : suc (suc (r - 2)) ≡ r = omega arith in
+      subst (λ (i : ℕ). packetIn (hurtImage u) (firstPair k + i) ≡ packetIn (imageOf u) (firstPair k + i)) e
+      (came (suc (suc (r - 2))) (omega arith) ∙ part-on u k (r - 2) (omega arith) ∙ sym (sent (suc (suc (r - 2))) (omega arith)))
+
   header-hurt : headerFlips (imageOf u) (hurtImage u) k ≡ 2
   unfolding onesIn
   header-hurt =
@@ -167,11 +174,21 @@ module _ (u : Utterance) (k : ℕ) (h : k < multiframesOf u) where
 abbrev pub report6119 : List ℕ
 report6119 = N.result says6119 (hurtImage says6119) zeroBook zeroThresholds (indexFor (multiframesOf says6119)) (reportFor (multiframesOf says6119)) .report
 
--- it names all of it, in each of the 255 multiframes
+-- it names all of it and no other pair, in each of the 255 multiframes
 pub record Noted (k : ℕ) : Type 0 where
   pub header : headerNoteIn report6119 k ≡ 2
   pub first : pairNoteIn report6119 (firstPair k) ≡ 1
   pub second : pairNoteIn report6119 (firstPair k + 1) ≡ 1
+  pub others : (r : ℕ) → 1 < r → r < multiframePairs → pairNoteIn report6119 (firstPair k + r) ≡ 0
+
+-- with tables of zeros no rule makes a pair bad
+unruled : (q : ℕ) → q < pairsOf says6119 → (Touched (imageOf says6119) (hurtImage says6119) q → ⊥) → pairNoteIn report6119 q ≡ 0
+unruled q h n =
+    elim (ℕ-discrete (pairNoteIn report6119 q) 0) [
+      | yes e ↦ e
+      | no d ↦
+          absurd (true-false (sym (named6119 .others q h n .0 d .0) ∙ zero-consistent (frameAt (says6119 .indices) (firstFrame q)) (frameAt (says6119 .indices) (secondFrame q))))
+    ]
 
 pub noted6119 : (k : ℕ) → k < 255 → Noted k
 noted6119 k h =
@@ -181,4 +198,5 @@ noted6119 k h =
       header = named6119 .flips k l ∙ header-hurt says6119 k l;
       first = subst (λ (q : ℕ). pairNoteIn report6119 q ≡ 1) z (named6119 .damaged (12 * k + 0) (omega arith) (first-hurt says6119 k l));
       second = named6119 .damaged (12 * k + 1) (omega arith) (second-hurt says6119 k l);
+      others = λ r o b. unruled (12 * k + r) (omega arith) (λ t. t (others-whole says6119 k l r o b));
     }
