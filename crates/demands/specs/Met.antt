@@ -155,22 +155,22 @@ module _ (u : Utterance) where
   length-flips q i j =
       length-flip (flip (packetOf (u .indices) q) i) j ∙ length-flip (packetOf (u .indices) q) i ∙ length-packetOf (u .indices) q
 
-  length-hurt : (k : ℕ) → length (hurtStream k) ≡ 8 * streamOctets
+  pub length-hurt : (k : ℕ) → length (hurtStream k) ≡ 8 * streamOctets
   length-hurt k =
       length-append (burstAt k) (doubleAt k ++ stream (u .indices) (firstPair k + 2) 10)
       ∙ ap₂ _+_ (length-flips (firstPair k) 0 2)
       (length-append (doubleAt k) (stream (u .indices) (firstPair k + 2) 10) ∙ ap₂ _+_ (length-flips (firstPair k + 1) 0 distance) (length-stream (u .indices) (firstPair k + 2) 10))
 
   -- packet r of multiframe k: the first two are damaged, the others are as they were sent
-  part-0 : (k : ℕ) → part 0 packetBits (hurtStream k) ≡ burstAt k
+  pub part-0 : (k : ℕ) → part 0 packetBits (hurtStream k) ≡ burstAt k
   part-0 k = take-at (burstAt k) (doubleAt k ++ stream (u .indices) (firstPair k + 2) 10) packetBits (length-flips (firstPair k) 0 2)
 
-  part-1 : (k : ℕ) → part packetBits packetBits (hurtStream k) ≡ doubleAt k
+  pub part-1 : (k : ℕ) → part packetBits packetBits (hurtStream k) ≡ doubleAt k
   part-1 k =
       ap (take packetBits) (drop-at (burstAt k) (doubleAt k ++ stream (u .indices) (firstPair k + 2) 10) packetBits (length-flips (firstPair k) 0 2))
       ∙ take-at (doubleAt k) (stream (u .indices) (firstPair k + 2) 10) packetBits (length-flips (firstPair k + 1) 0 distance)
 
-  part-on : (k j : ℕ) → j < 10 → part (packetBits * suc (suc j)) packetBits (hurtStream k) ≡ packetOf (u .indices) (firstPair k + suc (suc j))
+  pub part-on : (k j : ℕ) → j < 10 → part (packetBits * suc (suc j)) packetBits (hurtStream k) ≡ packetOf (u .indices) (firstPair k + suc (suc j))
   part-on k j h =
       let b = burstAt k in
       let d = doubleAt k in
@@ -226,7 +226,7 @@ module _ (u : Utterance) where
   names-met two = record { damage = hurts; headers = inl two; pair = 2; within = omega arith; not-bad = third-good; lent = lent-zeros (multiframesOf u) }
 
 -- ---- and there is one: 24 frames of ones, which take two multiframes
-small-ones : (n : ℕ) → Small (replicate n 1)
+pub small-ones : (n : ℕ) → Small (replicate n 1)
 small-ones zero i = lit< tt
 small-ones (suc n) zero = lit< tt
 small-ones (suc n) (suc i) = small-ones n i

@@ -1,0 +1,4 @@
+pub mod Headers
+pub mod Images
+pub mod Spoken
+pub mod Written

@@ -1,0 +1,202 @@
+-- Accepted utterances of every length, up to the 6,119 frames that make 255 multiframes (01, "Writing"): frames of ones, of all settings.
+-- With them the theorems on reading back and on named damage speak of utterances as long as 01 allows.
+-- Assumes nothing.
+use mathlib.Core.Path.{_≡_, refl, sym, ap, ap₂, _∙_, subst}
+use mathlib.Core.Bool.{Bool, true, false}
+use mathlib.Core.List.{List}
+use mathlib.Core.Logic.{inl, inr}
+use Prim.Native.Nat.{ℕ, zero, suc, _+_, _-_, _*_, _/_, _%_, _^_, _≤_, _<_}
+use native.Mathlib.Decide.{ℕ-discrete}
+use native.Mathlib.Omega.{arith}
+use lib.Bits.{xor-lt}
+use lib.Count.{onesIn}
+use lib.Count as Count
+use lib.Dec.{ltb, lit<, lit≤}
+use lib.ListN.{length, getD, replicate, length-replicate, getD-replicate}
+use Rattle.gf2.specs.Light.{ones-in}
+use Rattle.lists.specs.Tests.{when, true-false}
+use Rattle.lists.specs.Parts.{part}
+use Rattle.layout.specs.Layout.{packetBits, frameIndices, firstFrame, secondFrame, firstPair, multiframePairs, multiframeFrames, multiframeOctets, mostFrames}
+use Rattle.crc.specs.Damage.{flips-burst, flips-double}
+use Rattle.packet.specs.Packet.{frameAt, packetOf}
+use Rattle.packet.specs.Laws.{length-packetOf}
+use Rattle.header_code.specs.Code.{codeword, flipsTo}
+use Rattle.header_code.specs.Code.Distance.{codeword-lt}
+use Rattle.header.specs.Message.Laws.{message-lt}
+use Rattle.header.specs.Reading.Laws.{flips-of}
+use Rattle.writer.specs.Writing.{nowhere, firstFrom, isFound, settingsRight, frameCount, isWide, isZero, mustSpeak, endsEarly, needed, verdict, Outcome, writing}
+use Rattle.writer.specs.Laws.{Sized, accepts}
+use Rattle.writer.specs.Made.{packetIn, made-word, made-packet}
+use Rattle.writer.specs.Image.{Utterance, multiframesOf, pairsOf, imageOf, image-packet, writes}
+use Rattle.writer.specs.declared.Answer.the-variants.{Written}
+use Rattle.demands.specs.Damage.{headerFlips, Touched, sentMessage, differs, header-near}
+use Rattle.demands.specs.Met.{zeroBook, zeroThresholds, indexFor, reportFor, burstAt, doubleAt, distance, hurtWord, hurtStream, hurtImage, length-hurt, part-0, part-1, part-on, hurts, zero-consistent, small-ones, reads-back-met, names-met}
+use Rattle.demands.specs.Whole.{headerNoteIn, pairNoteIn}
+use Rattle.demands.specs.ReadsBack as R
+use Rattle.demands.specs.NamesTheDamage as N
+
+-- n frames of ones
+abbrev pub ones : ℕ → List ℕ
+ones n = replicate (frameIndices * n) 1
+
+pub count-ones : (n : ℕ) → frameCount (ones n) ≡ n
+count-ones n = ap (λ (l : ℕ). l / frameIndices) (length-replicate (frameIndices * n) 1) ∙ omega arith
+
+-- ---- every search finds nothing
+search-none : (f : ℕ → Bool) (k n : ℕ) → ((i : ℕ) → k ≤ i → i < k + n → f i ≡ false) → firstFrom f k n ≡ nowhere
+unfolding firstFrom
+search-none f k zero h = refl
+search-none f k (suc n) h = rw (h k (omega arith) (omega arith)) (search-none f (k + 1) n (λ i a b. h i (omega arith) (omega arith)))
+
+module _ (n k : ℕ) (h : k < n) where
+  one-at : (j : ℕ) → j < 7 * n → getD (ones n) j 0 ≡ 1
+  one-at j l = getD-replicate (7 * n) j 1 0 l
+
+  not-wide : isWide (ones n) k ≡ false
+  not-wide = ap isFound (search-none (λ j. ltb 63 (getD (ones n) j 0)) (7 * k) 6 (λ i a b. ap (ltb 63) (one-at i (omega arith))))
+
+  not-zero : isZero (ones n) k ≡ false
+  unfolding firstFrom
+  not-zero = rw (one-at (7 * k) (omega arith))
+
+  not-early : endsEarly (ones n) k ≡ false
+  not-early = ap (λ (z : Bool). when (mustSpeak (frameCount (ones n)) k) z false) not-zero ∙ either (mustSpeak (frameCount (ones n)) k)
+    where
+      either : (b : Bool) → when b false false ≡ false
+      either true = refl
+      either false = refl
+
+module _ (rate kind n : ℕ) (settings : settingsRight rate kind ≡ true) (few : n ≤ mostFrames) where
+  sized : Sized rate kind (ones n)
+  sized = record {
+    settings = settings;
+    whole = ap (λ (l : ℕ). l % frameIndices) (length-replicate (frameIndices * n) 1) ∙ omega arith;
+    few = omega (arith, count-ones n);
+  }
+
+  written : verdict rate kind (ones n) (needed (ones n)) ≡ Written (needed (ones n))
+  written =
+      accepts rate kind (ones n) (needed (ones n)) sized (search-none (isWide (ones n)) 0 (frameCount (ones n)) (λ i a b. not-wide n i (omega (arith, count-ones n))))
+      (search-none (endsEarly (ones n)) 0 (frameCount (ones n)) (λ i a b. not-early n i (omega (arith, count-ones n)))) (omega arith)
+
+  -- AN ACCEPTED UTTERANCE OF ANY SETTINGS AND OF EVERY LENGTH THAT 01 ALLOWS
+  pub saysOnes : Utterance
+  saysOnes = record { rate = rate; kind = kind; indices = ones n; small = small-ones (frameIndices * n); written = written }
+
+  pub says-ones : (saysOnes .rate ≡ rate) × (saysOnes .kind ≡ kind) × (saysOnes .indices ≡ ones n)
+  unfolding saysOnes
+  says-ones = (refl, refl, refl)
+
+  -- "m = n div 24 + 1"
+  pub multiframes-ones : multiframesOf saysOnes ≡ n / multiframeFrames + 1
+  unfolding saysOnes
+  multiframes-ones = ap (λ (k : ℕ). k / multiframeFrames + 1) (count-ones n)
+
+  -- "Success (0) gives 144m"
+  pub written-ones : (out : List ℕ) → multiframeOctets * (n / multiframeFrames + 1) ≤ length out
+      → writing rate kind (ones n) out .answer ≡ Written (multiframeOctets * (n / multiframeFrames + 1))
+  unfolding saysOnes
+  written-ones out room =
+      let e : needed (ones n) ≡ multiframeOctets * (n / multiframeFrames + 1) = ap (λ (k : ℕ). multiframeOctets * k) multiframes-ones in
+      ap (λ (o : Outcome). o .answer) (writes saysOnes out (omega arith)) ∙ ap Written e
+
+-- ---- 6,119 frames are the most, and 255 multiframes
+pub says6119 : Utterance
+says6119 = saysOnes 0 0 6119 refl (lit≤ tt)
+
+pub record Longest : Type 0 where
+  pub settings : (says6119 .rate ≡ 0) × (says6119 .kind ≡ 0)
+  pub indices : says6119 .indices ≡ replicate 42833 1
+  pub multiframes : multiframesOf says6119 ≡ 255
+  pub octets : needed (says6119 .indices) ≡ 36720
+
+pub longest : Longest
+unfolding says6119
+longest =
+    let s = says-ones 0 0 6119 refl (lit≤ tt) in
+    let m = multiframes-ones 0 0 6119 refl (lit≤ tt) in
+    record { settings = (s .0, s .1); indices = s .2; multiframes = m; octets = ap (λ (k : ℕ). multiframeOctets * k) m }
+
+-- READS BACK and NAMES THE DAMAGE speak of it
+pub back6119 : R.Back says6119 zeroBook zeroThresholds (replicate (needed (says6119 .indices)) 0) (indexFor (multiframesOf says6119)) (reportFor (multiframesOf says6119))
+back6119 =
+    R.reads-back says6119 zeroBook zeroThresholds (replicate (needed (says6119 .indices)) 0) (indexFor (multiframesOf says6119)) (reportFor (multiframesOf says6119))
+    (reads-back-met says6119)
+
+pub names-says6119 : N.Premises says6119 (hurtImage says6119) zeroBook zeroThresholds (indexFor (multiframesOf says6119)) (reportFor (multiframesOf says6119))
+names-says6119 = names-met says6119 (omega (arith, longest .multiframes))
+
+pub named6119 : N.Named says6119 (hurtImage says6119) zeroBook zeroThresholds (indexFor (multiframesOf says6119)) (reportFor (multiframesOf says6119))
+named6119 =
+    N.names-the-damage says6119 (hurtImage says6119) zeroBook zeroThresholds (indexFor (multiframesOf says6119)) (reportFor (multiframesOf says6119)) names-says6119
+
+-- ---- and that damage is in every one of its multiframes: two flips in the header, and its first two pairs
+module _ (u : Utterance) (k : ℕ) (h : k < multiframesOf u) where
+  -- the packet of pair r of the multiframe, as it came and as it was sent
+  came : (r : ℕ) → r < 12 → packetIn (hurtImage u) (firstPair k + r) ≡ part (packetBits * r) packetBits (hurtStream u k)
+  came r l =
+      let a : (12 * k + r) / 12 ≡ k = omega arith in
+      let b : (12 * k + r) % 12 ≡ r = omega arith in
+      made-packet (hurtWord u) (hurtStream u) (multiframesOf u) (firstPair k + r) (omega arith) (length-hurt u ((12 * k + r) / 12))
+      ∙ ap₂ (λ (i j : ℕ). part (packetBits * j) packetBits (hurtStream u i)) a b
+
+  sent : (r : ℕ) → r < 12 → packetIn (imageOf u) (firstPair k + r) ≡ packetOf (u .indices) (firstPair k + r)
+  sent r l = image-packet (u .rate) (u .kind) (u .indices) (multiframesOf u) (firstPair k + r) (omega arith)
+
+  first-hurt : Touched (imageOf u) (hurtImage u) (firstPair k + 0)
+  first-hurt e =
+      let p = packetOf (u .indices) (firstPair k) in
+      let z : 12 * k + 0 ≡ 12 * k = omega arith in
+      differs p (burstAt u k) (inl (flips-burst p 0 2 (lit< tt) (lit< tt) (omega (arith, length-packetOf (u .indices) (12 * k)))))
+      (sym (came 0 (lit< tt) ∙ part-0 u k) ∙ e ∙ sent 0 (lit< tt) ∙ ap (packetOf (u .indices)) z)
+
+  second-hurt : Touched (imageOf u) (hurtImage u) (firstPair k + 1)
+  second-hurt e =
+      let p = packetOf (u .indices) (firstPair k + 1) in
+      differs p (doubleAt u k) (inr (flips-double p 0 distance (lit< tt) (omega (arith, length-packetOf (u .indices) (12 * k + 1))) (λ x. omega arith)))
+      (sym (came 1 (lit< tt) ∙ part-1 u k) ∙ e ∙ sent 1 (lit< tt))
+
+  others-whole : (r : ℕ) → 1 < r → r < 12 → packetIn (hurtImage u) (firstPair k + r) ≡ packetIn (imageOf u) (firstPair k + r)
+  others-whole r o l =
+      let e : suc (suc (r - 2)) ≡ r = omega arith in
+      subst (λ (i : ℕ). packetIn (hurtImage u) (firstPair k + i) ≡ packetIn (imageOf u) (firstPair k + i)) e
+      (came (suc (suc (r - 2))) (omega arith) ∙ part-on u k (r - 2) (omega arith) ∙ sym (sent (suc (suc (r - 2))) (omega arith)))
+
+  header-hurt : headerFlips (imageOf u) (hurtImage u) k ≡ 2
+  unfolding onesIn
+  header-hurt =
+      let e : Count.ones 3 ≡ 2 = sym (ones-in 2 3 (lit< tt)) in
+      let l : hurtWord u k < 2 ^ 32 = xor-lt 32 (codeword (sentMessage u k)) 3 (codeword-lt (sentMessage u k) (message-lt (u .rate) (u .kind) (k + 1) 0)) (lit< tt) in
+      sym (header-near u (hurtImage u) (hurts u) k h)
+      ∙ ap (λ (w : ℕ). flipsTo w (sentMessage u k)) (made-word (hurtWord u) (hurtStream u) (multiframesOf u) k h l) ∙ flips-of (sentMessage u k) 3 ∙ e
+
+-- the report of that reading
+abbrev pub report6119 : List ℕ
+report6119 = N.result says6119 (hurtImage says6119) zeroBook zeroThresholds (indexFor (multiframesOf says6119)) (reportFor (multiframesOf says6119)) .report
+
+-- it names all of it and no other pair, in each of the 255 multiframes
+pub record Noted (k : ℕ) : Type 0 where
+  pub header : headerNoteIn report6119 k ≡ 2
+  pub first : pairNoteIn report6119 (firstPair k) ≡ 1
+  pub second : pairNoteIn report6119 (firstPair k + 1) ≡ 1
+  pub others : (r : ℕ) → 1 < r → r < multiframePairs → pairNoteIn report6119 (firstPair k + r) ≡ 0
+
+-- with tables of zeros no rule makes a pair bad
+unruled : (q : ℕ) → q < pairsOf says6119 → (Touched (imageOf says6119) (hurtImage says6119) q → ⊥) → pairNoteIn report6119 q ≡ 0
+unruled q h n =
+    elim (ℕ-discrete (pairNoteIn report6119 q) 0) [
+      | yes e ↦ e
+      | no d ↦
+          absurd (true-false (sym (named6119 .others q h n .0 d .0) ∙ zero-consistent (frameAt (says6119 .indices) (firstFrame q)) (frameAt (says6119 .indices) (secondFrame q))))
+    ]
+
+pub noted6119 : (k : ℕ) → k < 255 → Noted k
+noted6119 k h =
+    let l : k < multiframesOf says6119 = omega (arith, longest .multiframes) in
+    let z : 12 * k + 0 ≡ 12 * k = omega arith in
+    record {
+      header = named6119 .flips k l ∙ header-hurt says6119 k l;
+      first = subst (λ (q : ℕ). pairNoteIn report6119 q ≡ 1) z (named6119 .damaged (12 * k + 0) (omega arith) (first-hurt says6119 k l));
+      second = named6119 .damaged (12 * k + 1) (omega arith) (second-hurt says6119 k l);
+      others = λ r o b. unruled (12 * k + r) (omega arith) (λ t. t (others-whole says6119 k l r o b));
+    }
