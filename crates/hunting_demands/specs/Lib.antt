@@ -6,3 +6,4 @@ pub mod Hurt
 pub mod Met
 pub mod Needed
 pub mod Radio
+pub mod Aired

@@ -37,7 +37,7 @@ use Rattle.hunting_demands.specs.Hurt as H
 abbrev pub worstSync : List Bool
 worstSync = flip (flip (flip (flip sync 0) 5) 10) 15
 
-worst-matches : matches worstSync sync ≡ fewestMatches
+pub worst-matches : matches worstSync sync ≡ fewestMatches
 unfolding matches fields field
 worst-matches = refl
 
@@ -45,7 +45,7 @@ worst-matches = refl
 abbrev pub threeZeros : List Bool
 threeZeros = replicate 3 false
 
-earlier : (t : ℕ) → t < 3 → matches (part t syncBits (threeZeros ++ worstSync)) sync < fewestMatches
+pub earlier : (t : ℕ) → t < 3 → matches (part t syncBits (threeZeros ++ worstSync)) sync < fewestMatches
 unfolding matches fields field
 earlier zero h = lit< tt
 earlier (suc zero) h = lit< tt
@@ -60,7 +60,7 @@ whole-earlier (suc (suc zero)) h = lit< tt
 whole-earlier (suc (suc (suc t))) h = absurd (omega arith)
 
 -- so no place before it passes, whatever follows
-fails-before : (l y : List Bool) (least : ℕ) → take 19 l ≡ threeZeros ++ y → length y ≡ syncBits → fewestMatches ≤ least
+pub fails-before : (l y : List Bool) (least : ℕ) → take 19 l ≡ threeZeros ++ y → length y ≡ syncBits → fewestMatches ≤ least
     → ((t : ℕ) → t < 3 → matches (part t syncBits (threeZeros ++ y)) sync < fewestMatches) → (t : ℕ) → 0 ≤ t → t < 3 → passes least l t ≡ false
 fails-before l y least head size low unlike t a h =
     let n : length (take 19 l) ≡ 19 = ap length head ∙ length-append threeZeros y ∙ ap (λ (i : ℕ). 3 + i) size in
@@ -69,11 +69,11 @@ fails-before l y least head size low unlike t a h =
     unlike-fails least l t (subst (λ (x : List Bool). matches x sync < least) (sym e) (omega (arith, unlike t h)))
 
 -- nor have sixteen zeros twelve
-zeros-match : matches (replicate syncBits false) sync < fewestMatches
+pub zeros-match : matches (replicate syncBits false) sync < fewestMatches
 unfolding matches fields field
 zeros-match = lit< tt
 
-zeros-part : (n j : ℕ) → j + syncBits ≤ n → part j syncBits (replicate n false) ≡ replicate syncBits false
+pub zeros-part : (n j : ℕ) → j + syncBits ≤ n → part j syncBits (replicate n false) ≡ replicate syncBits false
 zeros-part n j h =
     let r = n - j - 16 in
     let e : n ≡ j + (16 + r) = omega arith in
@@ -85,7 +85,7 @@ pub sync-size : length sync ≡ syncBits
 unfolding fields field
 sync-size = refl
 
-two-ones : ones 3 ≡ 2
+pub two-ones : ones 3 ≡ 2
 unfolding onesIn
 two-ones = sym (ones-in 2 3 (lit< tt))
 
