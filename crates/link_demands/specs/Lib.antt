@@ -3,3 +3,4 @@ pub mod Back
 pub mod Named
 pub mod OnAir
 pub mod Apart
+pub mod Met
