@@ -20,15 +20,13 @@ use Rattle.writer.specs.declared.Answer.the-variants.{Written, Refused}
 use Rattle.writer.specs.declared.Refusal as WR
 use Rattle.writer.specs.declared.Refusal.the-variants.{Settings}
 use Rattle.reader.specs.Reading.{Outcome, outcome, reading}
-use Rattle.reader.specs.Reading as RS
+use Rattle.reader.specs.ReadingLaws.{refusal-keeps}
 use Rattle.reader.specs.Steps.{wrong-codebook}
 use Rattle.reader.specs.declared.Summary.{Summary}
 use Rattle.reader.specs.declared.Answer as RA
 use Rattle.reader.specs.declared.Answer.the-variants as R
 use Rattle.reader.specs.declared.Refusal as RR
 use Rattle.reader.specs.declared.Refusal.the-variants.{WrongTables}
-use Rattle.reader.specs.declared.Verdict as RV
-use Rattle.reader.specs.declared.Verdict.the-variants.{Refuse, Accept}
 use Rattle.demands.specs.Whole.{Lent}
 use Rattle.demands.specs.ReadsBack.{reads-image}
 use Rattle.demands.specs.Instances.{lone, says1}
@@ -154,19 +152,6 @@ module _ (rate type : ℕ) (idx : List ℕ) (codebook thresholds : List ℤ) (ou
         no-notes = ap (λ (o : Outcome). o .report) r;
       }
 
-  -- a reading that is refused leaves what was lent to it
-  leaves : (s ps : List ℕ) (v : RV.Verdict) (x : RR.Refusal) → RS.finished s codebook thresholds index report ps v .answer ≡ R.Refused x
-      → (RS.finished s codebook thresholds index report ps v .index ≡ index) × (RS.finished s codebook thresholds index report ps v .report ≡ report)
-  leaves s ps (Refuse r) x e = (refl, refl)
-  leaves s ps (Accept c) x e = absurd (never _ e)
-    where
-      never : (y : Summary) → R.Read y ≡ R.Refused x → ⊥
-      never y e = let z : _≡_ {A = ℕ} 0 1 = cc in omega arith
-
-  stays : (x : RR.Refusal) → back .answer ≡ R.Refused x → (back .index ≡ index) × (back .report ≡ report)
-  unfolding reading
-  stays x e = leaves _ _ (RS.verdict (image rate type idx (multiframesFor (frameCount idx))) codebook thresholds (length index) (length report)) x e
-
   tripped : (y : RA.Answer) (x : RR.Refusal) → tripOf y ≡ NotRead x → y ≡ R.Refused x
   tripped (R.Read s) x e = absurd (let z : _≡_ {A = ℕ} 0 1 = cc in omega arith)
   tripped (R.Refused r) x e = let z : r ≡ x = cc in ap R.Refused z
@@ -182,8 +167,9 @@ module _ (rate type : ℕ) (idx : List ℕ) (codebook thresholds : List ℤ) (ou
       by (Written n) v e =
           let w = as-written n v in
           let y : back .answer ≡ R.Refused x = tripped (back .answer) x (sym (ap (λ (m : Made). m .answer) w) ∙ e) in
+          let k = refusal-keeps (image rate type idx (multiframesFor (frameCount idx))) codebook thresholds index report x y in
           subst (IsUnread rate type idx codebook thresholds out index report x) (sym w)
-          record { octets = n; written = v; image-out = refl; refused = y; index-stays = stays x y .0; report-stays = stays x y .1 }
+          record { octets = n; written = v; image-out = refl; refused = y; index-stays = ap (λ (q : Outcome). q .index) k; report-stays = ap (λ (q : Outcome). q .report) k }
       by (Refused r) v e = absurd (never r x (sym (ap (λ (m : Made). m .answer) (not-written r v)) ∙ e))
         where
           never : (r : WR.Refusal) (x : RR.Refusal) → NotWritten r ≡ NotRead x → ⊥
