@@ -1,0 +1,1 @@
+// 01's page, case by case: literal images and refusals; no code.
