@@ -2,3 +2,4 @@ pub mod Headers
 pub mod Images
 pub mod Spoken
 pub mod Written
+pub mod Received

@@ -2,7 +2,7 @@
 -- count from 0.
 -- Assumes nothing.
 use Prim.Native.Nat.{ℕ, _*_}
-use mathlib.Core.List.{List, _∷_}
+use mathlib.Core.List.{List, [], _∷_}
 use lib.ListN.{length, getD}
 use lib.IntN.{ℤ}
 use lib.Dec.{ltb, eqb}
@@ -52,6 +52,15 @@ placeOf Unfit = 0
 placeOf (IndexShort n) = n
 placeOf (ReportShort n) = n
 placeOf AllBad = 0
+
+-- ---- and of each answer: success is 0 and gives settings, m, speech, the number of bad pairs and end; a refusal gives its place
+abbrev pub answerNumber : Answer → ℕ
+answerNumber (Read s) = 0
+answerNumber (Refused r) = numberOf r
+
+abbrev pub answerValues : Answer → List ℕ
+answerValues (Read s) = s .rate ∷ s .kind ∷ s .multiframes ∷ s .speech ∷ s .bad ∷ s .end ∷ []
+answerValues (Refused r) = placeOf r ∷ []
 
 -- ---- what a reading gives, of multiframes at places of the octets; ns are the notes of all pairs
 

@@ -22,8 +22,10 @@ use Rattle.pairs.specs.Pairs.{pairCount, allFrames, pairNotes}
 use Rattle.judging.specs.Judging.{badPairs}
 use Rattle.replacing.specs.Replacing.{pairsOctets}
 use Rattle.replacing.specs.Laws.{replaced-length}
-use Rattle.reader.specs.Reading.{indexPart, reportPart, summary, roomVerdict, settledVerdict, wholeVerdict, endVerdict, verdict, outcome, reading}
+use Rattle.reader.specs.Reading.{indexPart, reportPart, summary, roomVerdict, settledVerdict, wholeVerdict, endVerdict, verdict, finished, outcome, reading}
 use Rattle.reader.specs.declared.Refusal.{Refusal}
+use Rattle.reader.specs.declared.Summary.{Summary}
+use Rattle.reader.specs.declared.Answer.{Answer}
 use Rattle.reader.specs.declared.Answer.the-variants.{Read, Refused}
 use Rattle.reader.specs.declared.Verdict.{Verdict}
 use Rattle.reader.specs.declared.Verdict.the-variants.{Refuse, Accept}
@@ -163,6 +165,20 @@ module _ (octets : List ℕ) (codebook thresholds : List ℤ) (index report : Li
       → reading octets codebook thresholds index report ≡ outcome (Refused r) index report
   unfolding reading
   refused-keeps r e = rw e
+
+  -- so an answer that is a refusal says that both buffers are as they came
+  pub refusal-keeps : (r : Refusal) → reading octets codebook thresholds index report .answer ≡ Refused r
+      → reading octets codebook thresholds index report ≡ outcome (Refused r) index report
+  unfolding reading
+  refusal-keeps r e = by (verdict octets codebook thresholds (length index) (length report)) e
+    where
+      never : (s : Summary) → Read s ≡ Refused r → ⊥
+      never s e = let z : _≡_ {A = ℕ} 0 1 = cc in omega arith
+
+      by : (v : Verdict) → finished octets codebook thresholds index report (cutting octets .places) v .answer ≡ Refused r
+          → finished octets codebook thresholds index report (cutting octets .places) v ≡ outcome (Refused r) index report
+      by (Refuse x) e = ap (λ (a : Answer). outcome a index report) e
+      by (Accept c) e = absurd (never _ e)
 
   -- success lays both parts over the buffers' fronts
   pub accepted-lays : (c : ℕ) → verdict octets codebook thresholds (length index) (length report) ≡ Accept c

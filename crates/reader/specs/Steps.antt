@@ -32,7 +32,7 @@ use Rattle.cutting.specs.declared.Cut.the-variants as C
 use Rattle.replacing.specs.Replacing.{pairsOctets, replaced}
 use Rattle.replacing.specs.Laws.{same-replaced}
 use Rattle.replacing.specs.Speech.{allZero, zeroFrame, lastNonzero, speechOf, endOf}
-use Rattle.reader.specs.Reading.{indexPart, reportPart, summary, cutRefusal, roomVerdict, settledVerdict, wholeVerdict, verdict, Outcome, outcome, finished, reading}
+use Rattle.reader.specs.Reading.{answerNumber, answerValues, indexPart, reportPart, summary, cutRefusal, roomVerdict, settledVerdict, wholeVerdict, verdict, Outcome, outcome, finished, reading}
 use Rattle.reader.specs.ReadingLaws.{length-index, whole-accepted}
 use Rattle.reader.specs.declared.Refusal.the-variants.{WrongTables, Empty, Unsettled, Unfit, IndexShort, ReportShort, AllBad}
 use Rattle.reader.specs.declared.Summary.{Summary}
@@ -310,8 +310,15 @@ cut-refused w n p e = by (w .ending) refl e
 pub front-places : (ps l m : List ℕ) (n : ℕ) → m ≡ laid 0 ps l → n ≡ length ps → take n m ≡ ps
 front-places ps l m n em en = rw (em, en) (take-at ps (drop (0 + length ps) l) (length ps) refl)
 
--- ---- the first tests of a reading
 module _ (octets : List ℕ) (codebook thresholds : List ℤ) (index report : List ℕ) where
+  -- what `reading` says of answer and buffers, it says of 01's number and values
+  pub in-numbers : {o : Outcome} → o ≡ reading octets codebook thresholds index report
+      → (o ≡ reading octets codebook thresholds index report)
+      × ((answerNumber (o .answer) ≡ answerNumber (reading octets codebook thresholds index report .answer))
+      × (answerValues (o .answer) ≡ answerValues (reading octets codebook thresholds index report .answer)))
+  in-numbers e = (e, (ap (λ (q : Outcome). answerNumber (q .answer)) e, ap (λ (q : Outcome). answerValues (q .answer)) e))
+
+  -- ---- the first tests of a reading
   pub wrong-codebook : (length codebook ≡ codebookNumbers → ⊥) → outcome (Refused WrongTables) index report ≡ reading octets codebook thresholds index report
   unfolding reading verdict
   wrong-codebook h = rw (ne-eqb (length codebook) codebookNumbers h)

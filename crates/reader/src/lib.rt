@@ -15,7 +15,7 @@ ghost use Rattle.settling.specs.Stored.{packAll, Mended, opened};
 ghost use Rattle.pairs.specs.Pairs.{pairCount, pairNotes};
 ghost use Rattle.judging.specs.Judging.{badPairs};
 ghost use Rattle.judging.specs.Laws.{Good};
-ghost use Rattle.reader.specs.Reading.{numberOf, placeOf, indexPart, reportPart, summary, cutRefusal, wholeVerdict, settledVerdict, outcome, finished, reading};
+ghost use Rattle.reader.specs.Reading.{numberOf, placeOf, answerNumber, answerValues, indexPart, reportPart, summary, cutRefusal, wholeVerdict, settledVerdict, outcome, finished, reading};
 ghost use Rattle.reader.specs.Steps.{earlyVerdict, Kept, section, sections};
 ghost use Rattle.settling.specs.declared.Settings.the-variants.{Settled};
 
@@ -325,7 +325,7 @@ fn read_whole(
 
 // read turns received octets into the indices of all frames and a report, or refuses and leaves both buffers as they came.
 // Nothing is asked of the caller: codebook, 1,280 numbers; 14 thresholds; an index buffer of 168 and a report buffer of 13 octets for each
-// multiframe; else 01's refusals.
+// multiframe; else 01's refusals. 01's number and values of the answer, which of a refusal are its place, are those of the definition.
 pub fn read(
     octets: &[u8],
     codebook: &[i32],
@@ -333,7 +333,9 @@ pub fn read(
     index: &mut [u8],
     report: &mut [u8],
 ) -> Answer
-    ensures { λ r. ⌜ outcome r (now (index .exit)) (now (report .exit)) ≡ reading (now (octets .entry)) (now (codebook .entry)) (now (thresholds .entry)) (now (index .entry)) (now (report .entry)) ⌝ }
+    ensures all { λ r. ⌜ outcome r (now (index .exit)) (now (report .exit)) ≡ reading (now (octets .entry)) (now (codebook .entry)) (now (thresholds .entry)) (now (index .entry)) (now (report .entry)) ⌝ }
+    ensures number { λ r. ⌜ answerNumber r ≡ answerNumber (reading (now (octets .entry)) (now (codebook .entry)) (now (thresholds .entry)) (now (index .entry)) (now (report .entry)) .answer) ⌝ }
+    ensures values { λ r. ⌜ answerValues r ≡ answerValues (reading (now (octets .entry)) (now (codebook .entry)) (now (thresholds .entry)) (now (index .entry)) (now (report .entry)) .answer) ⌝ }
 {
     if codebook.len() != ReadingLayout::CODEBOOK {
         return Answer::Refused(Refusal::WrongTables);

@@ -1,28 +1,36 @@
--- Writing and reading back in one call: what it answers for every input, and the theorem "reads back" put to use: an accepted utterance with
--- 01's tables and room comes back. Assumes nothing.
-use mathlib.Core.Path.{_≡_, refl, sym, ap, ap₂, _∙_}
-use mathlib.Core.List.{List}
-use Prim.Native.Nat.{ℕ, _*_, _≤_, _<_}
+-- Writing and reading back in one call: what it answers for every input and what it leaves in the three buffers, by its three ends: back, written
+-- but not read, not written. The theorem "reads back" put to use: an accepted utterance with 01's tables and room comes back.
+-- Assumes nothing.
+use mathlib.Core.Path.{_≡_, refl, sym, ap, _∙_, subst}
+use mathlib.Core.List.{List, [], _∷_, _++_}
+use Prim.Native.Nat.{ℕ, _+_, _-_, _*_, _≤_}
 use native.Mathlib.Omega.{arith}
 use lib.IntN.{ℤ}
-use lib.ListN.{length, take, getD, replicate}
+use lib.ListN.{length, take, drop, replicate}
 use lib.Seq.{take-at}
 use Rattle.lists.specs.Parts.{over, length-over}
-use Rattle.layout.specs.Layout.{indexOctets, reportOctets, multiframeOctets}
+use Rattle.layout.specs.Layout.{indexOctets, reportOctets, codebookNumbers}
 use Rattle.writer.specs.Writing as W
-use Rattle.writer.specs.Writing.{needed, multiframesFor, frameCount, verdict, writing}
-use Rattle.writer.specs.Laws.{length-image, Accepted, accepted, accepts}
+use Rattle.writer.specs.Writing.{needed, multiframesFor, frameCount, verdict, image, writing}
+use Rattle.writer.specs.Laws.{length-image, accepted, accepts}
 use Rattle.writer.specs.Made.{Small}
-use Rattle.writer.specs.Image.{Utterance, multiframesOf, imageOf, writes}
+use Rattle.writer.specs.Image.{Utterance, imageOf, is-accepted}
 use Rattle.writer.specs.declared.Answer as WA
 use Rattle.writer.specs.declared.Answer.the-variants.{Written, Refused}
 use Rattle.writer.specs.declared.Refusal as WR
+use Rattle.writer.specs.declared.Refusal.the-variants.{Settings}
 use Rattle.reader.specs.Reading.{Outcome, outcome, reading}
+use Rattle.reader.specs.ReadingLaws.{refusal-keeps}
+use Rattle.reader.specs.Steps.{wrong-codebook}
 use Rattle.reader.specs.declared.Summary.{Summary}
 use Rattle.reader.specs.declared.Answer as RA
 use Rattle.reader.specs.declared.Answer.the-variants as R
+use Rattle.reader.specs.declared.Refusal as RR
+use Rattle.reader.specs.declared.Refusal.the-variants.{WrongTables}
 use Rattle.demands.specs.Whole.{Lent}
-use Rattle.demands.specs.ReadsBack.{spoken, padded, reads-image}
+use Rattle.demands.specs.ReadsBack.{reads-image}
+use Rattle.demands.specs.Instances.{lone, says1}
+use Rattle.demands.specs.Met.{zeroBook, zeroThresholds, indexFor, reportFor}
 use Rattle.roundtrip.specs.declared.Trip.{Trip}
 use Rattle.roundtrip.specs.declared.Trip.the-variants.{NotWritten, NotRead, Back}
 
@@ -56,11 +64,75 @@ abbrev pub whole : ℕ → ℕ → List ℕ → Summary
 whole rate type idx =
     record { rate = rate; kind = type; multiframes = multiframesFor (frameCount idx); speech = frameCount idx; bad = 0; end = 1 }
 
+-- the first n octets are the utterance's image, and octets beyond are as they came
+abbrev pub imaged : ℕ → ℕ → List ℕ → ℕ → List ℕ → List ℕ
+imaged rate type idx n out = over out 0 n (image rate type idx (multiframesFor (frameCount idx)))
+
+-- the frames as written and zeros after them, 168 octets a multiframe, and octets beyond as they came
+abbrev pub framesBack : List ℕ → List ℕ → List ℕ
+framesBack idx index =
+    let size = indexOctets * multiframesFor (frameCount idx) in over index 0 size (idx ++ replicate (size - length idx) 0)
+
+-- all notes 0, 13 octets a multiframe, and octets beyond as they came
+abbrev pub noteless : List ℕ → List ℕ → List ℕ
+noteless idx report = let size = reportOctets * multiframesFor (frameCount idx) in over report 0 size (replicate size 0)
+
+-- ---- the three ends
+-- BACK, of n octets written
+pub record IsBack (rate type : ℕ) (idx : List ℕ) (n : ℕ) (out index report : List ℕ) (t : Made) : Type 0 where
+  pub answer : t .answer ≡ Back (whole rate type idx)
+  pub image-out : t .output ≡ imaged rate type idx n out
+  pub frames-back : t .index ≡ framesBack idx index
+  pub no-notes : t .report ≡ noteless idx report
+
+-- WRITTEN BUT NOT READ: the output holds the image, which the reader refuses, and what was lent to the reader is as it came
+pub record IsUnread (rate type : ℕ) (idx : List ℕ) (codebook thresholds : List ℤ) (out index report : List ℕ) (x : RR.Refusal) (t : Made) : Type 0 where
+  pub octets : ℕ
+  pub written : verdict rate type idx (length out) ≡ Written octets
+  pub image-out : t .output ≡ imaged rate type idx octets out
+  pub refused : reading (image rate type idx (multiframesFor (frameCount idx))) codebook thresholds index report .answer ≡ R.Refused x
+  pub index-stays : t .index ≡ index
+  pub report-stays : t .report ≡ report
+
+-- NOT WRITTEN: all three are as they came
+pub record IsUnwritten (rate type : ℕ) (idx out index report : List ℕ) (x : WR.Refusal) (t : Made) : Type 0 where
+  pub refused : verdict rate type idx (length out) ≡ Refused x
+  pub all-stay : (t .output ≡ out) × (t .index ≡ index) × (t .report ≡ report)
+
 module _ (rate type : ℕ) (idx : List ℕ) (codebook thresholds : List ℤ) (out index report : List ℕ) where
+  -- whatever the writer accepts, with 01's tables and room, is back
+  abbrev pub ComesBack : Made → Type 0
+  ComesBack t =
+      (n : ℕ) → verdict rate type idx (length out) ≡ Written n → Lent (multiframesFor (frameCount idx)) codebook thresholds index report
+      → IsBack rate type idx n out index report t
+
+  -- what the buffers hold if the reader refuses, and if the writer does
+  abbrev pub Unread : Made → Type 0
+  Unread t = (x : RR.Refusal) → t .answer ≡ NotRead x → IsUnread rate type idx codebook thresholds out index report x t
+
+  abbrev pub Unwritten : Made → Type 0
+  Unwritten t = (x : WR.Refusal) → t .answer ≡ NotWritten x → IsUnwritten rate type idx out index report x t
+
+  -- ---- what is accepted is written, and its image is read
+  abbrev back : Outcome
+  back = reading (image rate type idx (multiframesFor (frameCount idx))) codebook thresholds index report
+
+  as-written : (n : ℕ) → verdict rate type idx (length out) ≡ Written n
+      → trip rate type idx codebook thresholds out index report ≡ made (tripOf (back .answer)) (imaged rate type idx n out) (back .index) (back .report)
+  unfolding trip writing
+  as-written n e =
+      let i = image rate type idx (multiframesFor (frameCount idx)) in
+      let l : length i ≡ n = length-image rate type idx (multiframesFor (frameCount idx)) ∙ sym (accepted rate type idx (length out) n e .octets-needed) in
+      let t : take n (imaged rate type idx n out) ≡ i = take-at i (drop (0 + n) out) n l in
+      rw e (ap (λ (s : List ℕ). let q = reading s codebook thresholds index report in made (tripOf (q .answer)) (imaged rate type idx n out) (q .index) (q .report)) t)
+
+  not-written : (r : WR.Refusal) → verdict rate type idx (length out) ≡ Refused r
+      → trip rate type idx codebook thresholds out index report ≡ made (NotWritten r) out index report
+  unfolding trip writing
+  not-written r e = rw e
+
   -- COMES BACK: whatever the writer accepts, with 01's tables and room
-  pub comes-back : Small idx → (n : ℕ) → verdict rate type idx (length out) ≡ Written n → Lent (multiframesFor (frameCount idx)) codebook thresholds index report
-      → trip rate type idx codebook thresholds out index report .answer ≡ Back (whole rate type idx)
-  unfolding trip
+  pub comes-back : Small idx → ComesBack (trip rate type idx codebook thresholds out index report)
   comes-back small n e lent =
       let a = accepted rate type idx (length out) n e in
       let u : Utterance =
@@ -71,10 +143,57 @@ module _ (rate type : ℕ) (idx : List ℕ) (codebook thresholds : List ℤ) (ou
         small = small;
         written = accepts rate type idx (needed idx) (a .sizes) (a .narrow-indices) (a .speaks) (omega arith);
       } in
-      let w = writes u out (a .room) in
-      let l : length (imageOf u) ≡ needed idx = length-image rate type idx (multiframesOf u) in
-      let t : take (needed idx) (over out 0 (needed idx) (imageOf u)) ≡ imageOf u = take-at (imageOf u) _ (needed idx) l in
-      rw w (ap tripOf (ap (λ (s : List ℕ). reading s codebook thresholds index report .answer) t ∙ ap (λ (o : Outcome). o .answer) (reads-image u codebook thresholds index report lent)))
+      let r = reads-image u codebook thresholds index report lent in
+      subst (IsBack rate type idx n out index report) (sym (as-written n e))
+      record {
+        answer = ap (λ (o : Outcome). tripOf (o .answer)) r;
+        image-out = refl;
+        frames-back = ap (λ (o : Outcome). o .index) r;
+        no-notes = ap (λ (o : Outcome). o .report) r;
+      }
+
+  tripped : (y : RA.Answer) (x : RR.Refusal) → tripOf y ≡ NotRead x → y ≡ R.Refused x
+  tripped (R.Read s) x e = absurd (let z : _≡_ {A = ℕ} 0 1 = cc in omega arith)
+  tripped (R.Refused r) x e = let z : r ≡ x = cc in ap R.Refused z
+
+  abbrev result : Made
+  result = trip rate type idx codebook thresholds out index report
+
+  -- the reader refuses: the image is out, and what was lent to the reader is as it came
+  pub unread : Unread result
+  unread x = by (verdict rate type idx (length out)) refl
+    where
+      by : (v : WA.Answer) → verdict rate type idx (length out) ≡ v → result .answer ≡ NotRead x → IsUnread rate type idx codebook thresholds out index report x result
+      by (Written n) v e =
+          let w = as-written n v in
+          let y : back .answer ≡ R.Refused x = tripped (back .answer) x (sym (ap (λ (m : Made). m .answer) w) ∙ e) in
+          let k = refusal-keeps (image rate type idx (multiframesFor (frameCount idx))) codebook thresholds index report x y in
+          subst (IsUnread rate type idx codebook thresholds out index report x) (sym w)
+          record { octets = n; written = v; image-out = refl; refused = y; index-stays = ap (λ (q : Outcome). q .index) k; report-stays = ap (λ (q : Outcome). q .report) k }
+      by (Refused r) v e = absurd (never r x (sym (ap (λ (m : Made). m .answer) (not-written r v)) ∙ e))
+        where
+          never : (r : WR.Refusal) (x : RR.Refusal) → NotWritten r ≡ NotRead x → ⊥
+          never r x e = let z : _≡_ {A = ℕ} 0 1 = cc in omega arith
+
+  -- the writer refuses: all is as it came
+  pub unwritten : Unwritten result
+  unwritten x = by (verdict rate type idx (length out)) refl
+    where
+      by : (v : WA.Answer) → verdict rate type idx (length out) ≡ v → result .answer ≡ NotWritten x → IsUnwritten rate type idx out index report x result
+      by (Refused r) v e =
+          let w = not-written r v in
+          let y : NotWritten r ≡ NotWritten x = sym (ap (λ (m : Made). m .answer) w) ∙ e in
+          let z : r ≡ x = cc in
+          subst (IsUnwritten rate type idx out index report x) (sym w) record { refused = v ∙ ap Refused z; all-stay = (refl, refl, refl) }
+      by (Written n) v e = absurd (never (back .answer) (sym (ap (λ (m : Made). m .answer) (as-written n v)) ∙ e))
+        where
+          never : (y : RA.Answer) → tripOf y ≡ NotWritten x → ⊥
+          never (R.Read s) e = let z : _≡_ {A = ℕ} 0 1 = cc in omega arith
+          never (R.Refused r) e = let z : _≡_ {A = ℕ} 0 1 = cc in omega arith
+
+  -- what is answered and left as `trip` says meets all four promises
+  pub meets : Small idx → {t : Made} → t ≡ result → (t ≡ result) × (ComesBack t × (Unread t × Unwritten t))
+  meets small e = (e, (subst ComesBack (sym e) (comes-back small), (subst Unread (sym e) unread, subst Unwritten (sym e) unwritten)))
 
   -- ---- the code's ends, from what the writer and the reader ensure
   ends : (x : WA.Answer) (o : List ℕ) → W.outcome x o ≡ writing rate type idx out
@@ -112,3 +231,26 @@ module _ (rate type : ℕ) (idx : List ℕ) (codebook thresholds : List ℤ) (ou
           length-over out (W.image rate type idx (multiframesFor (frameCount idx))) 0 k (omega (arith, b .octets-needed, b .room))
           (length-image rate type idx (multiframesFor (frameCount idx)) ∙ sym (b .octets-needed))
       same-length (Refused r) ev = refl
+
+-- ---- BOTH REFUSALS ARE MET
+-- every utterance that is written and then read with a codebook of another size is unread, with refusal 11
+pub wrong-tables : (u : Utterance) (codebook thresholds : List ℤ) (out index report : List ℕ) → needed (u .indices) ≤ length out → (length codebook ≡ codebookNumbers → ⊥)
+    → trip (u .rate) (u .kind) (u .indices) codebook thresholds out index report
+    ≡ made (NotRead WrongTables) (imaged (u .rate) (u .kind) (u .indices) (needed (u .indices)) out) index report
+wrong-tables u codebook thresholds out index report room wrong =
+    let a = is-accepted u in
+    as-written (u .rate) (u .kind) (u .indices) codebook thresholds out index report (needed (u .indices))
+    (accepts (u .rate) (u .kind) (u .indices) (length out) (a .sizes) (a .narrow-indices) (a .speaks) room)
+    ∙ ap (λ (q : Outcome). made (tripOf (q .answer)) (imaged (u .rate) (u .kind) (u .indices) (needed (u .indices)) out) (q .index) (q .report))
+    (sym (wrong-codebook (imageOf u) codebook thresholds index report wrong))
+
+-- so is 01's frame 1 with no codebook at all: its 144 octets stand in the output, and the octet beyond is as it came
+pub unread-1 : trip 0 0 (lone 1) [] zeroThresholds (replicate 145 255) (indexFor 1) (reportFor 1)
+    ≡ made (NotRead WrongTables) (imageOf says1 ++ (255 ∷ [])) (indexFor 1) (reportFor 1)
+unread-1 = wrong-tables says1 [] zeroThresholds (replicate 145 255) (indexFor 1) (reportFor 1) (omega arith) (λ e. omega arith)
+
+-- and a rate of 2 is not written
+pub unwritten-2 : trip 2 0 (lone 1) zeroBook zeroThresholds (replicate 145 255) (indexFor 1) (reportFor 1)
+    ≡ made (NotWritten Settings) (replicate 145 255) (indexFor 1) (reportFor 1)
+unfolding verdict
+unwritten-2 = not-written 2 0 (lone 1) zeroBook zeroThresholds (replicate 145 255) (indexFor 1) (reportFor 1) Settings refl

@@ -1,13 +1,7 @@
 // Writing and reading back in one call, for whoever checks a terminal before it leaves: the theorem "reads back" at work.
 use reader::Summary;
 ghost use mathlib.Core.Path.{_≡_};
-ghost use Prim.Native.Nat.{ℕ};
-ghost use lib.ListN.{length};
-ghost use Rattle.writer.specs.Writing.{multiframesFor, frameCount, verdict};
-ghost use Rattle.writer.specs.declared.Answer.the-variants.{Written};
-ghost use Rattle.demands.specs.Whole.{Lent};
-ghost use Rattle.roundtrip.specs.declared.Trip.the-variants.{Back};
-ghost use Rattle.roundtrip.specs.Trip.{made, trip, whole};
+ghost use Rattle.roundtrip.specs.Trip.{made, trip, ComesBack, Unread, Unwritten};
 
 // What became of an utterance: refused by the writer, refused by the reader, or back with the reader's summary.
 pub enum Trip {
@@ -17,7 +11,8 @@ pub enum Trip {
 }
 
 // write_and_read writes an utterance into the front of out and reads the octets written back into index and report. Whatever the writer
-// accepts comes back whole, with the same settings, if the tables are 01's and there is room.
+// accepts comes back whole, with the same settings, its frames and zeros after them in index and no note in report, if the tables are 01's
+// and there is room. If the reader refuses, out holds the image, and index and report are as they came; if the writer refuses, all three are.
 pub fn write_and_read(
     rate: u8,
     kind: u8,
@@ -29,7 +24,9 @@ pub fn write_and_read(
     report: &mut [u8],
 ) -> Trip
     ensures all { λ r. ⌜ made r (now (out .exit)) (now (index .exit)) (now (report .exit)) ≡ trip rate kind (now (indices .entry)) (now (codebook .entry)) (now (thresholds .entry)) (now (out .entry)) (now (index .entry)) (now (report .entry)) ⌝ }
-    ensures back { λ r. ⌜ ((n : ℕ) → verdict rate kind (now (indices .entry)) (length (now (out .entry))) ≡ Written n → Lent (multiframesFor (frameCount (now (indices .entry)))) (now (codebook .entry)) (now (thresholds .entry)) (now (index .entry)) (now (report .entry)) → r ≡ Back (whole rate kind (now (indices .entry)))) ⌝ }
+    ensures back { λ r. ⌜ ComesBack rate kind (now (indices .entry)) (now (codebook .entry)) (now (thresholds .entry)) (now (out .entry)) (now (index .entry)) (now (report .entry)) (made r (now (out .exit)) (now (index .exit)) (now (report .exit))) ⌝ }
+    ensures unread { λ r. ⌜ Unread rate kind (now (indices .entry)) (now (codebook .entry)) (now (thresholds .entry)) (now (out .entry)) (now (index .entry)) (now (report .entry)) (made r (now (out .exit)) (now (index .exit)) (now (report .exit))) ⌝ }
+    ensures unwritten { λ r. ⌜ Unwritten rate kind (now (indices .entry)) (now (codebook .entry)) (now (thresholds .entry)) (now (out .entry)) (now (index .entry)) (now (report .entry)) (made r (now (out .exit)) (now (index .exit)) (now (report .exit))) ⌝ }
 {
     match writer::write(rate, kind, indices, out) {
         writer::Answer::Written { octets } => {

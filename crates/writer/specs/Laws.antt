@@ -18,7 +18,7 @@ use Rattle.bits.specs.Laws.{length-octets}
 use Rattle.packet.specs.Packet.{stream}
 use Rattle.header_code.specs.Code.{codeword}
 use Rattle.header.specs.Message.{message}
-use Rattle.writer.specs.Writing.{Search, at, nowhere, firstFrom, isFound, settingsRight, frameCount, isZero, endsEarly, firstWide, firstEarly, roomAnswer, earlyAnswer, wideAnswer, needed, verdict, multiframesFor, multiframe, image, outcome, writing}
+use Rattle.writer.specs.Writing.{Search, at, nowhere, firstFrom, isFound, settingsRight, frameCount, isZero, endsEarly, firstWide, firstEarly, roomAnswer, earlyAnswer, wideAnswer, needed, verdict, multiframesFor, multiframe, image, outcome, writing, Outcome, numberOf, placeOf}
 use Rattle.writer.specs.declared.Refusal.{Refusal}
 use Rattle.writer.specs.declared.Answer.{Answer}
 use Rattle.writer.specs.declared.Refusal.the-variants.{Settings, PartFrame, TooMany, WideIndex, ZeroFrame, OutputShort}
@@ -246,3 +246,9 @@ finishes rate type idx out done n e ed =
 pub leaves : (rate type : ℕ) (idx out : List ℕ) (r : Refusal) → verdict rate type idx (length out) ≡ Refused r → outcome (Refused r) out ≡ writing rate type idx out
 unfolding writing
 leaves rate type idx out r e = rw e
+
+-- what `writing` says of answer and output, it says of 01's number and place
+pub in-numbers : (rate type : ℕ) (idx out : List ℕ) {o : Outcome} → o ≡ writing rate type idx out
+    → (o ≡ writing rate type idx out)
+    × ((numberOf (o .answer) ≡ numberOf (writing rate type idx out .answer)) × (placeOf (o .answer) ≡ placeOf (writing rate type idx out .answer)))
+in-numbers rate type idx out e = (e, (ap (λ (q : Outcome). numberOf (q .answer)) e, ap (λ (q : Outcome). placeOf (q .answer)) e))

@@ -196,9 +196,12 @@ fn put_image(rate: u8, kind: u8, indices: &[u8], m: usize, out: &mut [u8])
 }
 
 // write puts the utterance of these settings and index octets, seven a frame, into the front of out as multiframes and answers the number
-// of octets written; octets beyond stay. Or it refuses, in 01's order, and every octet of out is as it came.
+// of octets written; octets beyond stay. Or it refuses, in 01's order, and every octet of out is as it came. 01's number and place of the
+// answer are those of the definition.
 pub fn write(rate: u8, kind: u8, indices: &[u8], out: &mut [u8]) -> Answer
-    ensures { λ r. ⌜ outcome r (now (out .exit)) ≡ writing rate kind (now (indices .entry)) (now (out .entry)) ⌝ }
+    ensures all { λ r. ⌜ outcome r (now (out .exit)) ≡ writing rate kind (now (indices .entry)) (now (out .entry)) ⌝ }
+    ensures number { λ r. ⌜ numberOf r ≡ numberOf (writing rate kind (now (indices .entry)) (now (out .entry)) .answer) ⌝ }
+    ensures place { λ r. ⌜ placeOf r ≡ placeOf (writing rate kind (now (indices .entry)) (now (out .entry)) .answer) ⌝ }
 {
     match decide(rate, kind, indices, out.len()) {
         Answer::Written { octets } => {

@@ -32,7 +32,7 @@ same-length-2 : tie.Need-same-length-2
 same-length-2 c = search needs
 
 returns : tie.Need-returns
-returns c = read-counted _ _ _ _ _ _ _ (c .before .before .before .before .before .before .before .read .ensures) (c .before .summary .given .1)
+returns c = read-counted _ _ _ _ _ _ _ (c .before .before .before .before .before .before .before .read .ensures .0) (c .before .summary .given .1)
 
 same-length-3 : tie.Need-same-length-3
 same-length-3 c = search needs
@@ -41,7 +41,7 @@ same-length-4 : tie.Need-same-length-4
 same-length-4 c = search needs
 
 returns-2 : tie.Need-returns-2
-returns-2 c = read-counted _ _ _ _ _ _ _ (c .before .before .before .before .before .before .before .read .ensures) (c .before .r .given .1)
+returns-2 c = read-counted _ _ _ _ _ _ _ (c .before .before .before .before .before .before .before .read .ensures .0) (c .before .r .given .1)
 
 pub read-front-spec : {M : Type 1} → statement M
 read-front-spec =

@@ -41,7 +41,7 @@ same-length-3 c = search needs
 returns-2 : tie.Need-returns-2
 returns-2 c =
     let s = c .before .before .before .before .before .s in
-    returns-read (c .before .before .before .before .before .before .before .before .before .before .before .before .before .before .before .before .before .before .before .args .answer .now) _ _ _ (omega (arith, c .before .before .before .before .before .before .before .before .before .before .before .before .before .before .if1 .left)) _ (s .given .0 .0) _ _ _ (c .before .before .before .before .before .before .before .before .before .before .before .read .ensures) (s .given .1)
+    returns-read (c .before .before .before .before .before .before .before .before .before .before .before .before .before .before .before .before .before .before .before .args .answer .now) _ _ _ (omega (arith, c .before .before .before .before .before .before .before .before .before .before .before .before .before .before .if1 .left)) _ (s .given .0 .0) _ _ _ (c .before .before .before .before .before .before .before .before .before .before .before .read .ensures .0) (s .given .1)
     (c .before .before .put-summary .ensures)
 
 same-length-4 : tie.Need-same-length-4
@@ -56,7 +56,7 @@ same-length-6 c = search needs
 returns-3 : tie.Need-returns-3
 returns-3 c =
     let r = c .before .before .before .r in
-    returns-refusal (c .before .before .before .before .before .before .before .before .before .before .before .before .before .before .before .before .before .args .answer .now) _ _ _ (omega (arith, c .before .before .before .before .before .before .before .before .before .before .before .before .if1 .left)) _ (r .given .0 .0) _ _ _ _ (c .before .before .before .before .before .before .before .before .before .read .ensures) (r .given .1)
+    returns-refusal (c .before .before .before .before .before .before .before .before .before .before .before .before .before .before .before .before .before .args .answer .now) _ _ _ (omega (arith, c .before .before .before .before .before .before .before .before .before .before .before .before .if1 .left)) _ (r .given .0 .0) _ _ _ _ (c .before .before .before .before .before .before .before .before .before .read .ensures .0) (r .given .1)
     (c .number-of .ensures) (c .before .place-of .ensures)
 
 pub dsr-read-spec : {M : Type 1} → statement M

@@ -1,6 +1,6 @@
 -- The writer's answer in numbers. Assumes nothing.
-use mathlib.Core.Path.{_≡_, ap, _∙_}
-use Rattle.writer.specs.Writing.{Outcome, numberOf, placeOf}
+use mathlib.Core.Path.{ap, _∙_}
+use Rattle.writer.specs.Writing.{Outcome}
 use borrow.Author.Needs.{needs}
 use Rattle.link.proofs.dsr_write.Statement.{statement}
 use Rattle.link.proofs.dsr_write.Tie as tie
@@ -20,8 +20,8 @@ same-length c = search needs
 returns : tie.Need-returns
 returns c =
     let e = c .before .before .before .before .write .ensures in (
-      c .number-of .ensures ∙ ap (λ (o : Outcome). numberOf (o .answer)) e,
-      (ap (λ (o : Outcome). o .output) e, c .before .place-of .ensures ∙ ap (λ (o : Outcome). placeOf (o .answer)) e),
+      c .number-of .ensures ∙ e .1 .0,
+      (ap (λ (o : Outcome). o .output) (e .0), c .before .place-of .ensures ∙ e .1 .1),
     )
 
 pub dsr-write-spec : {M : Type 1} → statement M

@@ -6,7 +6,7 @@ use native.Mathlib.Omega.{arith}
 use lib.ListN.{length, take, replicate}
 use Rattle.cutting.specs.Cutting.{whole, cutting}
 use Rattle.cutting.specs.Laws.{Placed, places-placed, at-most-255}
-use Rattle.reader.specs.Steps.{cut-whole, cut-refused, front-places, wrong-codebook, wrong-thresholds, not-cut, whole-reading}
+use Rattle.reader.specs.Steps.{cut-whole, cut-refused, front-places, wrong-codebook, wrong-thresholds, not-cut, whole-reading, in-numbers}
 use borrow.Author.Needs.{needs}
 use Rattle.reader.proofs.read.Statement.{statement}
 use Rattle.reader.proofs.read.Tie as tie
@@ -30,13 +30,15 @@ returns : tie.Need-returns
 returns c =
     let st = c .before .before .before .before in
     let a = st .args in
-    wrong-codebook (a .octets .now) (a .codebook .now) (a .thresholds .now) (a .index .now) (a .report .now) (c .if1 .taken)
+    in-numbers (a .octets .now) (a .codebook .now) (a .thresholds .now) (a .index .now) (a .report .now)
+    (wrong-codebook (a .octets .now) (a .codebook .now) (a .thresholds .now) (a .index .now) (a .report .now) (c .if1 .taken))
 
 returns-2 : tie.Need-returns-2
 returns-2 c =
     let st = c .before .before .before .before .before in
     let a = st .args in
-    wrong-thresholds (a .octets .now) (a .codebook .now) (a .thresholds .now) (a .index .now) (a .report .now) (c .before .if1 .left) (c .if2 .taken)
+    in-numbers (a .octets .now) (a .codebook .now) (a .thresholds .now) (a .index .now) (a .report .now)
+    (wrong-thresholds (a .octets .now) (a .codebook .now) (a .thresholds .now) (a .index .now) (a .report .now) (c .before .if1 .left) (c .if2 .taken))
 
 slice-aggregate-cut-into : tie.Need-slice-aggregate-cut-into
 slice-aggregate-cut-into c = search needs
@@ -87,7 +89,8 @@ returns-3 c =
     let i = k .before .before .before .before .before in
     let st = i .before .before .before .before .before in
     let a = st .args in
-    whole-reading (a .octets .now) (a .codebook .now) (a .thresholds .now) (a .index .now) (a .report .now) (i .before .if1 .left) (i .if2 .left) _ _ (counted k .0) (lent k) (w .read-whole .ensures)
+    in-numbers (a .octets .now) (a .codebook .now) (a .thresholds .now) (a .index .now) (a .report .now)
+    (whole-reading (a .octets .now) (a .codebook .now) (a .thresholds .now) (a .index .now) (a .report .now) (i .before .if1 .left) (i .if2 .left) _ _ (counted k .0) (lent k) (w .read-whole .ensures))
 
 returns-4 : tie.Need-returns-4
 returns-4 c =
@@ -96,8 +99,9 @@ returns-4 c =
     let i = u .before .before in
     let st = i .before .before .before .before .before in
     let a = st .args in
-    not-cut (a .octets .now) (a .codebook .now) (a .thresholds .now) (a .index .now) (a .report .now) (i .before .if1 .left) (i .if2 .left) _ _ (c .cut-refusal .result)
-    (cut-refused (cutting (a .octets .now)) _ _ (sym (u .cut-into .ensures .0) ∙ n .number .given .1)) (c .cut-refusal .ensures)
+    in-numbers (a .octets .now) (a .codebook .now) (a .thresholds .now) (a .index .now) (a .report .now)
+    (not-cut (a .octets .now) (a .codebook .now) (a .thresholds .now) (a .index .now) (a .report .now) (i .before .if1 .left) (i .if2 .left) _ _ (c .cut-refusal .result)
+    (cut-refused (cutting (a .octets .now)) _ _ (sym (u .cut-into .ensures .0) ∙ n .number .given .1)) (c .cut-refusal .ensures))
 
 pub read-spec : {M : Type 1} → statement M
 read-spec =

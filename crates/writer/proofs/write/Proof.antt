@@ -2,7 +2,7 @@
 use mathlib.Core.Path.{sym, _∙_}
 use native.Mathlib.Omega.{arith}
 use lib.ListN.{length}
-use Rattle.writer.specs.Laws.{accepted, few-multiframes, finishes, leaves}
+use Rattle.writer.specs.Laws.{accepted, few-multiframes, finishes, leaves, in-numbers}
 use borrow.Author.Needs.{needs}
 use Rattle.writer.proofs.write.Statement.{statement}
 use Rattle.writer.proofs.write.Tie as tie
@@ -31,14 +31,16 @@ returns : tie.Need-returns
 returns c =
     let d = c .before .before .before .before .before .before .before in
     let a = d .before .before .before .args in
-    finishes (a .rate) (a .kind) (a .indices .now) (a .out .now) _ _ (sym (d .decide .ensures) ∙ c .before .before .before .before .before .octets .given .1)
-    (c .before .before .put-image .ensures)
+    in-numbers (a .rate) (a .kind) (a .indices .now) (a .out .now)
+    (finishes (a .rate) (a .kind) (a .indices .now) (a .out .now) _ _ (sym (d .decide .ensures) ∙ c .before .before .before .before .before .octets .given .1)
+    (c .before .before .put-image .ensures))
 
 returns-2 : tie.Need-returns-2
 returns-2 c =
     let d = c .before .before .before in
     let a = d .before .before .before .args in
-    leaves (a .rate) (a .kind) (a .indices .now) (a .out .now) _ (sym (d .decide .ensures) ∙ c .before .r .given .1)
+    in-numbers (a .rate) (a .kind) (a .indices .now) (a .out .now)
+    (leaves (a .rate) (a .kind) (a .indices .now) (a .out .now) _ (sym (d .decide .ensures) ∙ c .before .r .given .1))
 
 pub write-spec : {M : Type 1} → statement M
 write-spec =

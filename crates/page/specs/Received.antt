@@ -1,0 +1,591 @@
+-- The reader's table of refusals (01, "Reading"), case by case: each number with its place, literally, and both buffers as they came; each pair of
+-- neighbours in the order with both applying; and success with every setting. 01's numbers stand bare here: this is the page that the
+-- definitions are held to. Octets are in sending order.
+-- Assumes nothing.
+use mathlib.Core.Path.{_≡_, refl, sym, ap, ap₂, _∙_, subst}
+use mathlib.Core.Bool.{Bool, true, xor}
+use mathlib.Core.List.{List, [], _∷_, _++_}
+use Prim.Native.Nat.{ℕ, zero, suc, _+_, _*_, _/_, _%_, _^_, _≤_, _<_}
+use native.Mathlib.Omega.{arith}
+use lib.Bits.{bitXor, xor-self}
+use lib.Count.{ones, onesIn}
+use lib.Dec.{lit<}
+use lib.IntN.{ℤ}
+use lib.ListN.{length, drop, getD, replicate, List·getD-append, length-append, length-drop}
+use lib.Seq.{drop-at, getD-take, getD-drop}
+use borrow.Author.Tests.{eq-eqb, ne-eqb, lt-ltb, le-ltb}
+use Rattle.gf2.specs.Light.{ones-in}
+use Rattle.lists.specs.Parts.{part}
+use Rattle.lists.specs.Rows.{joined, each, length-each, each-at, same-each, length-joined, joined-part}
+use Rattle.layout.specs.Layout.{multiframeOctets, mostMultiframes, indexOctets, reportOctets}
+use Rattle.bits.specs.Bits.{value, bits, field, fields}
+use Rattle.crc.specs.Crc.{after, crc, alike, right}
+use Rattle.header_code.specs.Code.{codeword, flipsTo}
+use Rattle.header_code.specs.Code.Examples.{octets, count-1, count-2, exp-9, three-from-zero}
+use Rattle.header.specs.Message.{message, rateOf, expOf, commonBits}
+use Rattle.header.specs.Message.Laws.{message-lt, message-counts, rate-back, rate-masked, exp-shifted, common-rate, common-exp, common-message}
+use Rattle.header.specs.Reading as H
+use Rattle.header.specs.Reading.Laws.{near, mended, lost-at-three}
+use Rattle.header.specs.declared.Header.{Header}
+use Rattle.header.specs.declared.Header.the-variants.{Codeword, Lost}
+use Rattle.cutting.specs.Cutting.{syncFirst, syncSecond, syncMet, lastMet, pieceBy, pieceOf, Ending, whole, refused, Cutting, walk, cutting}
+use Rattle.cutting.specs.declared.Piece.the-variants.{Multiframe}
+use Rattle.cutting.specs.Laws.{multiframe-met, at-place, every-length}
+use Rattle.settling.specs.Settling.{readings, firstAgreeing, onlyOne, settling}
+use Rattle.settling.specs.Laws.{only-clean, only-mended, all-agree}
+use Rattle.settling.specs.declared.Settings.{Settings}
+use Rattle.settling.specs.declared.Settings.the-variants as S
+use Rattle.pairs.specs.Pairs.{pairCount, pairFails, pairOdd, pairNotes}
+use Rattle.judging.specs.Judging.{noteBy, notes, badPairs}
+use Rattle.reader.specs.Reading.{numberOf, placeOf, answerNumber, answerValues, cutRefusal, roomVerdict, settledVerdict, wholeVerdict, Outcome, outcome, finished, reading}
+use Rattle.reader.specs.ReadingLaws.{Usable}
+use Rattle.reader.specs.Steps.{wrong-codebook, wrong-thresholds, not-cut, whole-reading}
+use Rattle.reader.specs.declared.Refusal.{Refusal}
+use Rattle.reader.specs.declared.Refusal.the-variants.{WrongTables, Empty, Unsettled, Unfit, IndexShort, ReportShort, AllBad}
+use Rattle.reader.specs.declared.Answer.the-variants.{Refused}
+use Rattle.writer.specs.Writing.{firstFrom, roomAnswer, verdict, needed, image}
+use Rattle.writer.specs.Laws.{length-image}
+use Rattle.writer.specs.Made.{wordIn, part-within}
+use Rattle.writer.specs.Image.{image-sync, image-word, Utterance}
+use Rattle.writer.specs.declared.Answer.the-variants.{Written}
+use Rattle.demands.specs.Whole.{rowOf, cut-is, readings-are}
+use Rattle.demands.specs.ReadsBack.{reads-image}
+use Rattle.demands.specs.Instances.{lone, small-lone}
+
+-- ---- what a line of the table says
+-- the reading is refused with this number and this place, which `numberOf` and `placeOf` give of its refusal, and both buffers are as they came
+pub record Refuses (octets : List ℕ) (codebook thresholds : List ℤ) (index report : List ℕ) (number place : ℕ) : Type 0 where
+  pub number-is : answerNumber (reading octets codebook thresholds index report .answer) ≡ number
+  pub place-is : answerValues (reading octets codebook thresholds index report .answer) ≡ place ∷ []
+  pub index-stays : reading octets codebook thresholds index report .index ≡ index
+  pub report-stays : reading octets codebook thresholds index report .report ≡ report
+
+-- of a codebook of c numbers and t thresholds, whatever they are, and any buffers
+abbrev pub Tabled : List ℕ → ℕ → ℕ → ℕ → ℕ → Type 0
+Tabled octets c t number place =
+    (codebook thresholds : List ℤ) → length codebook ≡ c → length thresholds ≡ t → (index report : List ℕ) → Refuses octets codebook thresholds index report number place
+
+-- of 01's tables and any buffers
+abbrev pub Always : List ℕ → ℕ → ℕ → Type 0
+Always octets number place = Tabled octets 1280 14 number place
+
+-- of 01's tables and buffers of i and r octets, whatever they hold
+abbrev pub Sized : List ℕ → ℕ → ℕ → ℕ → ℕ → Type 0
+Sized octets i r number place =
+    (codebook thresholds : List ℤ) → length codebook ≡ 1280 → length thresholds ≡ 14 → (index report : List ℕ) → length index ≡ i → length report ≡ r
+    → Refuses octets codebook thresholds index report number place
+
+-- the reading succeeds, with these values; frames and notes stand at the buffers' fronts, and octets beyond are as they came
+pub record Reads (octets : List ℕ) (codebook thresholds : List ℤ) (index report values frames notes : List ℕ) : Type 0 where
+  pub number-is : answerNumber (reading octets codebook thresholds index report .answer) ≡ 0
+  pub values-are : answerValues (reading octets codebook thresholds index report .answer) ≡ values
+  pub index-is : reading octets codebook thresholds index report .index ≡ frames ++ drop (length frames) index
+  pub report-is : reading octets codebook thresholds index report .report ≡ notes ++ drop (length notes) report
+
+-- with 01's tables and room
+abbrev pub Succeeds : List ℕ → List ℕ → List ℕ → List ℕ → Type 0
+Succeeds octets values frames notes =
+    (codebook thresholds : List ℤ) → length codebook ≡ 1280 → length thresholds ≡ 14 → (index report : List ℕ) → length frames ≤ length index
+    → length notes ≤ length report → Reads octets codebook thresholds index report values frames notes
+
+-- ---- the octets
+-- a whole multiframe: sync, header, and a stream of zeros
+abbrev pub headed : List ℕ → List ℕ
+headed header = 0x87 ∷ 0xB2 ∷ (header ++ replicate 138 0x00)
+
+-- 01's headers of 8 kHz, type 0, count 1 and count 2; the first of them with its first bit flipped; 01's lost header; EXP9 alone
+abbrev pub count1 : List ℕ
+count1 = 0x08 ∷ 0x00 ∷ 0x0E ∷ 0xEE ∷ []
+
+abbrev pub count2 : List ℕ
+count2 = 0x10 ∷ 0x00 ∷ 0x1D ∷ 0x0D ∷ []
+
+abbrev pub flipped : List ℕ
+flipped = 0x09 ∷ 0x00 ∷ 0x0E ∷ 0xEE ∷ []
+
+abbrev pub lost : List ℕ
+lost = 0x01 ∷ 0x00 ∷ 0x01 ∷ 0x01 ∷ []
+
+abbrev pub exp9 : List ℕ
+exp9 = 0x00 ∷ 0x80 ∷ 0x80 ∷ 0xE8 ∷ []
+
+-- two packets, of each of which the first bit is one and the others are zero
+abbrev pub twoBad : List ℕ
+twoBad = 0x01 ∷ (replicate 10 0x00 ++ (0x10 ∷ replicate 11 0x00))
+
+abbrev pub allBad : List ℕ
+allBad = 0x87 ∷ 0xB2 ∷ (count1 ++ (twoBad ++ (twoBad ++ (twoBad ++ (twoBad ++ (twoBad ++ twoBad))))))
+
+-- one multiframe, and two
+abbrev pub one : List ℕ
+one = headed count1
+
+abbrev pub two : List ℕ
+two = headed count1 ++ headed count2
+
+-- n multiframes alike
+unfoldable pub again : ℕ → List ℕ → List ℕ
+again n f = joined (λ k. f) n
+
+-- ---- the table
+pub record Table : Type 0 where
+  -- 11, "codebook not 1,280 or thresholds not 14", 0. "11 comes first": whatever the octets and the buffers
+  pub codebook-1279 : (s : List ℕ) → Tabled s 1279 14 11 0
+  pub codebook-1281 : (s : List ℕ) → Tabled s 1281 14 11 0
+  pub thresholds-13 : (s : List ℕ) → Tabled s 1280 13 11 0
+  pub thresholds-15 : (s : List ℕ) → Tabled s 1280 15 11 0
+  -- 12, "octets at p begin nothing known", p: at the front, a half sync, a half inverse sync, behind an inverse sync, behind a multiframe
+  pub unknown-at-0 : Always (0x00 ∷ []) 12 0
+  pub half-sync : Always (0x87 ∷ 0x00 ∷ []) 12 0
+  pub half-inverse : Always (0x78 ∷ 0x00 ∷ []) 12 0
+  pub unknown-at-2 : Always (0x78 ∷ 0x4D ∷ 0x00 ∷ []) 12 2
+  pub unknown-at-144 : Always (one ++ (0x00 ∷ [])) 12 144
+  -- 13, "sync with too few octets, or a lone last 87 or 78", p. "Received 143 octets that open with a sync: 13."
+  pub octets-143 : Always (0x87 ∷ 0xB2 ∷ replicate 141 0x00) 13 0
+  pub lone-87 : Always (0x87 ∷ []) 13 0
+  pub lone-78-at-2 : Always (0x78 ∷ 0x4D ∷ 0x78 ∷ []) 13 2
+  pub cut-at-144 : Always (one ++ (0x87 ∷ 0xB2 ∷ [])) 13 144
+  -- 14, "no multiframe", octet count. "Nothing: 14, place 0."
+  pub nothing : Always [] 14 0
+  pub only-inverse : Always (0x78 ∷ 0x4D ∷ 0x78 ∷ 0x4D ∷ []) 14 4
+  -- 15, "a sync after 255 multiframes, even a cut one", p
+  pub multiframe-256 : Always (again 255 one ++ one) 15 36720
+  pub cut-256 : Always (again 255 one ++ (0x87 ∷ 0xB2 ∷ [])) 15 36720
+  -- 16, "settings not settled", 0: of an only header with one flip
+  pub one-flip : Always (headed flipped) 16 0
+  -- 17, "settled rate is 2 or any EXP is 1", 0
+  pub settled-rate-2 : Always (image 2 0 [] 1) 17 0
+  pub settled-exp-9 : Always (headed exp9) 17 0
+  -- 18, "index buffer under 168m", octets needed
+  pub index-167 : Sized one 167 13 18 168
+  pub index-335 : Sized two 335 26 18 336
+  -- 19, "report buffer under 13m", octets needed
+  pub report-12 : Sized one 168 12 19 13
+  pub report-25 : Sized two 336 25 19 26
+  -- 20, "every pair bad", 0
+  pub every-pair-bad : Sized allBad 168 13 20 0
+  -- "11 comes first": before 12, 13 and 14
+  pub first-before-12 : Tabled (0x00 ∷ []) 1279 14 11 0
+  pub first-before-13 : Tabled (0x87 ∷ []) 1279 14 11 0
+  pub first-before-14 : Tabled [] 1280 13 11 0
+  -- "12, 13 and 15 come as cutting meets them": 12 at 2 before 13 at 3; 13 at 0 before 12 at 2; both before 14, there being no multiframe
+  pub at-2-before-3 : Always (0x78 ∷ 0x4D ∷ 0x00 ∷ 0x87 ∷ []) 12 2
+  pub at-0-before-2 : Always (0x87 ∷ 0xB2 ∷ 0x00 ∷ []) 13 0
+  -- after 255 multiframes a cut sync is 15, not 13, and a lone 87, which is no sync yet, 13. 14 and 15 cannot both apply
+  pub cut-after-255 : Always (again 255 (headed lost) ++ (0x87 ∷ 0xB2 ∷ [])) 15 36720
+  pub lone-after-255 : Always (again 255 (headed lost) ++ (0x87 ∷ [])) 13 36720
+  -- "the rest follow by number": without that sync the same 255 multiframes, of which no header can be read, are 16. 14 is before 16 in `nothing`
+  pub unsettled-255 : Always (again 255 (headed lost)) 16 0
+  -- 12 and 13 before 16, 18 and 19: settings not settled, and no room at all
+  pub unknown-before-16 : Sized (headed flipped ++ (0x00 ∷ [])) 0 0 12 144
+  pub short-before-16 : Sized (headed flipped ++ (0x87 ∷ [])) 0 0 13 144
+  -- 16 before 18; 17 before 18. 16 and 17 cannot both apply, since 17 is of settled settings
+  pub unsettled-before-18 : Sized (headed flipped) 0 0 16 0
+  pub unfit-before-18 : Sized (headed exp9) 0 0 17 0
+  -- 18 before 19, and 19 before 20
+  pub index-before-19 : Sized one 167 12 18 168
+  pub report-before-20 : Sized allBad 168 12 19 13
+  -- "Success (0) gives settings; m; speech, ..; the number of bad pairs; end, ..": the frame 1,0,0,0,0,0,0 comes back at each rate and type, and
+  -- all notes are 0
+  pub rate-0-type-0 : Succeeds (image 0 0 (lone 1) 1) (0 ∷ 0 ∷ 1 ∷ 1 ∷ 0 ∷ 1 ∷ []) (1 ∷ replicate 167 0) (replicate 13 0)
+  pub rate-1-type-0 : Succeeds (image 1 0 (lone 1) 1) (1 ∷ 0 ∷ 1 ∷ 1 ∷ 0 ∷ 1 ∷ []) (1 ∷ replicate 167 0) (replicate 13 0)
+  pub rate-3-type-0 : Succeeds (image 3 0 (lone 1) 1) (3 ∷ 0 ∷ 1 ∷ 1 ∷ 0 ∷ 1 ∷ []) (1 ∷ replicate 167 0) (replicate 13 0)
+  pub rate-0-type-1 : Succeeds (image 0 1 (lone 1) 1) (0 ∷ 1 ∷ 1 ∷ 1 ∷ 0 ∷ 1 ∷ []) (1 ∷ replicate 167 0) (replicate 13 0)
+  pub rate-1-type-1 : Succeeds (image 1 1 (lone 1) 1) (1 ∷ 1 ∷ 1 ∷ 1 ∷ 0 ∷ 1 ∷ []) (1 ∷ replicate 167 0) (replicate 13 0)
+  pub rate-3-type-1 : Succeeds (image 3 1 (lone 1) 1) (3 ∷ 1 ∷ 1 ∷ 1 ∷ 0 ∷ 1 ∷ []) (1 ∷ replicate 167 0) (replicate 13 0)
+
+-- ---- from an outcome to a line
+refuses : (s : List ℕ) (codebook thresholds : List ℤ) (index report : List ℕ) (r : Refusal) → reading s codebook thresholds index report ≡ outcome (Refused r) index report
+    → Refuses s codebook thresholds index report (numberOf r) (placeOf r)
+refuses s codebook thresholds index report r e =
+    record {
+      number-is = ap (λ (o : Outcome). answerNumber (o .answer)) e;
+      place-is = ap (λ (o : Outcome). answerValues (o .answer)) e;
+      index-stays = ap (λ (o : Outcome). o .index) e;
+      report-stays = ap (λ (o : Outcome). o .report) e;
+    }
+
+-- of any buffers is of buffers of some size
+sized : {s : List ℕ} {n p : ℕ} → Always s n p → (i r : ℕ) → Sized s i r n p
+sized a i r codebook thresholds sc st index report li lr = a codebook thresholds sc st index report
+
+-- ---- 11
+module _ (s : List ℕ) where
+  no-codebook : (c t : ℕ) → (c ≡ 1280 → ⊥) → Tabled s c t 11 0
+  no-codebook c t h codebook thresholds sc st index report =
+      refuses s codebook thresholds index report WrongTables (sym (wrong-codebook s codebook thresholds index report (λ e. h (sym sc ∙ e))))
+
+  no-thresholds : (t : ℕ) → (t ≡ 14 → ⊥) → Tabled s 1280 t 11 0
+  no-thresholds t h codebook thresholds sc st index report =
+      refuses s codebook thresholds index report WrongTables (sym (wrong-thresholds s codebook thresholds index report sc (λ e. h (sym st ∙ e))))
+
+-- ---- 12, 13 and 15: as cutting ends
+abbrev Cut : List ℕ → Ending → Type 0
+Cut s whole = Unit
+Cut s (refused n p) = Always s (numberOf (cutRefusal n p)) (placeOf (cutRefusal n p))
+
+is-cut : (s : List ℕ) (e : Ending) → cutting s .ending ≡ e → Cut s e
+is-cut s whole h = tt
+is-cut s (refused n p) h = λ codebook thresholds sc st index report.
+    refuses s codebook thresholds index report (cutRefusal n p) (sym (not-cut s codebook thresholds index report sc st n p (cutRefusal n p) h refl))
+
+-- ---- 14 and 16 to 20, of octets that are cut into multiframes at places
+module _ (s ps : List ℕ) (cut : cutting s ≡ record { places = ps; ending = whole }) where
+  is-14 : length ps ≡ 0 → Always s 14 (length s)
+  unfolding wholeVerdict
+  is-14 z codebook thresholds sc st index report =
+      refuses s codebook thresholds index report (Empty (length s))
+      (sym (whole-reading s codebook thresholds index report sc st (outcome (Refused (Empty (length s))) index report) ps
+      (ap (λ (w : Cutting). w .ending) cut) (sym (ap (λ (w : Cutting). w .places) cut)) (rw (eq-eqb (length ps) 0 z))))
+
+  module _ (some : length ps ≡ 0 → ⊥) (x : Settings) (settles : settling (readings s ps) ≡ x) where
+    -- past 11 to 15 the settings decide
+    next : (codebook thresholds : List ℤ) → length codebook ≡ 1280 → length thresholds ≡ 14 → (index report : List ℕ)
+        → reading s codebook thresholds index report
+        ≡ finished s codebook thresholds index report ps
+        (settledVerdict (length ps) (badPairs (pairNotes s ps codebook thresholds)) (pairCount ps) (length index) (length report) x)
+    unfolding wholeVerdict
+    next codebook thresholds sc st index report =
+        sym (whole-reading s codebook thresholds index report sc st
+        (finished s codebook thresholds index report ps (settledVerdict (length ps) (badPairs (pairNotes s ps codebook thresholds)) (pairCount ps) (length index) (length report) x)) ps
+        (ap (λ (w : Cutting). w .ending) cut) (sym (ap (λ (w : Cutting). w .places) cut)) (rw (ne-eqb (length ps) 0 some, settles)))
+
+  module _ (some : length ps ≡ 0 → ⊥) where
+    is-16 : settling (readings s ps) ≡ S.Unsettled → Always s 16 0
+    unfolding settledVerdict
+    is-16 e codebook thresholds sc st index report = refuses s codebook thresholds index report Unsettled (next some S.Unsettled e codebook thresholds sc st index report)
+
+    module _ (c : ℕ) (e : settling (readings s ps) ≡ S.Settled c) where
+      is-17-rate : rateOf c ≡ 2 → Always s 17 0
+      unfolding settledVerdict
+      is-17-rate h codebook thresholds sc st index report =
+          refuses s codebook thresholds index report Unfit (next some (S.Settled c) e codebook thresholds sc st index report ∙ rw (eq-eqb (rateOf c) 2 h))
+
+      is-17-exp : (rateOf c ≡ 2 → ⊥) → (expOf c ≡ 0 → ⊥) → Always s 17 0
+      unfolding settledVerdict
+      is-17-exp r h codebook thresholds sc st index report =
+          refuses s codebook thresholds index report Unfit
+          (next some (S.Settled c) e codebook thresholds sc st index report ∙ rw (ne-eqb (rateOf c) 2 r, ne-eqb (expOf c) 0 h))
+
+      module _ (u : Usable c) (i r : ℕ) where
+        is-18 : i < indexOctets * length ps → Sized s i r 18 (indexOctets * length ps)
+        unfolding settledVerdict roomVerdict
+        is-18 h codebook thresholds sc st index report li lr =
+            refuses s codebook thresholds index report (IndexShort (indexOctets * length ps))
+            (next some (S.Settled c) e codebook thresholds sc st index report
+            ∙ rw (ne-eqb (rateOf c) 2 (u .rate), eq-eqb (expOf c) 0 (u .exp), lt-ltb (length index) (indexOctets * length ps) (omega arith)))
+
+        is-19 : indexOctets * length ps ≤ i → r < reportOctets * length ps → Sized s i r 19 (reportOctets * length ps)
+        unfolding settledVerdict roomVerdict
+        is-19 hi h codebook thresholds sc st index report li lr =
+            refuses s codebook thresholds index report (ReportShort (reportOctets * length ps))
+            (next some (S.Settled c) e codebook thresholds sc st index report
+            ∙ rw (
+              ne-eqb (rateOf c) 2 (u .rate),
+              eq-eqb (expOf c) 0 (u .exp),
+              le-ltb (length index) (indexOctets * length ps) (omega arith),
+              lt-ltb (length report) (reportOctets * length ps) (omega arith),
+            ))
+
+        is-20 : indexOctets * length ps ≤ i → reportOctets * length ps ≤ r
+            → ((codebook thresholds : List ℤ) → badPairs (pairNotes s ps codebook thresholds) ≡ pairCount ps) → Sized s i r 20 0
+        unfolding settledVerdict roomVerdict
+        is-20 hi hr bad codebook thresholds sc st index report li lr =
+            refuses s codebook thresholds index report AllBad
+            (next some (S.Settled c) e codebook thresholds sc st index report
+            ∙ rw (
+              ne-eqb (rateOf c) 2 (u .rate),
+              eq-eqb (expOf c) 0 (u .exp),
+              le-ltb (length index) (indexOctets * length ps) (omega arith),
+              le-ltb (length report) (reportOctets * length ps) (omega arith),
+              eq-eqb (badPairs (pairNotes s ps codebook thresholds)) (pairCount ps) (bad codebook thresholds),
+            ))
+
+-- ---- the headers, by the laws of their code: it is shut here
+of-octets : (w a b c d : ℕ) → octets w ≡ a ∷ b ∷ c ∷ d ∷ [] → w ≡ a + 256 * b + 65536 * c + 16777216 * d
+of-octets w a b c d e =
+    let x : w % 256 ≡ a = ap (λ (l : List ℕ). getD l 0 0) e in
+    let y : w / 256 % 256 ≡ b = ap (λ (l : List ℕ). getD l 1 0) e in
+    let z : w / 65536 % 256 ≡ c = ap (λ (l : List ℕ). getD l 2 0) e in
+    let t : w / 16777216 ≡ d = ap (λ (l : List ℕ). getD l 3 0) e in
+    omega arith
+
+no-ones : ones 0 ≡ 0
+unfolding onesIn
+no-ones = sym (ones-in 1 0 (lit< tt))
+
+one-one : ones 1 ≡ 1
+unfolding onesIn
+one-one = sym (ones-in 1 1 (lit< tt))
+
+-- a codeword is read as itself
+clean : (m w : ℕ) → m < 2 ^ 16 → codeword m ≡ w → H.reading w ≡ Codeword m 0
+unfolding flipsTo
+clean m w h e =
+    let z : flipsTo w m ≡ 0 = ap (λ (x : ℕ). ones (bitXor w x)) e ∙ ap ones (xor-self w) ∙ no-ones in
+    near w m h (omega arith) ∙ ap (Codeword m) z
+
+read-1 : H.reading 0xEE0E0008 ≡ Codeword 8 0
+read-1 = clean 8 0xEE0E0008 (lit< tt) (of-octets (codeword 8) 0x08 0x00 0x0E 0xEE count-1)
+
+read-2 : H.reading 0x0D1D0010 ≡ Codeword 16 0
+read-2 = clean 16 0x0D1D0010 (lit< tt) (of-octets (codeword 16) 0x10 0x00 0x1D 0x0D count-2)
+
+read-exp : H.reading 0xE8808000 ≡ Codeword 32768 0
+read-exp = clean 32768 0xE8808000 (lit< tt) (of-octets (codeword 32768) 0x00 0x80 0x80 0xE8 exp-9)
+
+read-flipped : H.reading 0xEE0E0009 ≡ Codeword 8 1
+read-flipped =
+    ap (λ (w : ℕ). H.reading (bitXor w 1)) (sym (of-octets (codeword 8) 0x08 0x00 0x0E 0xEE count-1)) ∙ mended 8 1 (lit< tt) (omega (arith, one-one))
+    ∙ ap (Codeword 8) one-one
+
+read-lost : H.reading 0x01010001 ≡ Lost
+read-lost = lost-at-three 0x01010001 0 (lit< tt) three-from-zero
+
+-- their common bits
+usable : (m : ℕ) → rateOf m ≡ 0 → expOf m ≡ 0 → Usable (commonBits m)
+usable m r e = record { rate = λ z. (let y : _≡_ {A = ℕ} 0 2 = sym (common-rate m ∙ r) ∙ z in omega arith); exp = common-exp m ∙ e }
+
+usable-8 : Usable (commonBits 8)
+usable-8 = usable 8 (sym (rate-masked 8)) (sym (exp-shifted 8 (lit< tt)))
+
+common-16 : commonBits 16 ≡ commonBits 8
+common-16 =
+    ap commonBits (sym (message-counts .1)) ∙ common-message 0 0 2 0 ∙ sym (common-message 0 0 1 0) ∙ ap commonBits (message-counts .0)
+
+-- ---- one multiframe with a header, and two
+module _ (a b c d : ℕ) where
+  cut-one : cutting (headed (a ∷ b ∷ c ∷ d ∷ [])) ≡ record { places = 0 ∷ []; ending = whole }
+  unfolding walk pieceBy syncMet lastMet
+  cut-one = refl
+
+  head-one : readings (headed (a ∷ b ∷ c ∷ d ∷ [])) (0 ∷ []) ≡ H.reading (value (bits (a ∷ b ∷ c ∷ d ∷ []))) ∷ []
+  unfolding readings
+  head-one = refl
+
+settles-one : settling (readings one (0 ∷ [])) ≡ S.Settled (commonBits 8)
+unfolding value fields field
+settles-one = ap settling (head-one 0x08 0x00 0x0E 0xEE ∙ ap (λ (h : Header). h ∷ []) read-1) ∙ only-clean 8
+
+settles-flipped : settling (readings (headed flipped) (0 ∷ [])) ≡ S.Unsettled
+unfolding value fields field
+settles-flipped = ap settling (head-one 0x09 0x00 0x0E 0xEE ∙ ap (λ (h : Header). h ∷ []) read-flipped) ∙ only-mended 8 1 (λ e. omega arith)
+
+settles-exp : settling (readings (headed exp9) (0 ∷ [])) ≡ S.Settled (commonBits 32768)
+unfolding value fields field
+settles-exp = ap settling (head-one 0x00 0x80 0x80 0xE8 ∙ ap (λ (h : Header). h ∷ []) read-exp) ∙ only-clean 32768
+
+cut-two : cutting two ≡ record { places = 0 ∷ 144 ∷ []; ending = whole }
+unfolding walk pieceBy syncMet lastMet
+cut-two = refl
+
+heads-two : readings two (0 ∷ 144 ∷ []) ≡ H.reading 0xEE0E0008 ∷ H.reading 0x0D1D0010 ∷ []
+unfolding readings value fields field
+heads-two = refl
+
+settles-two : settling (readings two (0 ∷ 144 ∷ [])) ≡ S.Settled (commonBits 8)
+settles-two =
+    ap settling (heads-two ∙ ap₂ (λ (g h : Header). g ∷ h ∷ []) read-1 read-2)
+    ∙ all-agree (Codeword 8 0 ∷ Codeword 16 0 ∷ []) (commonBits 8) (omega arith) (refl, (common-16, tt))
+
+-- ---- every pair bad
+cut-bad : cutting allBad ≡ record { places = 0 ∷ []; ending = whole }
+unfolding walk pieceBy syncMet lastMet
+cut-bad = refl
+
+head-bad : readings allBad (0 ∷ []) ≡ H.reading 0xEE0E0008 ∷ []
+unfolding readings value fields field
+head-bad = refl
+
+settles-bad : settling (readings allBad (0 ∷ [])) ≡ S.Settled (commonBits 8)
+settles-bad = ap settling (head-bad ∙ ap (λ (h : Header). h ∷ []) read-1) ∙ only-clean 8
+
+fails-bad : each (pairFails allBad (0 ∷ [])) 12 ≡ replicate 12 true
+unfolding pairFails fields field right alike crc after xor
+fails-bad = refl
+
+bad-bad : (codebook thresholds : List ℤ) → badPairs (pairNotes allBad (0 ∷ []) codebook thresholds) ≡ 12
+unfolding pairNotes noteBy
+bad-bad codebook thresholds = ap (λ (l : List Bool). badPairs (notes l (each (pairOdd allBad (0 ∷ []) codebook thresholds) 12))) fails-bad
+
+-- ---- an image of rate 2, which no writer writes
+read-rate : (k : ℕ) → k < 1 → H.reading (wordIn (image 2 0 [] 1) k) ≡ Codeword (message 2 0 (k + 1) 0) 0
+read-rate k h = clean (message 2 0 (k + 1) 0) (wordIn (image 2 0 [] 1) k) (message-lt 2 0 (k + 1) 0) (sym (image-word 2 0 [] 1 k h))
+
+rate-2 : Always (image 2 0 [] 1) 17 0
+rate-2 =
+    let s = image 2 0 [] 1 in
+    let m = message 2 0 1 0 in
+    is-17-rate s (rowOf 1) (cut-is s 1 (lit< tt) (length-image 2 0 [] 1) (image-sync 2 0 [] 1)) (λ e. omega arith) (commonBits m)
+    (ap settling (readings-are s 1 ∙ ap (λ (h : Header). h ∷ []) (read-rate 0 (lit< tt))) ∙ only-clean m) (common-rate m ∙ rate-back 2 0 1 0)
+
+-- ---- behind n multiframes alike
+module _ (f : List ℕ) (size : length f ≡ multiframeOctets) where
+  length-again : (n : ℕ) → length (again n f) ≡ multiframeOctets * n
+  unfolding again
+  length-again n = length-joined (λ k. f) multiframeOctets n (λ k h. size)
+
+  again-part : (n k : ℕ) → k < n → part (multiframeOctets * k) multiframeOctets (again n f) ≡ f
+  unfolding again
+  again-part n k h = joined-part (λ k. f) multiframeOctets n k (λ i l. size) h
+
+  part-again : (n k a v : ℕ) → k < n → a + v ≤ multiframeOctets → part (multiframeOctets * k + a) v (again n f) ≡ part a v f
+  part-again n k a v h l =
+      part-within (again n f) (multiframeOctets * k) multiframeOctets a v (omega (arith, length-again n)) l ∙ ap (part a v) (again-part n k h)
+
+  octet-again : (n k i : ℕ) (rest : List ℕ) → k < n → i < multiframeOctets → getD (again n f ++ rest) (multiframeOctets * k + i) 0 ≡ getD f i 0
+  octet-again n k i rest h l =
+      List·getD-append (again n f) rest 0 (144 * k + i) (omega (arith, length-again n))
+      ∙ sym (getD-take 144 (drop (144 * k) (again n f)) i 0 l ∙ getD-drop (144 * k) (again n f) i 0) ∙ ap (λ (x : List ℕ). getD x i 0) (again-part n k h)
+
+-- a whole multiframe at octet p
+met : (s : List ℕ) (p m : ℕ) → p + multiframeOctets ≤ length s → m < mostMultiframes → getD s p 0 ≡ syncFirst → getD s (p + 1) 0 ≡ syncSecond
+    → pieceOf (drop p s) m ≡ Multiframe
+met s p m room few first second =
+    let z : p + 0 ≡ p = omega arith in
+    let a : getD (drop p s) 0 0 ≡ syncFirst = getD-drop p s 0 0 ∙ ap (λ (k : ℕ). getD s k 0) z ∙ first in
+    let b : getD (drop p s) 1 0 ≡ syncSecond = getD-drop p s 1 0 ∙ second in
+    rw (a, b) (multiframe-met (length (drop p s)) m (omega (arith, length-drop p s)) few)
+
+-- cutting goes on behind n of them
+passed : (s : List ℕ) (n p m : ℕ) → m + n ≤ mostMultiframes → p + multiframeOctets * n ≤ length s
+    → ((k : ℕ) → k < n → (getD s (p + multiframeOctets * k) 0 ≡ syncFirst) × (getD s (p + multiframeOctets * k + 1) 0 ≡ syncSecond))
+    → walk 0 (drop p s) p m .ending ≡ walk 0 (drop (p + multiframeOctets * n) s) (p + multiframeOctets * n) (m + n) .ending
+passed s zero p m few room syncs =
+    let z : p ≡ p + 144 * 0 = omega arith in
+    let y : m ≡ m + 0 = omega arith in
+    ap₂ (λ (q k : ℕ). walk 0 (drop q s) q k .ending) z y
+passed s (suc n) p m few room syncs =
+    let here = syncs 0 (omega arith) in
+    let z : p + 144 * 0 ≡ p = omega arith in
+    let ahead : (k : ℕ) → p + 144 * suc k ≡ p + 144 + 144 * k = λ k. omega arith in
+    let x : p + 144 + 144 * n ≡ p + 144 * suc n = sym (ahead n) in
+    let y : m + 1 + n ≡ m + suc n = omega arith in
+    ap (λ (w : Cutting). w .ending) (at-place s p m Multiframe (met s p m (omega arith) (omega arith) (rw z at (here .0)) (rw z at (here .1))))
+    ∙ passed s n (p + 144) (m + 1) (omega arith) (omega arith) (λ k h.
+    subst (λ (i : ℕ). (getD s i 0 ≡ syncFirst) × (getD s (i + 1) 0 ≡ syncSecond)) (ahead k) (syncs (suc k) (omega arith)))
+    ∙ ap₂ (λ (q k : ℕ). walk 0 (drop q s) q k .ending) x y
+
+module _ (header : List ℕ) (four : length (headed header) ≡ multiframeOctets) where
+  behind : (n : ℕ) (rest : List ℕ) → n ≤ mostMultiframes → cutting (again n (headed header) ++ rest) .ending ≡ walk 0 rest (multiframeOctets * n) n .ending
+  behind n rest few =
+      let f = headed header in
+      let s = again n f ++ rest in
+      let l : length s ≡ 144 * n + length rest = length-append (again n f) rest ∙ ap (λ (k : ℕ). k + length rest) (length-again f four n) in
+      let x : 0 + 144 * n ≡ 144 * n = omega arith in
+      let y : 0 + n ≡ n = omega arith in
+      passed s n 0 0 (omega arith) (omega arith) (λ k h.
+      let z : 144 * k + 0 ≡ 0 + 144 * k = omega arith in
+      let t : 144 * k + 1 ≡ 0 + 144 * k + 1 = omega arith in
+      (ap (λ (i : ℕ). getD s i 0) (sym z) ∙ octet-again f four n k 0 rest h (lit< tt), ap (λ (i : ℕ). getD s i 0) (sym t) ∙ octet-again f four n k 1 rest h (lit< tt)))
+      ∙ ap₂ (λ (q k : ℕ). walk 0 (drop q s) q k .ending) x y ∙ ap (λ (r : List ℕ). walk 0 r (144 * n) n .ending) (drop-at (again n f) rest (144 * n) (length-again f four n))
+
+-- ---- n multiframes of which no header can be read
+all-lost : (hs : List Header) → ((k : ℕ) → k < length hs → getD hs k Lost ≡ Lost) → (seen : List ℕ) → firstAgreeing seen hs ≡ S.Unsettled
+unfolding firstAgreeing
+all-lost [] h seen = refl
+all-lost (x ∷ hs) h seen =
+    subst (λ (y : Header). firstAgreeing seen (y ∷ hs) ≡ S.Unsettled) (sym (h 0 (omega arith))) (all-lost hs (λ k l. h (suc k) (omega arith)) seen)
+
+only-lost : (hs : List Header) → ((k : ℕ) → k < length hs → getD hs k Lost ≡ Lost) → onlyOne hs ≡ S.Unsettled
+unfolding onlyOne
+only-lost [] h = refl
+only-lost (x ∷ hs) h = subst (λ (y : Header). onlyOne (y ∷ hs) ≡ S.Unsettled) (sym (h 0 (omega arith))) refl
+
+lost-unsettled : (n : ℕ) → settling (each (λ k. Lost) n) ≡ S.Unsettled
+unfolding settling
+lost-unsettled n =
+    let h : (k : ℕ) → k < length (each (λ k. Lost) n) → getD (each (λ k. Lost) n) k Lost ≡ Lost = λ k l. each-at (λ k. Lost) n k Lost (omega (arith, length-each (λ (k : ℕ). Lost) n)) in
+    rw (all-lost (each (λ k. Lost) n) h [], only-lost (each (λ k. Lost) n) h)
+
+word-lost : (n k : ℕ) → k < n → H.reading (wordIn (again n (headed lost)) k) ≡ Lost
+unfolding value fields field
+word-lost n k h = ap (λ (l : List ℕ). H.reading (value (bits l))) (part-again (headed lost) refl n k 2 4 h (lit< tt)) ∙ read-lost
+
+many-lost : (n : ℕ) → 0 < n → n ≤ mostMultiframes → Always (again n (headed lost)) 16 0
+many-lost n h few =
+    let s = again n (headed lost) in
+    let z : (k : ℕ) → 144 * k ≡ 144 * k + 0 = λ k. omega arith in
+    is-16 s (rowOf n)
+    (cut-is s n few (length-again (headed lost) refl n) (λ k l. ap (λ (i : ℕ). part i 2 s) (z k) ∙ part-again (headed lost) refl n k 0 2 l (lit< tt)))
+    (λ e. omega (arith, every-length 0 n))
+    (ap settling (readings-are s n ∙ same-each (λ k. H.reading (wordIn s k)) (λ k. Lost) n (word-lost n)) ∙ lost-unsettled n)
+
+-- ---- success, by the theorem "reads back"
+speaks : (rate kind : ℕ) → verdict rate kind (lone 1) (needed (lone 1)) ≡ Written (needed (lone 1))
+    → Succeeds (image rate kind (lone 1) 1) (rate ∷ kind ∷ 1 ∷ 1 ∷ 0 ∷ 1 ∷ []) (1 ∷ replicate 167 0) (replicate 13 0)
+speaks rate kind w codebook thresholds sc st index report hi hr =
+    let u : Utterance = record { rate = rate; kind = kind; indices = lone 1; small = small-lone 1 (lit< tt); written = w } in
+    let e = reads-image u codebook thresholds index report record { codebook-size = sc; thresholds-size = st; index-room = hi; report-room = hr } in
+    record {
+      number-is = ap (λ (o : Outcome). answerNumber (o .answer)) e;
+      values-are = ap (λ (o : Outcome). answerValues (o .answer)) e;
+      index-is = ap (λ (o : Outcome). o .index) e;
+      report-is = ap (λ (o : Outcome). o .report) e;
+    }
+
+-- ---- the lines
+flipped-16 : Always (headed flipped) 16 0
+flipped-16 = is-16 (headed flipped) (0 ∷ []) (cut-one 0x09 0x00 0x0E 0xEE) (λ e. omega arith) settles-flipped
+
+exp-17 : Always (headed exp9) 17 0
+exp-17 =
+    is-17-exp (headed exp9) (0 ∷ []) (cut-one 0x00 0x80 0x80 0xE8) (λ e. omega arith) (commonBits 32768) settles-exp
+    (λ e. let z : _≡_ {A = ℕ} 0 2 = rate-masked 32768 ∙ sym (common-rate 32768) ∙ e in omega arith)
+    (λ e. let z : _≡_ {A = ℕ} 256 0 = exp-shifted 32768 (lit< tt) ∙ sym (common-exp 32768) ∙ e in omega arith)
+
+one-18 : (i r : ℕ) → i < 168 → Sized one i r 18 168
+one-18 i r = is-18 one (0 ∷ []) (cut-one 0x08 0x00 0x0E 0xEE) (λ e. omega arith) (commonBits 8) settles-one usable-8 i r
+
+bad-19 : Sized allBad 168 12 19 13
+bad-19 = is-19 allBad (0 ∷ []) cut-bad (λ e. omega arith) (commonBits 8) settles-bad usable-8 168 12 (lit< tt) (lit< tt)
+
+pub table : Table
+unfolding walk pieceBy syncMet lastMet cutRefusal verdict roomAnswer firstFrom
+table = record {
+  codebook-1279 = λ s. no-codebook s 1279 14 (λ e. omega arith);
+  codebook-1281 = λ s. no-codebook s 1281 14 (λ e. omega arith);
+  thresholds-13 = λ s. no-thresholds s 13 (λ e. omega arith);
+  thresholds-15 = λ s. no-thresholds s 15 (λ e. omega arith);
+  unknown-at-0 = is-cut (0x00 ∷ []) _ refl;
+  half-sync = is-cut (0x87 ∷ 0x00 ∷ []) _ refl;
+  half-inverse = is-cut (0x78 ∷ 0x00 ∷ []) _ refl;
+  unknown-at-2 = is-cut (0x78 ∷ 0x4D ∷ 0x00 ∷ []) _ refl;
+  unknown-at-144 = is-cut (one ++ (0x00 ∷ [])) _ refl;
+  octets-143 = is-cut (0x87 ∷ 0xB2 ∷ replicate 141 0x00) _ refl;
+  lone-87 = is-cut (0x87 ∷ []) _ refl;
+  lone-78-at-2 = is-cut (0x78 ∷ 0x4D ∷ 0x78 ∷ []) _ refl;
+  cut-at-144 = is-cut (one ++ (0x87 ∷ 0xB2 ∷ [])) _ refl;
+  nothing = is-14 [] [] refl refl;
+  only-inverse = is-14 (0x78 ∷ 0x4D ∷ 0x78 ∷ 0x4D ∷ []) [] refl refl;
+  multiframe-256 = is-cut (again 255 one ++ one) _ (behind count1 refl 255 one (lit< tt));
+  cut-256 = is-cut (again 255 one ++ (0x87 ∷ 0xB2 ∷ [])) _ (behind count1 refl 255 (0x87 ∷ 0xB2 ∷ []) (lit< tt));
+  one-flip = flipped-16;
+  settled-rate-2 = rate-2;
+  settled-exp-9 = exp-17;
+  index-167 = one-18 167 13 (lit< tt);
+  index-335 = is-18 two (0 ∷ 144 ∷ []) cut-two (λ e. omega arith) (commonBits 8) settles-two usable-8 335 26 (lit< tt);
+  report-12 = is-19 one (0 ∷ []) (cut-one 0x08 0x00 0x0E 0xEE) (λ e. omega arith) (commonBits 8) settles-one usable-8 168 12 (lit< tt) (lit< tt);
+  report-25 = is-19 two (0 ∷ 144 ∷ []) cut-two (λ e. omega arith) (commonBits 8) settles-two usable-8 336 25 (lit< tt) (lit< tt);
+  every-pair-bad = is-20 allBad (0 ∷ []) cut-bad (λ e. omega arith) (commonBits 8) settles-bad usable-8 168 13 (lit< tt) (lit< tt) bad-bad;
+  first-before-12 = no-codebook (0x00 ∷ []) 1279 14 (λ e. omega arith);
+  first-before-13 = no-codebook (0x87 ∷ []) 1279 14 (λ e. omega arith);
+  first-before-14 = no-thresholds [] 13 (λ e. omega arith);
+  at-2-before-3 = is-cut (0x78 ∷ 0x4D ∷ 0x00 ∷ 0x87 ∷ []) _ refl;
+  at-0-before-2 = is-cut (0x87 ∷ 0xB2 ∷ 0x00 ∷ []) _ refl;
+  cut-after-255 = is-cut (again 255 (headed lost) ++ (0x87 ∷ 0xB2 ∷ [])) _ (behind lost refl 255 (0x87 ∷ 0xB2 ∷ []) (lit< tt));
+  lone-after-255 = is-cut (again 255 (headed lost) ++ (0x87 ∷ [])) _ (behind lost refl 255 (0x87 ∷ []) (lit< tt));
+  unsettled-255 = many-lost 255 (lit< tt) (lit< tt);
+  unknown-before-16 = sized (is-cut (headed flipped ++ (0x00 ∷ [])) _ refl) 0 0;
+  short-before-16 = sized (is-cut (headed flipped ++ (0x87 ∷ [])) _ refl) 0 0;
+  unsettled-before-18 = sized flipped-16 0 0;
+  unfit-before-18 = sized exp-17 0 0;
+  index-before-19 = one-18 167 12 (lit< tt);
+  report-before-20 = bad-19;
+  rate-0-type-0 = speaks 0 0 refl;
+  rate-1-type-0 = speaks 1 0 refl;
+  rate-3-type-0 = speaks 3 0 refl;
+  rate-0-type-1 = speaks 0 1 refl;
+  rate-1-type-1 = speaks 1 1 refl;
+  rate-3-type-1 = speaks 3 1 refl;
+}
