@@ -7,3 +7,4 @@ pub mod Met
 pub mod Needed
 pub mod Radio
 pub mod Aired
+pub mod NeverLost

@@ -193,7 +193,7 @@ module _ (s : List ℕ) (from least : ℕ) (codebook thresholds : List ℤ) (ind
   nothing-found none = found-next [] whole (placesLeft (bits s) from) (none-gathered (bits s) from least mostMultiframes none)
 
 -- ---- put together on octets
-aligned-framed : (s : List ℕ) (p : ℕ) → p + multiframeBits ≤ length (bits s) → aligned s p ≡ framed (wordAt (bits s) p) (streamAt (bits s) p)
+pub aligned-framed : (s : List ℕ) (p : ℕ) → p + multiframeBits ≤ length (bits s) → aligned s p ≡ framed (wordAt (bits s) p) (streamAt (bits s) p)
 unfolding aligned
 aligned-framed s p room =
     let l = bits s in

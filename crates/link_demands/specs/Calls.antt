@@ -24,9 +24,7 @@ use Rattle.reader.specs.Reading.{reading}
 use Rattle.reader.specs.declared.Summary.{Summary}
 use Rattle.reader.specs.declared.Refusal.{Refusal}
 use Rattle.reader.specs.declared.Refusal.the-variants.{WrongTables, Unknown, CutShort, Empty, TooMany, Unsettled, Unfit, IndexShort, ReportShort, AllBad}
-use Rattle.reader.specs.declared.Verdict.{Verdict}
-use Rattle.reader.specs.declared.Verdict.the-variants.{Refuse, Accept}
-use Rattle.cutting.specs.Cutting.{cutting}
+use Rattle.reader.specs.ReadingLaws.{refusal-keeps}
 use Rattle.reader.specs.declared.Answer.{Answer}
 use Rattle.reader.specs.declared.Answer.the-variants.{Read, Refused}
 use Rattle.hunting.specs.Hunting as G
@@ -133,14 +131,9 @@ module _ (a i r : List ℕ) (o : R.Outcome) where
 -- a refusal of the reader leaves both buffers
 refusal-stays : (octets : List ℕ) (codebook thresholds : List ℤ) (index report : List ℕ) (x : Refusal) → reading octets codebook thresholds index report .answer ≡ Refused x
     → (reading octets codebook thresholds index report .index ≡ index) × (reading octets codebook thresholds index report .report ≡ report)
-unfolding reading
-refusal-stays octets codebook thresholds index report x e = by (R.verdict octets codebook thresholds (length index) (length report)) e
-  where
-    by : (v : Verdict) → R.finished octets codebook thresholds index report (cutting octets .places) v .answer ≡ Refused x
-        → (R.finished octets codebook thresholds index report (cutting octets .places) v .index ≡ index)
-        × (R.finished octets codebook thresholds index report (cutting octets .places) v .report ≡ report)
-    by (Refuse y) e = (refl, refl)
-    by (Accept c) e = let z : _≡_ {A = ℕ} 0 1 = cc in absurd (omega arith)
+refusal-stays octets codebook thresholds index report x e =
+    let k = refusal-keeps octets codebook thresholds index report x e in
+    (ap (λ (o : R.Outcome). o .index) k, ap (λ (o : R.Outcome). o .report) k)
 
 -- any other number leaves both buffers as they came, and all numbers of the answer but the first
 pub read-keeps : (octets : List ℕ) (codebook thresholds : List ℤ) (index report answer : List ℕ)
