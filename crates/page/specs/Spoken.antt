@@ -167,7 +167,7 @@ module _ (u : Utterance) (k : ℕ) (h : k < multiframesOf u) where
   header-hurt =
       let e : Count.ones 3 ≡ 2 = sym (ones-in 2 3 (lit< tt)) in
       let l : hurtWord u k < 2 ^ 32 = xor-lt 32 (codeword (sentMessage u k)) 3 (codeword-lt (sentMessage u k) (message-lt (u .rate) (u .kind) (k + 1) 0)) (lit< tt) in
-      sym (header-near u (hurtImage u) (hurts u) k h)
+      sym (header-near u (hurtImage u) k h)
       ∙ ap (λ (w : ℕ). flipsTo w (sentMessage u k)) (made-word (hurtWord u) (hurtStream u) (multiframesOf u) k h l) ∙ flips-of (sentMessage u k) 3 ∙ e
 
 -- the report of that reading
@@ -187,7 +187,7 @@ unruled q h n =
     elim (ℕ-discrete (pairNoteIn report6119 q) 0) [
       | yes e ↦ e
       | no d ↦
-          absurd (true-false (sym (named6119 .others q h n .0 d .0) ∙ zero-consistent (frameAt (says6119 .indices) (firstFrame q)) (frameAt (says6119 .indices) (secondFrame q))))
+          absurd (true-false (sym (named6119 .names .others q h n .0 d .0) ∙ zero-consistent (frameAt (says6119 .indices) (firstFrame q)) (frameAt (says6119 .indices) (secondFrame q))))
     ]
 
 pub noted6119 : (k : ℕ) → k < 255 → Noted k
@@ -195,8 +195,8 @@ noted6119 k h =
     let l : k < multiframesOf says6119 = omega (arith, longest .multiframes) in
     let z : 12 * k + 0 ≡ 12 * k = omega arith in
     record {
-      header = named6119 .flips k l ∙ header-hurt says6119 k l;
-      first = subst (λ (q : ℕ). pairNoteIn report6119 q ≡ 1) z (named6119 .damaged (12 * k + 0) (omega arith) (first-hurt says6119 k l));
-      second = named6119 .damaged (12 * k + 1) (omega arith) (second-hurt says6119 k l);
+      header = named6119 .names .flips k l ∙ header-hurt says6119 k l;
+      first = subst (λ (q : ℕ). pairNoteIn report6119 q ≡ 1) z (named6119 .names .damaged (12 * k + 0) (omega arith) .1 (first-hurt says6119 k l));
+      second = named6119 .names .damaged (12 * k + 1) (omega arith) .1 (second-hurt says6119 k l);
       others = λ r o b. unruled (12 * k + r) (omega arith) (λ t. t (others-whole says6119 k l r o b));
     }
