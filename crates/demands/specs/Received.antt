@@ -88,6 +88,22 @@ count-once P (suc n) (suc a) (suc b) (inl x) (inr y) = absurd (y .0 (x .0))
 count-once P (suc n) (suc a) (suc b) (inr x) (inl y) = absurd (x .0 (y .0))
 count-once P (suc n) (suc a) (suc b) (inr x) (inr y) = count-once (λ k. P (suc k)) n (suc a) (suc b) (x .1) (y .1)
 
+-- one number more, which is so or is not
+pub count-one : (P : ℕ → Type 0) (n c : ℕ) → Count P n c → P n → Count P (suc n) (suc c)
+unfolding Count
+count-one P zero c x p = inl (p, x)
+count-one P (suc n) zero x p = inr (x .0, count-one (λ k. P (suc k)) n zero (x .1) p)
+count-one P (suc n) (suc c) (inl x) p = inl (x .0, count-one (λ k. P (suc k)) n c (x .1) p)
+count-one P (suc n) (suc c) (inr x) p = inr (x .0, count-one (λ k. P (suc k)) n (suc c) (x .1) p)
+
+pub count-none : (P : ℕ → Type 0) (n c : ℕ) → Count P n c → (P n → ⊥) → Count P (suc n) c
+unfolding Count
+count-none P zero zero x f = (f, x)
+count-none P zero (suc c) x f = inr (f, x)
+count-none P (suc n) zero x f = (x .0, count-none (λ k. P (suc k)) n zero (x .1) f)
+count-none P (suc n) (suc c) (inl x) f = inl (x .0, count-none (λ k. P (suc k)) n c (x .1) f)
+count-none P (suc n) (suc c) (inr x) f = inr (x .0, count-none (λ k. P (suc k)) n (suc c) (x .1) f)
+
 not-first : (P : ℕ → Type 0) (n c : ℕ) → (P 0 → ⊥) → Count (λ k. P (suc k)) n c → Count P (suc n) c
 unfolding Count
 not-first P n zero f x = (f, x)

@@ -4,7 +4,7 @@
 use mathlib.Core.Path.{_≡_, refl, sym, ap, ap₂, _∙_, subst}
 use mathlib.Core.Bool.{Bool, true, false}
 use mathlib.Core.List.{List}
-use mathlib.Core.Logic.{inl, inr}
+use mathlib.Core.Logic.{inl, inr, ⊎-elim}
 use Prim.Native.Nat.{ℕ, zero, suc, _+_, _-_, _*_, _/_, _%_, _^_, _≤_, _<_}
 use native.Mathlib.Decide.{ℕ-discrete}
 use native.Mathlib.Omega.{arith}
@@ -30,6 +30,7 @@ use Rattle.writer.specs.Made.{packetIn, made-word, made-packet}
 use Rattle.writer.specs.Image.{Utterance, multiframesOf, pairsOf, imageOf, image-packet, writes}
 use Rattle.writer.specs.declared.Answer.the-variants.{Written}
 use Rattle.demands.specs.Damage.{headerFlips, Touched, sentMessage, differs, header-near}
+use Rattle.demands.specs.Received.{BadPair, Count, count-once, count-one, count-none}
 use Rattle.demands.specs.Met.{zeroBook, zeroThresholds, indexFor, reportFor, burstAt, doubleAt, distance, hurtWord, hurtStream, hurtImage, length-hurt, part-0, part-1, part-on, hurts, zero-consistent, small-ones, reads-back-met, names-met}
 use Rattle.demands.specs.Whole.{headerNoteIn, pairNoteIn}
 use Rattle.demands.specs.ReadsBack as R
@@ -200,3 +201,46 @@ noted6119 k h =
       second = named6119 .names .damaged (12 * k + 1) (omega arith) .1 (second-hurt says6119 k l);
       others = λ r o b. unruled (12 * k + r) (omega arith) (λ t. t (others-whole says6119 k l r o b));
     }
+
+-- ---- and counts it: two bad pairs in each multiframe, 510 in all
+module _ (u : Utterance) where
+  abbrev Bad : ℕ → Type 0
+  Bad q = BadPair u (hurtImage u) zeroBook zeroThresholds q
+
+  none-bad : (k r : ℕ) → k < multiframesOf u → 1 < r → r < multiframePairs → Bad (firstPair k + r) → ⊥
+  none-bad k r h o b x =
+      ⊎-elim (λ t. t (others-whole u k h r o b))
+      (λ y. true-false (sym (y .0) ∙ zero-consistent (frameAt (u .indices) (firstFrame (12 * k + r))) (frameAt (u .indices) (secondFrame (12 * k + r))))) x
+
+  -- the first two of a multiframe, and r more that are not
+  hurt-on : (k r : ℕ) → k < multiframesOf u → r ≤ 10 → Count Bad (firstPair k) (2 * k) → Count Bad (suc (suc r) + firstPair k) (2 * k + 2)
+  hurt-on k zero h l c =
+      let a : 12 * k + 0 ≡ 12 * k = omega arith in
+      let b : 12 * k + 1 ≡ suc (12 * k) = omega arith in
+      let e : suc (suc (12 * k)) ≡ 2 + 12 * k = omega arith in
+      let f : suc (suc (2 * k)) ≡ 2 * k + 2 = omega arith in
+      subst (λ (n : ℕ). Count Bad n (2 * k + 2)) e
+      (subst (Count Bad (suc (suc (12 * k)))) f
+      (count-one Bad (suc (12 * k)) (suc (2 * k))
+      (count-one Bad (12 * k) (2 * k) c (inl (subst (λ (q : ℕ). Touched (imageOf u) (hurtImage u) q) a (first-hurt u k h))))
+      (inl (subst (λ (q : ℕ). Touched (imageOf u) (hurtImage u) q) b (second-hurt u k h)))))
+  hurt-on k (suc r) h l c =
+      let e : 12 * k + suc (suc r) ≡ suc (suc r) + 12 * k = omega arith in
+      let f : suc (suc (suc r) + 12 * k) ≡ suc (suc (suc r)) + 12 * k = omega arith in
+      subst (λ (n : ℕ). Count Bad n (2 * k + 2)) f
+      (count-none Bad (suc (suc r) + 12 * k) (2 * k + 2) (hurt-on k r h (omega arith) c)
+      (subst (λ (q : ℕ). Bad q → ⊥) e (none-bad k (suc (suc r)) h (omega arith) (omega arith))))
+
+  hurt-count : (k : ℕ) → k ≤ multiframesOf u → Count Bad (multiframePairs * k) (2 * k)
+  unfolding Count
+  hurt-count zero h = refl
+  hurt-count (suc k) h =
+      let e : suc (suc 10) + 12 * k ≡ 12 * suc k = omega arith in
+      let f : 2 * k + 2 ≡ 2 * suc k = omega arith in
+      subst (λ (n : ℕ). Count Bad n (2 * suc k)) e
+      (subst (Count Bad (suc (suc 10) + 12 * k)) f (hurt-on k 10 (omega arith) (omega arith) (hurt-count k (omega arith))))
+
+pub bad6119 : named6119 .given .bad ≡ 510
+bad6119 =
+    count-once (Bad says6119) (pairsOf says6119) (named6119 .given .bad) (2 * multiframesOf says6119) (named6119 .names .counted) (hurt-count says6119 (multiframesOf says6119) (omega arith))
+    ∙ omega (arith, longest .multiframes)
