@@ -1,4 +1,5 @@
--- Why the premises are there: without each of them the theorem is false, and this is what happens instead.
+-- Why premises are there: what happens instead where a single header was mended, where every pair is bad, where two flips are 15 apart, where a
+-- header has three flips, and where an image has no end or an inverse sync. Sizes, tables and room are refusals by definition and stand in `page`.
 -- Assumes nothing.
 use mathlib.Core.Path.{_≡_, refl, sym, ap, ap₂, _∙_, subst}
 use mathlib.Core.Bool.{Bool, true, false, xor}
