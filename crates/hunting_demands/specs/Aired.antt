@@ -37,7 +37,7 @@ use Rattle.hunting_demands.specs.Standing.{placeInRow, syncAt, wordAt, u
 use Rattle.hunting_demands.specs.Laid.{laidMultiframe, laidOctets, Sizes, bits-laid, size-laid, laid-behind, laid-sync, laid-word, laid-stream}
 use Rattle.hunting_demands.specs.HuntsBack.{receivedFlips}
 use Rattle.hunting_demands.specs.Met.{worstSync, worst-matches, threeZeros, manyZeros, earlier, fails-before, zeros-match, zeros-part, two-ones}
-use Rattle.hunting_demands.specs.Radio.{receivedPacket, together, OnAir, packet-there, Premises}
+use Rattle.hunting_demands.specs.Radio.{receivedPacket, together, Caught, OnAir, packet-there, Premises}
 
 module _ (u : Utterance) where
   abbrev pub aired : List ℕ
@@ -93,26 +93,31 @@ module _ (u : Utterance) where
       ap (part (packetStart q) packetBits) (laid-stream threeZeros (λ k. worstSync) (hurtWord u) (hurtStream u) m manyZeros 151 sizes (q / 12) (omega arith))
       ∙ sym (made-packet (hurtWord u) (hurtStream u) m q h (length-hurt u (q / 12)))
 
-  pub aired-on-air : OnAir u aired 0 3 fewestMatches
-  aired-on-air = record {
+  aired-caught : Caught u aired 0 3 fewestMatches
+  aired-caught = record {
     low = lit≤ tt;
     begins = lit≤ tt;
     inside = omega (arith, searched-are);
     syncs = λ k h.
         subst (λ (x : List Bool). fewestMatches ≤ matches x sync) (sym (laid-sync threeZeros (λ k. worstSync) (hurtWord u) (hurtStream u) m manyZeros 151 sizes k h)) (le-of-eq (sym worst-matches));
     headers = λ k h. le-of-eq (aired-flips k h);
+    none-before = fails-before l worstSync fewestMatches head-is (sizes .syncs 0) (lit≤ tt) earlier;
+    none-behind = not-behind;
+  }
+
+  pub aired-on-air : OnAir u aired 0 3 fewestMatches
+  aired-on-air = record {
+    caught = aired-caught;
     packets = λ q h.
         let e = packet-is q h in
         ⊎-elim (λ x. inl (e ∙ x)) (λ x. inr (subst (Damaged (packetIn (imageOf u) q)) (sym e) x)) (hurts u .packets q h);
-    none-before = fails-before l worstSync fewestMatches head-is (sizes .syncs 0) (lit≤ tt) earlier;
-    none-behind = not-behind;
   }
 
   -- with tables of zeros the third pair is good
   third-good : BadPair u (together u aired 3) zeroBook zeroThresholds 2 → ⊥
   third-good b =
       ⊎-elim
-      (λ t. t (packet-there u aired 0 3 fewestMatches aired-on-air 2 (omega arith) ∙ packet-is 2 (omega arith)
+      (λ t. t (packet-there u aired 0 3 fewestMatches aired-caught 2 (omega arith) ∙ packet-is 2 (omega arith)
       ∙ made-packet (hurtWord u) (hurtStream u) m 2 (omega arith) (length-hurt u 0) ∙ part-on u 0 0 (omega arith)
       ∙ sym (image-packet (u .rate) (u .kind) (u .indices) m 2 (omega arith))))
       (λ r. true-false (sym (r .0) ∙ zero-consistent (frameAt (u .indices) 4) (frameAt (u .indices) 5))) b

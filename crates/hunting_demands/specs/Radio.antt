@@ -21,7 +21,7 @@ use Rattle.header.specs.Reading.{reading}
 use Rattle.hunting.specs.Hunting as G
 use Rattle.hunting.specs.Hunting.{Gathering, gathering}
 use Rattle.writer.specs.Laws.{few-multiframes, length-image}
-use Rattle.writer.specs.Made.{wordIn, packetIn}
+use Rattle.writer.specs.Made.{syncIn, wordIn, packetIn}
 use Rattle.writer.specs.Image as I
 use Rattle.writer.specs.Image.{Utterance, multiframesOf, pairsOf, imageOf, is-accepted}
 use Rattle.demands.specs.Damage.{Damage, headerFlips, sentMessage, header-read}
@@ -40,8 +40,8 @@ receivedPacket s at q = part (packetStart q) packetBits (streamAt (bits s) (plac
 abbrev pub together : Utterance → List ℕ → ℕ → List ℕ
 together u s at = G.imageOf s (row at (multiframesOf u))
 
--- an utterance received at bit `at`, searched from bit `from` on, where a sync must match in `least` bits
-pub record OnAir (u : Utterance) (s : List ℕ) (from at least : ℕ) : Type 0 where
+-- an utterance received at bit `at`, searched from bit `from` on, where a sync must match in `least` bits; whatever happened to its packets
+pub record Caught (u : Utterance) (s : List ℕ) (from at least : ℕ) : Type 0 where
   -- "T is the caller's, 12 to 16"
   pub low : fewestMatches ≤ least
   pub begins : from ≤ at
@@ -50,46 +50,44 @@ pub record OnAir (u : Utterance) (s : List ℕ) (from at least : ℕ) : Type 0 w
   pub syncs : (k : ℕ) → k < multiframesOf u → least ≤ matches (syncAt (bits s) (placeInRow at k)) sync
   -- "at most two bits flipped in each header"
   pub headers : (k : ℕ) → k < multiframesOf u → receivedFlips u s at k ≤ 2
-  -- demand 3's damage to the packets
-  pub packets : (q : ℕ) → q < pairsOf u → (receivedPacket s at q ≡ packetIn (imageOf u) q) ⊎ Damaged (packetIn (imageOf u) q) (receivedPacket s at q)
   -- "if no place before it and none behind it fits"
   pub none-before : (t : ℕ) → from ≤ t → t < at → passes least (bits s) t ≡ false
   pub none-behind : (t : ℕ) → at + multiframeBits * multiframesOf u ≤ t → t + multiframeBits ≤ searched (bits s) → passes least (bits s) t ≡ false
 
-module _ (u : Utterance) (s : List ℕ) (from at least : ℕ) (o : OnAir u s from at least) where
+-- and demand 3's damage to the packets
+pub record OnAir (u : Utterance) (s : List ℕ) (from at least : ℕ) : Type 0 where
+  pub caught : Caught u s from at least
+  pub packets : (q : ℕ) → q < pairsOf u → (receivedPacket s at q ≡ packetIn (imageOf u) q) ⊎ Damaged (packetIn (imageOf u) q) (receivedPacket s at q)
+
+-- put together they have whole syncs, and the headers and packets that stand there
+module _ (u : Utterance) (s : List ℕ) (from at least : ℕ) (c : Caught u s from at least) where
   abbrev m : ℕ
   m = multiframesOf u
 
-  -- put together they are the image with that damage and whole syncs
+  pub together-size : length (together u s at) ≡ length (imageOf u)
+  together-size = image-size s at m (c .inside) ∙ sym (length-image (u .rate) (u .kind) (u .indices) m)
+
+  pub together-syncs : (k : ℕ) → k < multiframesOf u → syncIn (together u s at) k ≡ syncIn (imageOf u) k
+  together-syncs k h = image-sync s at m (c .inside) k h ∙ sym (I.image-sync (u .rate) (u .kind) (u .indices) m k h)
+
   pub flips-there : (k : ℕ) → k < multiframesOf u → headerFlips (imageOf u) (together u s at) k ≡ receivedFlips u s at k
-  flips-there k h = ap (λ (w : ℕ). ones (bitXor w (wordIn (imageOf u) k))) (image-word s at m (o .inside) k h)
+  flips-there k h = ap (λ (w : ℕ). ones (bitXor w (wordIn (imageOf u) k))) (image-word s at m (c .inside) k h)
+
+  pub flips-few : (k : ℕ) → k < multiframesOf u → headerFlips (imageOf u) (together u s at) k ≤ 2
+  flips-few k h = subst (λ (n : ℕ). n ≤ 2) (sym (flips-there k h)) (c .headers k h)
 
   pub packet-there : (q : ℕ) → q < pairsOf u → packetIn (together u s at) q ≡ receivedPacket s at q
-  packet-there q h = ap (part (packetStart q) packetBits) (image-stream s at m (o .inside) (q / 12) (omega arith))
-
-  pub on-air : Damage (multiframesOf u) (imageOf u) (together u s at)
-  on-air = record {
-    size = image-size s at m (o .inside) ∙ sym (length-image (u .rate) (u .kind) (u .indices) m);
-    small = image-small s at m (o .inside);
-    syncs = λ k h. image-sync s at m (o .inside) k h ∙ sym (I.image-sync (u .rate) (u .kind) (u .indices) m k h);
-    headers = λ k h. subst (λ (n : ℕ). n ≤ 2) (sym (flips-there k h)) (o .headers k h);
-    packets = λ q h.
-        let e = sym (packet-there q h) in
-        ⊎-elim (λ x. inl (sym e ∙ x)) (λ x. inr (subst (Damaged (packetIn (imageOf u) q)) e x)) (o .packets q h);
-  }
-
-  there : Stands (together u s at) m s at
-  there = record { words = λ k h. sym (image-word s at m (o .inside) k h); streams = λ k h. sym (image-stream s at m (o .inside) k h) }
+  packet-there q h = ap (part (packetStart q) packetBits) (image-stream s at m (c .inside) (q / 12) (omega arith))
 
   in-a-row : InARow (bits s) from at least m
   in-a-row = record {
-    begins = o .begins;
-    inside = o .inside;
+    begins = c .begins;
+    inside = c .inside;
     stand = λ k h.
-        passes-there least (bits s) (placeInRow at k) (sentMessage u k) (headerFlips (imageOf u) (together u s at) k) (o .syncs k h)
-        (ap reading (sym (image-word s at m (o .inside) k h)) ∙ header-read u (together u s at) k h (on-air .headers k h));
-    none-before = o .none-before;
-    none-behind = o .none-behind;
+        passes-there least (bits s) (placeInRow at k) (sentMessage u k) (headerFlips (imageOf u) (together u s at) k) (c .syncs k h)
+        (ap reading (sym (image-word s at m (c .inside) k h)) ∙ header-read u (together u s at) k h (flips-few k h));
+    none-before = c .none-before;
+    none-behind = c .none-behind;
   }
 
   -- they are found, and no others
@@ -97,6 +95,28 @@ module _ (u : Utterance) (s : List ℕ) (from at least : ℕ) (o : OnAir u s fro
   found-on-air =
       ap (λ (g : Gathering). g .places)
       (found-in-a-row (bits s) from at least m in-a-row (omega arith) (few-multiframes (u .rate) (u .kind) (u .indices) (is-accepted u .sizes)))
+
+module _ (u : Utterance) (s : List ℕ) (from at least : ℕ) (o : OnAir u s from at least) where
+  abbrev caught : Caught u s from at least
+  caught = o .caught
+
+  -- so they are the image with that damage
+  pub on-air : Damage (multiframesOf u) (imageOf u) (together u s at)
+  on-air = record {
+    size = together-size u s from at least caught;
+    small = image-small s at (multiframesOf u) (caught .inside);
+    syncs = together-syncs u s from at least caught;
+    headers = flips-few u s from at least caught;
+    packets = λ q h.
+        let e = sym (packet-there u s from at least caught q h) in
+        ⊎-elim (λ x. inl (sym e ∙ x)) (λ x. inr (subst (Damaged (packetIn (imageOf u) q)) e x)) (o .packets q h);
+  }
+
+  there : Stands (together u s at) (multiframesOf u) s at
+  there = record {
+    words = λ k h. sym (image-word s at (multiframesOf u) (caught .inside) k h);
+    streams = λ k h. sym (image-stream s at (multiframesOf u) (caught .inside) k h);
+  }
 
   module _ (codebook thresholds : List ℤ) (index report : List ℕ) where
     pub record Premises : Type 0 where
@@ -113,19 +133,19 @@ module _ (u : Utterance) (s : List ℕ) (from at least : ℕ) (o : OnAir u s fro
     of-radio p = record {
       of-image = record {
         damage = on-air;
-        headers = ⊎-elim inl (λ e. inr (flips-there 0 (omega arith) ∙ e)) (p .settled);
+        headers = ⊎-elim inl (λ e. inr (flips-there u s from at least caught 0 (omega arith) ∙ e)) (p .settled);
         pair = p .pair;
         within = p .within;
         not-bad = p .not-bad;
         lent = p .lent;
       };
       there = there;
-      begins = o .begins;
-      inside = o .inside;
-      syncs = o .syncs;
-      none-before = o .none-before;
-      none-behind = o .none-behind;
-      low = o .low;
+      begins = caught .begins;
+      inside = caught .inside;
+      syncs = caught .syncs;
+      none-before = caught .none-before;
+      none-behind = caught .none-behind;
+      low = caught .low;
     }
 
     -- NAMES THE DAMAGE ON AIR

@@ -4,8 +4,11 @@
 -- Assumes nothing.
 use mathlib.Core.Path.{_≡_, refl, sym, ap, ap₂, _∙_, subst}
 use mathlib.Core.List.{List, [], _∷_, _++_}
+use mathlib.Core.Logic.{inl, inr}
 use Prim.Native.Nat.{ℕ, _+_, _*_, _≤_, _<_}
+use native.Mathlib.Decide.{decLt}
 use native.Mathlib.Omega.{arith}
+use lib.Dec.{lit≤}
 use lib.IntN.{ℤ}
 use lib.ListN.{length, getD, List·getD-eq-default}
 use Rattle.lists.specs.Parts.{over}
@@ -27,11 +30,12 @@ use Rattle.demands.specs.Damage.{headerFlips}
 use Rattle.demands.specs.Whole.{front-at}
 use Rattle.demands.specs.NamesTheDamage as N
 use Rattle.demands.specs.ReadsBack.{spoken, padded, length-padded, padded-at}
+use Rattle.promises.specs.Misled as M
 use Rattle.promises.specs.Trusted as T
 use Rattle.hunting_demands.specs.Standing.{row, testedInRow}
 use Rattle.hunting_demands.specs.HuntsBack as B
 use Rattle.hunting_demands.specs.HuntsBack.{receivedFlips}
-use Rattle.hunting_demands.specs.Radio.{together, OnAir, on-air, found-on-air}
+use Rattle.hunting_demands.specs.Radio.{together, Caught, OnAir, on-air, found-on-air, flips-few, together-size, together-syncs}
 use Rattle.hunting_demands.specs.Radio as Radio
 use Rattle.link_demands.specs.Calls.{dsrReadBits, bits-success, bits-zero}
 use Rattle.link_demands.specs.Named.{headerNoteAt, Tells, tells}
@@ -116,7 +120,7 @@ module _ (u : Utterance) (s : List ℕ) (from at least : ℕ) (codebook threshol
       let g = z .1 .0 in
       let e = bits-success answer place index report o (z .0) g (z .1 .1) in
       let y : R.reading (together u s at) codebook thresholds index report ≡ R.outcome (RA.Read (g .summary)) (o .index) (o .report) =
-      ap (λ (ps : List ℕ). R.reading (G.imageOf s ps) codebook thresholds index report) (sym (found-on-air u s from at least a))
+      ap (λ (ps : List ℕ). R.reading (G.imageOf s ps) codebook thresholds index report) (sym (found-on-air u s from at least (a .caught)))
       ∙ F.success s from least codebook thresholds index report g (z .1 .1) .as-01-says in
       let w = T.trusted u (together u s at) (on-air u s from at least a) codebook thresholds index report (g .summary)
       (record {
@@ -126,3 +130,30 @@ module _ (u : Utterance) (s : List ℕ) (from at least : ℕ) (codebook threshol
             ∙ clean i (subst (λ (n : ℕ). i < reportOctets * n) (sym (ap (λ (x : BitsReturned). getD (x .answer) 2 0) e)) h);
       }) in
       (w .image, hears (z .0) g (z .1 .1) (w .sent) (ap (λ (x : R.Outcome). x .index) (sym y) ∙ w .frames))
+
+  -- NEVER MISLED at dsr_read_bits: whatever happened to the packets, if it answers 0, rate, type and multiframes are those sent
+  pub c-never-misled-on-air : Caught u s from at least → c .number ≡ 0
+      → (getD (c .answer) 0 0 ≡ u .rate) × ((getD (c .answer) 1 0 ≡ u .kind) × (getD (c .answer) 2 0 ≡ multiframesOf u))
+  c-never-misled-on-air a zero =
+      let z = bits-zero answer place index report o zero in
+      let g = z .1 .0 in
+      let e = bits-success answer place index report o (z .0) g (z .1 .1) in
+      let y : R.reading (together u s at) codebook thresholds index report ≡ R.outcome (RA.Read (g .summary)) (o .index) (o .report) =
+      ap (λ (ps : List ℕ). R.reading (G.imageOf s ps) codebook thresholds index report) (sym (found-on-air u s from at least a))
+      ∙ F.success s from least codebook thresholds index report g (z .1 .1) .as-01-says in
+      let w = M.never-misled u (together u s at) premises codebook thresholds index report (g .summary) (ap (λ (x : R.Outcome). x .answer) y) in
+      let f : (k : ℕ) → getD (c .answer) k 0 ≡ getD (over answer 0 countedNumbers (numbersOf g)) k 0 = λ k. ap (λ (x : BitsReturned). getD (x .answer) k 0) e in
+      (f 0 ∙ w .rate, (f 1 ∙ w .kind, f 2 ∙ w .multiframes))
+    where
+      most : (k n : ℕ) → k < multiframesOf u → 2 ≤ n → headerFlips (imageOf u) (together u s at) k ≤ n
+      most k n h l = let few = flips-few u s from at least a k h in omega arith
+
+      premises : M.Premises u (together u s at)
+      premises = record {
+        size = together-size u s from at least a;
+        syncs = together-syncs u s from at least a;
+        headers = elim (decLt (multiframesOf u) 2) [
+          | yes l ↦ inr (record { single = omega arith; five = most 0 5 (omega arith) (lit≤ tt) })
+          | no n ↦ inl (record { two = omega arith; but = 0; others = λ k h d. most k 3 h (lit≤ tt) })
+        ];
+      }
