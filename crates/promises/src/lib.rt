@@ -1,0 +1,1 @@
+// What the yards are told beside the demands, as theorems over the other crates' definitions. They stand in specs/; no code.
