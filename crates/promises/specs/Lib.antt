@@ -1,2 +1,5 @@
 pub mod Chunks
 pub mod Inverse
+pub mod First
+pub mod CutOff
+pub mod Said

@@ -1,0 +1,199 @@
+-- The first k multiframes of an image, damaged or not, as the reader takes them: their headers settle the settings sent, and the frames of their
+-- undamaged pairs are those written.
+-- Assumes nothing.
+use mathlib.Core.Path.{_≡_, refl, sym, ap, ap₂, _∙_, subst}
+use mathlib.Core.Bool.{Bool, true, false, not}
+use mathlib.Core.List.{List, [], _∷_, _++_}
+use mathlib.Core.Logic.{_⊎_, inl, inr}
+use Prim.Native.Nat.{ℕ, zero, suc, _+_, _-_, _*_, _/_, _%_, _≤_, _<_}
+use native.Mathlib.Decide.{ℕ-discrete, decLt}
+use native.Mathlib.Omega.{arith}
+use lib.IntN.{ℤ}
+use lib.ListN.{length, take, drop, getD, replicate, take-append-drop}
+use lib.Seq.{length-take-le, take-at, take-all}
+use Rattle.lists.specs.Parts.{part, over, part-left, part-right}
+use Rattle.lists.specs.Rows.{each, length-each, each-at, same-each}
+use Rattle.layout.specs.Layout.{widths, frameIndices, dataBits, packetBits, multiframeFrames, multiframePairs, multiframeOctets, mostMultiframes, indexOctets, reportOctets, pairOf, firstFrame, secondFrame, multiframeOf, packetStart}
+use Rattle.bits.specs.Bits.{value, bits}
+use Rattle.packet.specs.Packet.{apart, frameAt, packetOf}
+use Rattle.packet.specs.Laws.{length-row, getD-row, packetOf-back}
+use Rattle.cutting.specs.Cutting.{Cutting, whole, cutting, syncFirst, syncSecond}
+use Rattle.cutting.specs.Laws.{every-length}
+use Rattle.header.specs.Message.{commonBits}
+use Rattle.header.specs.Reading as H
+use Rattle.header.specs.declared.Header.{Header}
+use Rattle.header.specs.declared.Header.the-variants.{Codeword, Lost}
+use Rattle.settling.specs.Settling.{readings, settling}
+use Rattle.settling.specs.Laws.{AllHave, all-agree, only-clean}
+use Rattle.settling.specs.declared.Settings.the-variants.{Settled}
+use Rattle.pairs.specs.Pairs.{packetAt, pairCount, pairFails, framesOf, allFrames, pairOdd, pairNotes}
+use Rattle.pairs.specs.Laws.{length-notes, length-all, frames-at}
+use Rattle.judging.specs.Judging.{noteBy, notes}
+use Rattle.judging.specs.Laws.{failed-is-1, badBefore, note-at, Good, none-good}
+use Rattle.replacing.specs.Speech.{allZero, zeroFrame}
+use Rattle.reader.specs.Reading.{indexPart, reportPart, summary, Outcome, outcome, reading}
+use Rattle.reader.specs.ReadingLaws.{Fitting}
+use Rattle.reader.specs.declared.Answer.the-variants.{Read}
+use Rattle.writer.specs.Laws.{few-multiframes, length-image}
+use Rattle.writer.specs.Made.{syncIn, wordIn, packetIn, part-within}
+use Rattle.writer.specs.Image.{Nonzero, image-sync, Utterance, multiframesOf, pairsOf, imageOf, is-accepted, rate-not-2, fits-each-frame}
+use Rattle.demands.specs.Damage.{Damage, headerFlips, sentMessage, header-read}
+use Rattle.demands.specs.Whole.{rowOf, Lent, readings-are, packet-at, cut-is, reads-as, all-zero-at}
+use Rattle.demands.specs.Received.{sentCommon, common-sent, rate-sent, exp-sent}
+
+-- ---- headers that all have the same common bits
+have-one-more : (l : List Header) (m f c : ℕ) → AllHave l c → commonBits m ≡ c → AllHave (l ++ (Codeword m f ∷ [])) c
+have-one-more [] m f c a e = (e, tt)
+have-one-more (Lost ∷ l) m f c a e = absurd a
+have-one-more (Codeword n g ∷ l) m f c a e = (a .0, have-one-more l m f c (a .1) e)
+
+all-have : (g f : ℕ → ℕ) (c n : ℕ) → ((k : ℕ) → commonBits (g k) ≡ c) → AllHave (each (λ k. Codeword (g k) (f k)) n) c
+all-have g f c zero h = tt
+all-have g f c (suc n) h = have-one-more (each (λ k. Codeword (g k) (f k)) n) (g n) (f n) c (all-have g f c n h) (h n)
+
+-- ---- a frame that is not zero, as it was written
+pub frame-speaks : (idx l : List ℕ) (j : ℕ) → Nonzero idx j → part (frameIndices * j) frameIndices l ≡ frameAt idx j → zeroFrame l j ≡ false
+unfolding zeroFrame
+frame-speaks idx l j x e = by (allZero (part (7 * j) 7 l)) refl
+  where
+    by : (t : Bool) → allZero (part (7 * j) 7 l) ≡ t → allZero (part (7 * j) 7 l) ≡ false
+    by false z = z
+    by true z =
+        absurd (x .nonzero (sym (ap (λ (f : List ℕ). getD f (x .place) 0) e ∙ getD-row idx (7 * j) 7 (x .place) (x .within)) ∙ all-zero-at (part (7 * j) 7 l) (x .place) z))
+
+-- ---- a pair with note 0 passed its CRC
+pub note-passes : (octets places : List ℕ) (codebook thresholds : List ℤ) (q : ℕ) → q < pairCount places → getD (pairNotes octets places codebook thresholds) q 0 ≡ 0
+    → pairFails octets places q ≡ false
+unfolding pairNotes
+note-passes octets places codebook thresholds q h z = by (pairFails octets places q) refl
+  where
+    fs : List Bool
+    fs = each (pairFails octets places) (pairCount places)
+
+    os : List Bool
+    os = each (pairOdd octets places codebook thresholds) (pairCount places)
+
+    by : (t : Bool) → pairFails octets places q ≡ t → pairFails octets places q ≡ false
+    by false e = e
+    by true e =
+        let lf : length fs ≡ pairCount places = length-each (pairFails octets places) (pairCount places) in
+        let b = badBefore false (notes fs os) q in
+        let one : getD (notes fs os) q 0 ≡ 1 =
+        note-at false fs os q (omega (arith, lf)) ∙ ap (λ (x : Bool). noteBy b x (getD os q false) (getD fs (suc q) false)) (each-at (pairFails octets places) (pairCount places) q false h ∙ e)
+        ∙ failed-is-1 b (getD os q false) (getD fs (suc q) false) in
+        let y : _≡_ {A = ℕ} 0 1 = sym z ∙ one in
+        absurd (omega arith)
+
+-- ---- the first k of m multiframes
+module _ (u : Utterance) (s : List ℕ) (d : Damage (multiframesOf u) (imageOf u) s) (k : ℕ) (within : k ≤ multiframesOf u) where
+  abbrev pub m : ℕ
+  m = multiframesOf u
+
+  abbrev pub first : List ℕ
+  first = take (multiframeOctets * k) s
+
+  pub size : length s ≡ multiframeOctets * m
+  size = d .size ∙ length-image (u .rate) (u .kind) (u .indices) m
+
+  pub size-first : length first ≡ multiframeOctets * k
+  size-first = length-take-le (144 * k) s (omega (arith, size))
+
+  pub part-first : (a v : ℕ) → a + v ≤ multiframeOctets * k → part a v first ≡ part a v s
+  part-first a v h = sym (ap (part a v) (sym (take-append-drop (144 * k) s)) ∙ part-left first (drop (144 * k) s) a v (omega (arith, size-first)))
+
+  pub few : m ≤ mostMultiframes
+  few = few-multiframes (u .rate) (u .kind) (u .indices) (is-accepted u .sizes)
+
+  pub syncs : (i : ℕ) → i < m → syncIn s i ≡ syncFirst ∷ syncSecond ∷ []
+  syncs i h = d .syncs i h ∙ image-sync (u .rate) (u .kind) (u .indices) m i h
+
+  pub syncs-first : (i : ℕ) → i < k → syncIn first i ≡ syncFirst ∷ syncSecond ∷ []
+  syncs-first i h = part-first (144 * i) 2 (omega arith) ∙ syncs i (omega arith)
+
+  pub cut-first : cutting first ≡ record { places = rowOf k; ending = whole }
+  cut-first = cut-is first k (omega (arith, few)) size-first syncs-first
+
+  pub rows : length (rowOf k) ≡ k
+  rows = every-length 0 k
+
+  -- its headers settle the settings sent
+  abbrev pub flips : ℕ → ℕ
+  flips i = headerFlips (imageOf u) s i
+
+  pub headers-first : readings first (rowOf k) ≡ each (λ i. Codeword (sentMessage u i) (flips i)) k
+  headers-first =
+      readings-are first k
+      ∙ same-each (λ i. H.reading (wordIn first i)) (λ i. Codeword (sentMessage u i) (flips i)) k (λ i h.
+      ap (λ (l : List ℕ). H.reading (value (bits l))) (part-first (144 * i + 2) 4 (omega arith)) ∙ header-read u s d i (omega arith))
+
+  pub settles-first : 0 < k → (2 ≤ k) ⊎ (flips 0 ≡ 0) → settling (readings first (rowOf k)) ≡ Settled (sentCommon u)
+  settles-first some x = ap settling headers-first ∙ by (decLt k 2) x
+    where
+      two : 2 ≤ k → settling (each (λ i. Codeword (sentMessage u i) (flips i)) k) ≡ Settled (sentCommon u)
+      two h =
+          all-agree (each (λ i. Codeword (sentMessage u i) (flips i)) k) (sentCommon u) (omega (arith, length-each (λ i. Codeword (sentMessage u i) (flips i)) k))
+          (all-have (sentMessage u) flips (sentCommon u) k (common-sent u))
+
+      by : Dec (k < 2) → (2 ≤ k) ⊎ (flips 0 ≡ 0) → settling (each (λ i. Codeword (sentMessage u i) (flips i)) k) ≡ Settled (sentCommon u)
+      by (no n) y = two (omega arith)
+      by (yes l) (inl h) = two h
+      by (yes l) (inr z) =
+          let e : k ≡ 1 = omega arith in
+          ap (λ (n : ℕ). settling (each (λ i. Codeword (sentMessage u i) (flips i)) n)) e
+          ∙ ap (λ (f : ℕ). settling (Codeword (sentMessage u 0) f ∷ [])) z ∙ only-clean (sentMessage u 0) ∙ ap Settled (common-sent u 0)
+
+  -- its packets are those of the image
+  pub packet-first : (q : ℕ) → q < multiframePairs * k → packetAt first (rowOf k) q ≡ packetIn s q
+  packet-first q h =
+      packet-at first k q h ∙ ap (λ (l : List ℕ). part (packetStart q) packetBits (bits l)) (part-first (144 * (q / 12) + 2 + 4) 138 (omega arith))
+
+  abbrev pub all : List ℕ
+  all = allFrames first (rowOf k)
+
+  -- and an undamaged pair's frames stand in it as they were written
+  pub frame-first : (j : ℕ) → j < multiframeFrames * k → packetIn s (pairOf j) ≡ packetOf (u .indices) (pairOf j) → part (frameIndices * j) frameIndices all ≡ frameAt (u .indices) j
+  unfolding framesOf
+  frame-first j h e =
+      let q = j / 2 in
+      let f = frameAt (u .indices) (2 * q) in
+      let g = frameAt (u .indices) (2 * q + 1) in
+      let lf : length f ≡ 7 = length-row (u .indices) (7 * (2 * q)) 7 in
+      let lg : length g ≡ 7 = length-row (u .indices) (7 * (2 * q + 1)) 7 in
+      let pair : part (14 * q) 14 all ≡ f ++ g =
+      frames-at first (rowOf k) q (omega (arith, rows)) ∙ ap (apart widths) (packet-first q (omega arith) ∙ e)
+      ∙ packetOf-back (u .indices) q (fits-each-frame u (firstFrame q)) (fits-each-frame u (secondFrame q)) in
+      let room : 14 * q + 14 ≤ length all = omega (arith, length-all first (rowOf k), rows) in
+      elim (ℕ-discrete (2 * q) j) [
+        | yes x ↦
+            let a : 7 * j ≡ 14 * q + 0 = omega arith in
+            ap (λ (i : ℕ). part i 7 all) a ∙ part-within all (14 * q) 14 0 7 room (omega arith) ∙ ap (part 0 7) pair ∙ take-at f g 7 lf ∙ ap (frameAt (u .indices)) x
+        | no x ↦
+            let a : 7 * j ≡ 14 * q + 7 = omega arith in
+            let b : 2 * q + 1 ≡ j = omega arith in
+            ap (λ (i : ℕ). part i 7 all) a ∙ part-within all (14 * q) 14 7 7 room (omega arith) ∙ ap (part 7 7) pair ∙ part-right f g 7 7 lf
+            ∙ take-all 7 g (omega arith) ∙ ap (frameAt (u .indices)) b
+      ]
+
+  module _ (codebook thresholds : List ℤ) where
+    abbrev pub ns : List ℕ
+    ns = pairNotes first (rowOf k) codebook thresholds
+
+    pub notes-size : length ns ≡ pairCount (rowOf k)
+    notes-size = length-notes first (rowOf k) codebook thresholds
+
+    -- with a good pair, settings and room it is read
+    pub read-first : (index report : List ℕ) → 0 < k → (2 ≤ k) ⊎ (flips 0 ≡ 0) → Good ns → Lent k codebook thresholds index report
+        → reading first codebook thresholds index report
+        ≡ outcome (Read (summary first (rowOf k) ns (sentCommon u))) (over index 0 (indexOctets * length (rowOf k)) (indexPart first (rowOf k) ns))
+        (over report 0 (reportOctets * length (rowOf k)) (reportPart first (rowOf k) ns (sentCommon u)))
+    read-first index report some heads good lent =
+        reads-as first k (omega (arith, few)) size-first syncs-first codebook thresholds index report (sentCommon u) some lent
+        record {
+          settles = settles-first some heads;
+          usable = record { rate = λ e. rate-not-2 u (sym (rate-sent u) ∙ e); exp = exp-sent u };
+          roomy = record {
+            index-room = subst (λ (n : ℕ). indexOctets * n ≤ length index) (sym rows) (lent .index-room);
+            report-room = subst (λ (n : ℕ). reportOctets * n ≤ length report) (sym rows) (lent .report-room);
+            not-all = λ e. none-good ns (e ∙ sym notes-size) (good .pair) (good .within) (good .good);
+          };
+        }
