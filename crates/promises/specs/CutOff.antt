@@ -383,7 +383,7 @@ module _ (u : Utterance) (s : List ℕ) (d : Damage (multiframesOf u) (imageOf u
       passed : right dataBits (packetIn s q) ≡ true
       passed =
           ap (right dataBits) (sym (F.packet-first u s d k within-d q in-first))
-          ∙ not-false (right dataBits (packetAt came (rowOf k) q)) (F.note-passes came (rowOf k) codebook thresholds q (omega (arith, rows-d, in-first)) last-note)
+          ∙ not-false (right dataBits (packetAt came (rowOf k) q)) (F.zero-passed came (rowOf k) codebook thresholds q (omega (arith, rows-d, in-first)) last-note)
 
       by : Fate u s d q in-image → packetIn s q ≡ packetOf (u .indices) q
       by (whole x r) = x

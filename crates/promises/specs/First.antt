@@ -4,13 +4,14 @@
 use mathlib.Core.Path.{_≡_, refl, sym, ap, ap₂, _∙_, subst}
 use mathlib.Core.Bool.{Bool, true, false, not}
 use mathlib.Core.List.{List, [], _∷_, _++_}
-use mathlib.Core.Logic.{_⊎_, inl, inr}
+use mathlib.Core.Logic.{_⊎_, inl, inr, ⊎-elim}
 use Prim.Native.Nat.{ℕ, zero, suc, _+_, _-_, _*_, _/_, _%_, _≤_, _<_}
 use native.Mathlib.Decide.{ℕ-discrete, decLt}
 use native.Mathlib.Omega.{arith}
 use lib.IntN.{ℤ}
 use lib.ListN.{length, take, drop, getD, replicate, take-append-drop}
 use lib.Seq.{length-take-le, take-at, take-all}
+use Rattle.lists.specs.Tests.{true-false}
 use Rattle.lists.specs.Parts.{part, over, part-left, part-right}
 use Rattle.lists.specs.Rows.{each, length-each, each-at, same-each}
 use Rattle.layout.specs.Layout.{widths, frameIndices, dataBits, packetBits, multiframeFrames, multiframePairs, multiframeOctets, mostMultiframes, indexOctets, reportOctets, pairOf, firstFrame, secondFrame, multiframeOf, packetStart}
@@ -28,8 +29,8 @@ use Rattle.settling.specs.Laws.{AllHave, all-agree, only-clean}
 use Rattle.settling.specs.declared.Settings.the-variants.{Settled}
 use Rattle.pairs.specs.Pairs.{packetAt, pairCount, pairFails, framesOf, allFrames, pairOdd, pairNotes}
 use Rattle.pairs.specs.Laws.{length-notes, length-all, frames-at}
-use Rattle.judging.specs.Judging.{noteBy, notes}
-use Rattle.judging.specs.Laws.{failed-is-1, badBefore, note-at, Good, none-good}
+use Rattle.judging.specs.Judging.{bad, noteBy, notes}
+use Rattle.judging.specs.Laws.{failed-is-1, consistent-is-good, badBefore, note-at, Good, none-good}
 use Rattle.replacing.specs.Speech.{allZero, zeroFrame}
 use Rattle.reader.specs.Reading.{indexPart, reportPart, summary, Outcome, outcome, reading}
 use Rattle.reader.specs.ReadingLaws.{Fitting}
@@ -61,28 +62,54 @@ frame-speaks idx l j x e = by (allZero (part (7 * j) 7 l)) refl
     by true z =
         absurd (x .nonzero (sym (ap (λ (f : List ℕ). getD f (x .place) 0) e ∙ getD-row idx (7 * j) 7 (x .place) (x .within)) ∙ all-zero-at (part (7 * j) 7 l) (x .place) z))
 
--- ---- a pair with note 0 passed its CRC
-pub note-passes : (octets places : List ℕ) (codebook thresholds : List ℤ) (q : ℕ) → q < pairCount places → getD (pairNotes octets places codebook thresholds) q 0 ≡ 0
-    → pairFails octets places q ≡ false
-unfolding pairNotes
-note-passes octets places codebook thresholds q h z = by (pairFails octets places q) refl
-  where
-    fs : List Bool
-    fs = each (pairFails octets places) (pairCount places)
+-- ---- a pair's note: by the pair before it, its own CRC and consistency, and the next pair's CRC
+module _ (octets places : List ℕ) (codebook thresholds : List ℤ) (q : ℕ) (inside : q < pairCount places) where
+  abbrev before : Bool
+  before = badBefore false (pairNotes octets places codebook thresholds) q
 
-    os : List Bool
-    os = each (pairOdd octets places codebook thresholds) (pairCount places)
+  abbrev after : Bool
+  after = getD (each (pairFails octets places) (pairCount places)) (suc q) false
 
-    by : (t : Bool) → pairFails octets places q ≡ t → pairFails octets places q ≡ false
-    by false e = e
-    by true e =
-        let lf : length fs ≡ pairCount places = length-each (pairFails octets places) (pairCount places) in
-        let b = badBefore false (notes fs os) q in
-        let one : getD (notes fs os) q 0 ≡ 1 =
-        note-at false fs os q (omega (arith, lf)) ∙ ap (λ (x : Bool). noteBy b x (getD os q false) (getD fs (suc q) false)) (each-at (pairFails octets places) (pairCount places) q false h ∙ e)
-        ∙ failed-is-1 b (getD os q false) (getD fs (suc q) false) in
-        let y : _≡_ {A = ℕ} 0 1 = sym z ∙ one in
-        absurd (omega arith)
+  note-is : getD (pairNotes octets places codebook thresholds) q 0 ≡ noteBy before (pairFails octets places q) (pairOdd octets places codebook thresholds q) after
+  unfolding pairNotes
+  note-is =
+      let c = pairCount places in
+      let fs = each (pairFails octets places) c in
+      let os = each (pairOdd octets places codebook thresholds) c in
+      note-at false fs os q (omega (arith, length-each (pairFails octets places) c))
+      ∙ ap₂ (λ (f o : Bool). noteBy (badBefore false (notes fs os) q) f o (getD fs (suc q) false)) (each-at (pairFails octets places) c q false inside)
+      (each-at (pairOdd octets places codebook thresholds) c q false inside)
+
+  -- 1 if its CRC fails
+  pub failed-note : pairFails octets places q ≡ true → getD (pairNotes octets places codebook thresholds) q 0 ≡ 1
+  failed-note e =
+      note-is ∙ ap (λ (f : Bool). noteBy before f (pairOdd octets places codebook thresholds q) after) e ∙ failed-is-1 before (pairOdd octets places codebook thresholds q) after
+
+  -- so its CRC passed if it is 0
+  pub zero-passed : getD (pairNotes octets places codebook thresholds) q 0 ≡ 0 → pairFails octets places q ≡ false
+  zero-passed z = by (pairFails octets places q) refl
+    where
+      by : (t : Bool) → pairFails octets places q ≡ t → pairFails octets places q ≡ false
+      by false e = e
+      by true e = let y : _≡_ {A = ℕ} 0 1 = sym z ∙ failed-note e in absurd (omega arith)
+
+  -- 0 if the CRC passes and the pair is consistent
+  pub consistent-note : pairFails octets places q ≡ false → pairOdd octets places codebook thresholds q ≡ false → getD (pairNotes octets places codebook thresholds) q 0 ≡ 0
+  consistent-note e o = note-is ∙ ap₂ (λ (f x : Bool). noteBy before f x after) e o ∙ consistent-is-good before after
+
+  -- 2 if the CRC passes and the pair is bad
+  zero-or-two : (b o a : Bool) → (noteBy b false o a ≡ 0) ⊎ (noteBy b false o a ≡ 2)
+  unfolding noteBy
+  zero-or-two b false a = inl refl
+  zero-or-two b true true = inr refl
+  zero-or-two true true false = inr refl
+  zero-or-two false true false = inl refl
+
+  pub bad-note : pairFails octets places q ≡ false → bad (getD (pairNotes octets places codebook thresholds) q 0) ≡ true → getD (pairNotes octets places codebook thresholds) q 0 ≡ 2
+  bad-note e b =
+      let o = pairOdd octets places codebook thresholds q in
+      let n : getD (pairNotes octets places codebook thresholds) q 0 ≡ noteBy before false o after = note-is ∙ ap (λ (f : Bool). noteBy before f o after) e in
+      ⊎-elim (λ z. absurd (true-false (sym b ∙ ap bad (n ∙ z)))) (λ z. n ∙ z) (zero-or-two before o after)
 
 -- ---- the first k of m multiframes
 module _ (u : Utterance) (s : List ℕ) (d : Damage (multiframesOf u) (imageOf u) s) (k : ℕ) (within : k ≤ multiframesOf u) where
