@@ -15,14 +15,12 @@ use Rattle.lists.specs.Tests.{by-test}
 use Rattle.layout.specs.Layout.{multiframeOctets, syncOctets, mostMultiframes, codebookNumbers, thresholdNumbers}
 use Rattle.cutting.specs.declared.Piece.{Piece}
 use Rattle.cutting.specs.declared.Piece.the-variants.{End, Multiframe, Inverse, Bad}
-use Rattle.cutting.specs.Cutting.{syncFirst, syncSecond, inverseFirst, inverseSecond, pieceOf, Ending, whole, refused, Cutting, prepend, step, walk, cutting}
+use Rattle.cutting.specs.Cutting.{syncFirst, syncSecond, inverseFirst, inverseSecond, pieceOf, whole, refused, Cutting, prepend, step, walk, cutting}
 use Rattle.cutting.specs.Laws.{multiframe-met, inverse-met, Says, says, walk-step, Chunk, multiframe, inverse, octetsOf, placesOf, Proper}
 use Rattle.reader.specs.Reading.{numberOf, placeOf, cutRefusal, wholeVerdict, endVerdict, verdict, Outcome, outcome, reading}
 use Rattle.reader.specs.ReadingLaws.{refused-keeps}
 use Rattle.reader.specs.declared.Refusal.{Refusal}
 use Rattle.reader.specs.declared.Refusal.the-variants.{Empty}
-use Rattle.reader.specs.declared.Verdict.{Verdict}
-use Rattle.reader.specs.declared.Verdict.the-variants.{Refuse}
 use Rattle.reader.specs.declared.Answer.the-variants.{Refused}
 
 -- ---- chunks

@@ -4,7 +4,7 @@
 use mathlib.Core.Path.{_≡_, refl, sym, ap, ap₂, _∙_, subst}
 use mathlib.Core.Bool.{Bool, true, false, not}
 use mathlib.Core.List.{List, [], _∷_, _++_}
-use mathlib.Core.Logic.{_⊎_, inl, inr}
+use mathlib.Core.Logic.{inl, inr}
 use Prim.Native.Nat.{ℕ, zero, suc, _+_, _-_, _*_, _/_, _%_, _≤_, _<_}
 use native.Mathlib.Nat.{mul-zero, mul-suc}
 use native.Mathlib.Decide.{ℕ-discrete, decLt}
@@ -18,10 +18,10 @@ use lib.ListN.{length, take, drop, getD, replicate, length-drop, length-replicat
 use lib.Seq.{length-take-le, take-all, take-add, ext-getD, getD-take, getD-drop}
 use Rattle.lists.specs.Tests.{true-false, not-false}
 use Rattle.lists.specs.Parts.{part, over, length-part}
-use Rattle.lists.specs.Rows.{joined, each, each-at, same-joined}
-use Rattle.layout.specs.Layout.{frameIndices, dataBits, multiframeFrames, multiframePairs, multiframeOctets, mostMultiframes, indexOctets, reportOctets, firstPair}
+use Rattle.lists.specs.Rows.{joined, each-at, same-joined}
+use Rattle.layout.specs.Layout.{dataBits, multiframeFrames, multiframePairs, multiframeOctets, mostMultiframes, indexOctets, reportOctets, firstPair}
 use Rattle.crc.specs.Crc.{right}
-use Rattle.packet.specs.Packet.{frameAt, packetOf}
+use Rattle.packet.specs.Packet.{packetOf}
 use Rattle.packet.specs.Laws.{getD-row, packetOf-good}
 use Rattle.cutting.specs.declared.Piece.the-variants.{Bad}
 use Rattle.cutting.specs.Cutting.{syncFirst, syncSecond, syncMet, pieceBy, pieceOf, Cutting, cutting}
@@ -38,12 +38,12 @@ use Rattle.judging.specs.Judging.{badPairs}
 use Rattle.judging.specs.Laws.{Good}
 use Rattle.replacing.specs.Replacing.{replaced}
 use Rattle.replacing.specs.Laws.{good-kept}
-use Rattle.replacing.specs.Speech.{allZero, zeroFrame, lastNonzero, speechOf, endOf, place-stop}
+use Rattle.replacing.specs.Speech.{zeroFrame, speechOf, endOf, place-stop}
 use Rattle.reader.specs.Reading.{indexPart, reportPart, summary, Outcome, outcome, reading}
 use Rattle.reader.specs.ReadingLaws.{Accepted}
 use Rattle.reader.specs.declared.Summary.{Summary}
 use Rattle.reader.specs.declared.Answer.the-variants.{Read, Refused}
-use Rattle.writer.specs.Writing.{frameCount, needed}
+use Rattle.writer.specs.Writing.{needed}
 use Rattle.writer.specs.Laws.{length-image}
 use Rattle.writer.specs.Made.{wordIn, packetIn}
 use Rattle.writer.specs.Image.{Nonzero, boundary-speaks, image-packet, Utterance, multiframesOf, pairsOf, imageOf, is-accepted, whole-frames}
@@ -51,11 +51,13 @@ use Rattle.demands.specs.Damage.{Damage, headerFlips, sentMessage, Fate, whole,
 use Rattle.demands.specs.Damages.{unharmed}
 use Rattle.demands.specs.Whole.{rowOf, Lent, nothing-replaced, pairNoteIn, pair-note-is}
 use Rattle.demands.specs.Received.{sentCommon, common-sent, rate-sent, kind-sent}
+use Rattle.demands.specs.Met.{zeroBook, zeroThresholds, indexFor, reportFor, lent-zeros}
 use Rattle.demands.specs.ReadsBack.{spoken, reads-image}
 use Rattle.demands.specs.WritesAgain as A
 use Rattle.promises.specs.Chunks.{multiframeCount, refused-behind, Chunked, chunked, Refuses, Tables, cut-refuses}
 use Rattle.promises.specs.Inverse.{nothing-14}
 use Rattle.promises.specs.First as F
+use Rattle.promises.specs.Said.{ones24}
 
 -- ---- lists of zeros
 zeros : (l : List ℕ) → ((i : ℕ) → i < length l → getD l i 0 ≡ 0) → l ≡ replicate (length l) 0
@@ -409,3 +411,19 @@ pub cut-off-told-damaged : (u : Utterance) (s : List ℕ) → Damage (multiframe
     → (codebook thresholds : List ℤ) (index report : List ℕ) (given : Summary) → reading (take (multiframeOctets * k) s) codebook thresholds index report .answer ≡ Read given
     → pairNoteIn (reading (take (multiframeOctets * k) s) codebook thresholds index report .report) (multiframePairs * k - 1) ≡ 0 → given .end ≡ 0
 cut-off-told-damaged u s d k less codebook thresholds index report given e note = ends-d u s d k less codebook thresholds index report given e note
+
+-- ---- the premises are met
+-- of 24 frames of ones the first multiframe alone is read: rate 0, one multiframe, 24 frames of speech, end 0
+pub first-of-24 : reading (take multiframeOctets (imageOf ones24)) zeroBook zeroThresholds (indexFor 1) (reportFor 1) .answer
+    ≡ Read (record { rate = 0; kind = 0; multiframes = 1; speech = 24; bad = 0; end = 0 })
+first-of-24 = ap (λ (o : Outcome). o .answer) (cut-off-reads ones24 1 (omega arith) (omega arith) zeroBook zeroThresholds (indexFor 1) (reportFor 1) (lent-zeros 1))
+
+-- 01's example: 143 octets that open with a sync are 13
+pub received-143 : (u : Utterance) (codebook thresholds : List ℤ) (index report : List ℕ) → Tables codebook thresholds
+    → Refuses (reading (take 143 (imageOf u)) codebook thresholds index report) index report 13 0
+received-143 u = cut-inside u 0 143 (omega arith) (omega arith) (omega arith)
+
+-- one octet more than the first multiframe is 13 at the second
+pub received-145 : (codebook thresholds : List ℤ) (index report : List ℕ) → Tables codebook thresholds
+    → Refuses (reading (take 145 (imageOf ones24)) codebook thresholds index report) index report 13 144
+received-145 = cut-inside ones24 1 1 (omega arith) (omega arith) (omega arith)

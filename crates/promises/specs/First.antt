@@ -2,23 +2,23 @@
 -- undamaged pairs are those written.
 -- Assumes nothing.
 use mathlib.Core.Path.{_≡_, refl, sym, ap, ap₂, _∙_, subst}
-use mathlib.Core.Bool.{Bool, true, false, not}
+use mathlib.Core.Bool.{Bool, true, false}
 use mathlib.Core.List.{List, [], _∷_, _++_}
 use mathlib.Core.Logic.{_⊎_, inl, inr, ⊎-elim}
-use Prim.Native.Nat.{ℕ, zero, suc, _+_, _-_, _*_, _/_, _%_, _≤_, _<_}
+use Prim.Native.Nat.{ℕ, zero, suc, _+_, _*_, _/_, _≤_, _<_}
 use native.Mathlib.Decide.{ℕ-discrete, decLt}
 use native.Mathlib.Omega.{arith}
 use lib.IntN.{ℤ}
-use lib.ListN.{length, take, drop, getD, replicate, take-append-drop}
+use lib.ListN.{length, take, drop, getD, take-append-drop}
 use lib.Seq.{length-take-le, take-at, take-all}
 use Rattle.lists.specs.Tests.{true-false}
 use Rattle.lists.specs.Parts.{part, over, part-left, part-right}
 use Rattle.lists.specs.Rows.{each, length-each, each-at, same-each}
-use Rattle.layout.specs.Layout.{widths, frameIndices, dataBits, packetBits, multiframeFrames, multiframePairs, multiframeOctets, mostMultiframes, indexOctets, reportOctets, pairOf, firstFrame, secondFrame, multiframeOf, packetStart}
+use Rattle.layout.specs.Layout.{widths, frameIndices, packetBits, multiframeFrames, multiframePairs, multiframeOctets, mostMultiframes, indexOctets, reportOctets, pairOf, firstFrame, secondFrame, packetStart}
 use Rattle.bits.specs.Bits.{value, bits}
 use Rattle.packet.specs.Packet.{apart, frameAt, packetOf}
 use Rattle.packet.specs.Laws.{length-row, getD-row, packetOf-back}
-use Rattle.cutting.specs.Cutting.{Cutting, whole, cutting, syncFirst, syncSecond}
+use Rattle.cutting.specs.Cutting.{whole, cutting, syncFirst, syncSecond}
 use Rattle.cutting.specs.Laws.{every-length}
 use Rattle.header.specs.Message.{commonBits}
 use Rattle.header.specs.Reading as H
@@ -32,12 +32,11 @@ use Rattle.pairs.specs.Laws.{length-notes, length-all, frames-at}
 use Rattle.judging.specs.Judging.{bad, noteBy, notes}
 use Rattle.judging.specs.Laws.{failed-is-1, consistent-is-good, badBefore, note-at, Good, none-good}
 use Rattle.replacing.specs.Speech.{allZero, zeroFrame}
-use Rattle.reader.specs.Reading.{indexPart, reportPart, summary, Outcome, outcome, reading}
-use Rattle.reader.specs.ReadingLaws.{Fitting}
+use Rattle.reader.specs.Reading.{indexPart, reportPart, summary, outcome, reading}
 use Rattle.reader.specs.declared.Answer.the-variants.{Read}
 use Rattle.writer.specs.Laws.{few-multiframes, length-image}
 use Rattle.writer.specs.Made.{syncIn, wordIn, packetIn, part-within}
-use Rattle.writer.specs.Image.{Nonzero, image-sync, Utterance, multiframesOf, pairsOf, imageOf, is-accepted, rate-not-2, fits-each-frame}
+use Rattle.writer.specs.Image.{Nonzero, image-sync, Utterance, multiframesOf, imageOf, is-accepted, rate-not-2, fits-each-frame}
 use Rattle.demands.specs.Damage.{Damage, headerFlips, sentMessage, header-read}
 use Rattle.demands.specs.Whole.{rowOf, Lent, readings-are, packet-at, cut-is, reads-as, all-zero-at}
 use Rattle.demands.specs.Received.{sentCommon, common-sent, rate-sent, exp-sent}

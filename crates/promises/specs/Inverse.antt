@@ -44,7 +44,7 @@ use Rattle.writer.specs.Image.{image-sync, Utterance, multiframesOf, imageOf, i
 use Rattle.demands.specs.Damage.{Damage}
 use Rattle.demands.specs.Met.{zeroBook, zeroThresholds, indexFor, reportFor, hurtImage, hurts, says24, two-multiframes, names-says24}
 use Rattle.demands.specs.NamesTheDamage as N
-use Rattle.promises.specs.Chunks.{multiframesIn, multiframeCount, inverseCount, places-count, chunk-octets, refused-behind, Chunked, chunked, Refuses, Tables, cut-refuses, none-refuses}
+use Rattle.promises.specs.Chunks.{multiframesIn, multiframeCount, inverseCount, places-count, chunk-octets, refused-behind, chunked, Refuses, Tables, cut-refuses, none-refuses}
 
 -- ---- what is read of octets o at places p depends on the multiframes that stand there, and not on where they stand
 module _ (o₁ p₁ o₂ p₂ : List ℕ) (count : length p₁ ≡ length p₂)

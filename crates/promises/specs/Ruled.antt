@@ -2,23 +2,20 @@
 -- it, one after the other, up to the first consistent one. The premises of `names-the-damage` are met with such pairs, of one multiframe and of two, and a
 -- pair that is only undamaged is not enough for them. No threshold here is negative.
 -- Assumes nothing.
-use mathlib.Core.Path.{_≡_, refl, sym, ap, ap₂, _∙_, subst}
-use mathlib.Core.Bool.{Bool, true, false}
-use mathlib.Core.List.{List, []}
-use mathlib.Core.Logic.{_⊎_, inl, inr, ⊎-elim}
-use Prim.Native.Nat.{ℕ, zero, suc, _+_, _*_, _≤_, _<_}
+use mathlib.Core.Path.{_≡_, sym, ap, _∙_, subst}
+use mathlib.Core.List.{List}
+use mathlib.Core.Logic.{inl, inr, ⊎-elim}
+use Prim.Native.Nat.{ℕ, zero, suc, _*_, _≤_, _<_}
 use native.Mathlib.Decide.{ℕ-discrete}
 use native.Mathlib.Omega.{arith}
 use lib.IntN.{ℤ}
 use lib.ListN.{length, getD}
 use Rattle.lists.specs.Tests.{true-false}
-use Rattle.lists.specs.Rows.{each, length-each, each-at}
 use Rattle.layout.specs.Layout.{reportOctets}
 use Rattle.cutting.specs.Laws.{every-length}
-use Rattle.pairs.specs.Pairs.{pairCount, pairFails, pairOdd, pairNotes}
+use Rattle.pairs.specs.Pairs.{pairFails, pairNotes}
 use Rattle.pairs.specs.Laws.{length-notes}
-use Rattle.judging.specs.Judging.{bad, noteBy, notes}
-use Rattle.judging.specs.Laws.{badBefore, note-at}
+use Rattle.judging.specs.Judging.{bad}
 use Rattle.reader.specs.Reading.{Outcome, outcome, reading}
 use Rattle.reader.specs.declared.Summary.{Summary}
 use Rattle.reader.specs.declared.Refusal.the-variants.{AllBad}

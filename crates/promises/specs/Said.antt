@@ -7,7 +7,7 @@ use Prim.Native.Nat.{ℕ, zero, suc, _*_, _^_, _<_}
 use native.Mathlib.Nat.{le-of-eq}
 use lib.Dec.{T, ltb, lit<}
 use lib.IntN.{ℤ, pos}
-use lib.ListN.{length, getD, replicate, length-replicate}
+use lib.ListN.{getD, replicate, length-replicate}
 use borrow.Author.Tests.{ltb-true}
 use Rattle.lists.specs.Tests.{when, true-false, all-holds}
 use Rattle.lists.specs.Rows.{joined}
@@ -42,6 +42,21 @@ written-24 = refl
 
 abbrev pub ones24 : Utterance
 ones24 = record { rate = 0; kind = 0; indices = replicate 168 1; small = small-octets (replicate 168 1) refl; written = written-24 }
+
+-- the same with frame 22 of zeros
+abbrev pub gap : List ℕ
+gap = replicate 147 1 ++ (replicate frameIndices 0 ++ replicate 14 1)
+
+pub written-gap : verdict 0 0 gap (needed gap) ≡ Written (needed gap)
+unfolding verdict roomAnswer firstFrom
+written-gap = refl
+
+abbrev pub gap24 : Utterance
+gap24 = record { rate = 0; kind = 0; indices = gap; small = small-octets gap refl; written = written-gap }
+
+pub zero-22 : frameAt gap 21 ≡ replicate frameIndices 0
+unfolding row
+zero-22 = refl
 
 -- ---- frames that rise: one of ones, one of twos, and so on, 2n + 1 of them; behind the last, of ones, stands padding
 abbrev pub rising : ℕ → List ℕ
