@@ -1,9 +1,9 @@
 -- Whole multiframes and inverse syncs in any order, as cutting's laws call them chunks: what is cut behind them, that octets which are cut to
 -- their end are chunks, and how a reading refuses what cutting refuses.
 -- Assumes nothing.
-use mathlib.Core.Path.{_≡_, refl, sym, ap, ap₂, _∙_}
+use mathlib.Core.Path.{_≡_, refl, sym, ap, ap₂, _∙_, subst}
 use mathlib.Core.List.{List, [], _∷_, _++_, append-assoc}
-use mathlib.Core.Logic.{_⊎_, ⊎-elim}
+use mathlib.Core.Logic.{_⊎_, inl, inr}
 use Prim.Native.Nat.{ℕ, zero, suc, _+_, _*_, _≤_, _<_}
 use native.Mathlib.Omega.{arith}
 use lib.Dec.{eqb}
@@ -16,7 +16,7 @@ use Rattle.layout.specs.Layout.{multiframeOctets, syncOctets, mostMultiframes, 
 use Rattle.cutting.specs.declared.Piece.{Piece}
 use Rattle.cutting.specs.declared.Piece.the-variants.{End, Multiframe, Inverse, Bad}
 use Rattle.cutting.specs.Cutting.{syncFirst, syncSecond, inverseFirst, inverseSecond, pieceOf, whole, refused, Cutting, prepend, step, walk, cutting}
-use Rattle.cutting.specs.Laws.{multiframe-met, inverse-met, Says, says, walk-step, Chunk, multiframe, inverse, octetsOf, placesOf, Proper}
+use Rattle.cutting.specs.Laws.{multiframe-met, inverse-met, Says, says, walk-step, Ended, sound, Chunk, multiframe, inverse, octetsOf, placesOf, Proper}
 use Rattle.reader.specs.Reading.{numberOf, placeOf, cutRefusal, wholeVerdict, endVerdict, verdict, Outcome, outcome, reading}
 use Rattle.reader.specs.ReadingLaws.{refused-keeps}
 use Rattle.reader.specs.declared.Refusal.{Refusal}
@@ -74,7 +74,7 @@ cut-behind (inverse ∷ cs) r p m ok few =
     let i : p + 2 + length (octetsOf cs) ≡ p + suc (suc (length (octetsOf cs))) = omega arith in
     ap (λ (x : Cutting). x .ending) w ∙ cut-behind cs r (p + 2) m ok few ∙ ap (λ (i : ℕ). walk 0 r i (m + multiframeCount cs) .ending) i
 
--- so is what cutting refuses there
+-- so is what cutting refuses: at the place behind them
 pub refused-behind : (cs : List Chunk) (r : List ℕ) (n : ℕ) → Proper cs → multiframeCount cs ≤ mostMultiframes → pieceOf r (multiframeCount cs) ≡ Bad n
     → cutting (octetsOf cs ++ r) .ending ≡ refused n (length (octetsOf cs))
 refused-behind cs r n ok few bad =
@@ -153,10 +153,12 @@ pub record Tables (codebook thresholds : List ℤ) : Type 0 where
   pub codebook-size : length codebook ≡ codebookNumbers
   pub thresholds-size : length thresholds ≡ thresholdNumbers
 
--- 12, 13 and 15 by their numbers, and their places
-numbers : (p : ℕ) → (numberOf (cutRefusal 12 p) ≡ 12) × (numberOf (cutRefusal 13 p) ≡ 13) × (numberOf (cutRefusal 15 p) ≡ 15)
+-- 12, 13 and 15 have their numbers, and the place that cutting gives
+number-of : (n p : ℕ) → (n ≡ 12) ⊎ ((n ≡ 13) ⊎ (n ≡ 15)) → numberOf (cutRefusal n p) ≡ n
 unfolding cutRefusal
-numbers p = (refl, refl, refl)
+number-of n p (inl e) = ap (λ (k : ℕ). numberOf (cutRefusal k p)) e ∙ sym e
+number-of n p (inr (inl e)) = ap (λ (k : ℕ). numberOf (cutRefusal k p)) e ∙ sym e
+number-of n p (inr (inr e)) = ap (λ (k : ℕ). numberOf (cutRefusal k p)) e ∙ sym e
 
 place-of : (n p : ℕ) → placeOf (cutRefusal n p) ≡ p
 unfolding cutRefusal
@@ -169,18 +171,14 @@ module _ (s : List ℕ) (codebook thresholds : List ℤ) (index report : List �
   cutting-decides = rw (eq-eqb (length codebook) codebookNumbers (tables .codebook-size), eq-eqb (length thresholds) thresholdNumbers (tables .thresholds-size))
 
   -- what cutting refuses is refused, with its number and place
-  pub cut-refuses : (n p : ℕ) → (n ≡ 12) ⊎ ((n ≡ 13) ⊎ (n ≡ 15)) → cutting s .ending ≡ refused n p → Refuses (reading s codebook thresholds index report) index report n p
-  cut-refuses n p h e = record {
+  pub cut-refuses : (n p : ℕ) → cutting s .ending ≡ refused n p → Refuses (reading s codebook thresholds index report) index report n p
+  cut-refuses n p e = record {
     refusal = cutRefusal n p;
     is-refused = refused-keeps s codebook thresholds index report (cutRefusal n p)
         (cutting-decides ∙ ap (endVerdict s codebook thresholds (length index) (length report) (cutting s .places)) e);
-    number-is = number;
+    number-is = number-of n p (subst (Ended s) e (sound s .close) .1);
     place-is = place-of n p;
   }
-    where
-      number : numberOf (cutRefusal n p) ≡ n
-      number = ⊎-elim (λ x. ap (λ (k : ℕ). numberOf (cutRefusal k p)) x ∙ numbers p .0 ∙ sym x)
-          (⊎-elim (λ x. ap (λ (k : ℕ). numberOf (cutRefusal k p)) x ∙ numbers p .1 ∙ sym x) (λ x. ap (λ (k : ℕ). numberOf (cutRefusal k p)) x ∙ numbers p .2 ∙ sym x)) h
 
   -- and chunks without a multiframe are 14, at the number of octets
   pub none-refuses : cutting s ≡ record { places = []; ending = whole } → Refuses (reading s codebook thresholds index report) index report 14 (length s)

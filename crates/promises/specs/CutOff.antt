@@ -1,10 +1,10 @@
--- A CUT-OFF UTTERANCE TELLS. The first k of its m multiframes alone are read with `end` 0, and a cut inside a multiframe is refusal 13. So a reading with
--- `end` 1 is of no undamaged image that was cut off anywhere.
+-- A CUT-OFF UTTERANCE TELLS. The first k of its m multiframes alone are read with `end` 0, and a cut inside a multiframe is refusal 13: a reading with `end` 1
+-- is of no image that was cut off anywhere and is otherwise whole. With damage besides, `end` tells if the last pair that came has note 0; Hidden shows why.
 -- Assumes nothing.
 use mathlib.Core.Path.{_≡_, refl, sym, ap, ap₂, _∙_, subst}
 use mathlib.Core.Bool.{Bool, true, false, not}
 use mathlib.Core.List.{List, [], _∷_, _++_}
-use mathlib.Core.Logic.{inl, inr}
+use mathlib.Core.Logic.{inr}
 use Prim.Native.Nat.{ℕ, zero, suc, _+_, _-_, _*_, _/_, _%_, _≤_, _<_}
 use native.Mathlib.Nat.{mul-zero, mul-suc}
 use native.Mathlib.Decide.{ℕ-discrete, decLt}
@@ -72,7 +72,7 @@ none-bad : (l : List ℕ) → ((i : ℕ) → i < length l → getD l i 0 ≡ 0) 
 none-bad [] h = refl
 none-bad (x ∷ l) h = rw (eq-eqb x 0 (h 0 (omega arith))) (none-bad l (λ i k. h (suc i) (omega arith)))
 
--- ---- THE FIRST k MULTIFRAMES ALONE
+-- ---- THE FIRST k MULTIFRAMES ALONE, fewer than all
 -- the success answer: the settings sent, k, all of its frames speech, no bad pair, and no end
 abbrev pub heard : Utterance → ℕ → Summary
 heard u k = record { rate = u .rate; kind = u .kind; multiframes = k; speech = multiframeFrames * k; bad = 0; end = 0 }
@@ -205,7 +205,7 @@ pub cut-off-reads : (u : Utterance) (k : ℕ) → 0 < k → k < multiframesOf u 
     ≡ outcome (Read (heard u k)) (over index 0 (indexOctets * k) (take (indexOctets * k) (u .indices))) (over report 0 (reportOctets * k) (replicate (reportOctets * k) 0))
 cut-off-reads u k some less codebook thresholds index report lent = reads u k some less codebook thresholds index report lent
 
--- and whatever the tables and the buffers, if they are read, that is the answer
+-- and whatever the tables and the buffers: if they are read, that is the answer
 pub cut-off-answer : (u : Utterance) (k : ℕ) → k < multiframesOf u → (codebook thresholds : List ℤ) (index report : List ℕ) (given : Summary)
     → reading (take (multiframeOctets * k) (imageOf u)) codebook thresholds index report .answer ≡ Read given → given ≡ heard u k
 cut-off-answer u k less codebook thresholds index report given e =
@@ -216,9 +216,6 @@ cut-off-answer u k less codebook thresholds index report given e =
       | no none ↦ absurd (a .some (rows ∙ omega arith))
     ]
   where
-    s : List ℕ
-    s = take (multiframeOctets * k) (imageOf u)
-
     a : Accepted (take (multiframeOctets * k) (imageOf u)) codebook thresholds (length index) (length report) (A.was-read (take (multiframeOctets * k) (imageOf u)) codebook thresholds index report [] given e .common)
     a = A.was-read (take (multiframeOctets * k) (imageOf u)) codebook thresholds index report [] given e .reader-accepts
 
@@ -233,7 +230,7 @@ cut-off-answer u k less codebook thresholds index report given e =
       report-room = subst (λ (n : ℕ). reportOctets * n ≤ length report) rows (a .fitting .roomy .report-room);
     }
 
--- A CUT-OFF UTTERANCE TELLS: the first k multiframes, fewer than all, alone: if they are read, end is 0
+-- A CUT-OFF UTTERANCE TELLS: if they are read, end is 0
 pub cut-off-told : (u : Utterance) (k : ℕ) → k < multiframesOf u → (codebook thresholds : List ℤ) (index report : List ℕ) (given : Summary)
     → reading (take (multiframeOctets * k) (imageOf u)) codebook thresholds index report .answer ≡ Read given → given .end ≡ 0
 cut-off-told u k less codebook thresholds index report given e = ap (λ (g : Summary). g .end) (cut-off-answer u k less codebook thresholds index report given e)
@@ -247,7 +244,7 @@ whole-ends u codebook thresholds index report lent =
     (ap (λ (l : List ℕ). reading l codebook thresholds index report .answer) e ∙ ap (λ (o : Outcome). o .answer) (reads-image u codebook thresholds index report lent), refl)
 
 -- ---- A CUT INSIDE A MULTIFRAME IS REFUSAL 13, at the place of that multiframe
--- fewer octets than a multiframe's, as many as they are
+-- a sync, or its first octet alone, with too few octets
 cut-sync : (n a b m : ℕ) → 0 < n → n < multiframeOctets → m < mostMultiframes → a ≡ syncFirst → (2 ≤ n → b ≡ syncSecond) → pieceBy n a b m ≡ Bad 13
 unfolding pieceBy syncMet
 cut-sync n a b m some less few ea eb =
@@ -257,19 +254,16 @@ cut-sync n a b m some less few ea eb =
           rw (ea, eb (omega arith), ne-eqb n 0 (λ e. omega arith), ne-eqb n 1 x, ne-eqb m mostMultiframes (λ e. omega arith), lt-ltb n multiframeOctets less)
     ]
 
--- of any image, damaged or not: the first k multiframes and j octets of the next
+-- the first k multiframes and j octets of the next, of an image with any damage that demand 3 counts
 pub cut-inside-damaged : (u : Utterance) (s : List ℕ) → Damage (multiframesOf u) (imageOf u) s → (k j : ℕ) → k < multiframesOf u → 0 < j → j < multiframeOctets
     → (codebook thresholds : List ℤ) (index report : List ℕ) → Tables codebook thresholds
     → Refuses (reading (take (multiframeOctets * k + j) s) codebook thresholds index report) index report 13 (multiframeOctets * k)
 cut-inside-damaged u s d k j less some short codebook thresholds index report tables =
     subst (Refuses (reading (take (144 * k + j) s) codebook thresholds index report) index report 13) place
-    (cut-refuses (take (144 * k + j) s) codebook thresholds index report tables 13 (length (octetsOf (c .chunks))) (inr (inl refl))
+    (cut-refuses (take (144 * k + j) s) codebook thresholds index report tables 13 (length (octetsOf (c .chunks)))
     (ap (λ (l : List ℕ). cutting l .ending) (take-add (144 * k) j s ∙ ap (λ (l : List ℕ). l ++ r) (sym (c .octets)))
     ∙ refused-behind (c .chunks) r 13 (c .proper) (omega (arith, count, F.few u s d k (omega arith))) bad))
   where
-    first : List ℕ
-    first = take (multiframeOctets * k) s
-
     r : List ℕ
     r = take j (drop (multiframeOctets * k) s)
 
@@ -294,6 +288,7 @@ cut-inside-damaged u s d k j less some short codebook thresholds index report ta
         cut-sync (length r) (getD r 0 0) (getD r 1 0) (multiframeCount (c .chunks)) (omega (arith, size)) (omega (arith, size)) (omega (arith, count, F.few u s d k (omega arith)))
         (octet 0 some (omega arith)) (λ h. octet 1 (omega (arith, size)) (omega arith))
 
+-- and of the image as it was written
 pub cut-inside : (u : Utterance) (k j : ℕ) → k < multiframesOf u → 0 < j → j < multiframeOctets → (codebook thresholds : List ℤ) (index report : List ℕ) → Tables codebook thresholds
     → Refuses (reading (take (multiframeOctets * k + j) (imageOf u)) codebook thresholds index report) index report 13 (multiframeOctets * k)
 cut-inside u = cut-inside-damaged u (imageOf u) (unharmed u)
@@ -329,7 +324,7 @@ cut-anywhere u n short codebook thresholds index report given e =
         let a = A.was-read (take n (imageOf u)) codebook thresholds index report [] given e .reader-accepts in
         record { codebook-size = a .codebook-size; thresholds-size = a .thresholds-size }
 
--- ---- a damaged image, whose last pair that came has note 0
+-- ---- WITH DAMAGE BESIDES, THE LAST PAIR'S NOTE DECIDES: if the last pair that came has note 0, and they are read, end is 0
 module _ (u : Utterance) (s : List ℕ) (d : Damage (multiframesOf u) (imageOf u) s) (k : ℕ) (less : k < multiframesOf u) (codebook thresholds : List ℤ) (index report : List ℕ)
     (given : Summary) (e : reading (take (multiframeOctets * k) s) codebook thresholds index report .answer ≡ Read given)
     (note : pairNoteIn (reading (take (multiframeOctets * k) s) codebook thresholds index report .report) (multiframePairs * k - 1) ≡ 0) where

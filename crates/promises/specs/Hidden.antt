@@ -1,5 +1,6 @@
--- A DAMAGED LAST PAIR CAN HIDE THE CUT, so the premise of `cut-off-told-damaged` on the last pair's note is needed. Of 24 frames whose frame 22 is zero, pair 12 is
--- damaged in the first multiframe, and the second never came: frames 23 and 24 take the place of frame 22, and the reading ends with 1. The note of pair 12 tells.
+-- A DAMAGED LAST PAIR CAN HIDE A CUT: why `cut-off-told-damaged` asks for note 0 of the last pair that came. Of 24 frames, all ones but frame 22, which is zero, the
+-- twelfth pair is damaged in the first multiframe, and the second never came. Frames 23 and 24 are replaced by frame 22, so the reading ends with 1. The pair's note
+-- tells. Frames and pairs count from 1 here and from 0 below.
 -- Assumes nothing.
 use mathlib.Core.Path.{_≡_, sym, ap, _∙_}
 use mathlib.Core.Bool.{Bool, true, false, not}
@@ -31,6 +32,7 @@ use Rattle.promises.specs.First as F
 use Rattle.promises.specs.Said.{gap24, gap, zero-22}
 use Rattle.promises.specs.Hit.{hitImage, hits, is-hit, not-hit, clean-header}
 
+-- the damaged image, and what came of it
 abbrev pub hitGap : List ℕ
 hitGap = hitImage gap24 11
 
@@ -62,7 +64,7 @@ gap-passes : (q : ℕ) → q < 11 → pairFails gapCame (rowOf 1) q ≡ false
 unfolding pairFails
 gap-passes q h = ap (λ (p : List Bool). not (right dataBits p)) (gap-packet q (omega arith) ∙ gap-sent q h) ∙ ap not (packetOf-good gap q)
 
--- pair 12 has note 1, and the others have 0
+-- the last pair has note 1, and the others have 0
 gap-one : getD gapNotes 11 0 ≡ 1
 gap-one = F.failed-note gapCame (rowOf 1) zeroBook zeroThresholds 11 (omega arith) gap-fails
 
@@ -87,7 +89,7 @@ gap-run = record {
   stop = inl (sym gap-size);
 }
 
--- so its last frame is frame 22
+-- so its last frame is the zero one
 gap-last : zeroFrame (indexPart gapCame (rowOf 1) gapNotes) 23 ≡ true
 unfolding zeroFrame
 gap-last =
@@ -97,6 +99,7 @@ gap-last =
     ∙ ap (λ (i : ℕ). part (frameIndices * i) frameIndices all) (at-the-end gapNotes 11 12 gap-run 23 (omega arith) (sym gap-size) (omega arith) (omega arith))
     ∙ F.frame-first gap24 hitGap (hits gap24 11) 1 (omega arith) 21 (omega arith) (gap-sent 10 (omega arith)) ∙ zero-22)
 
+-- such damage as demand 3 counts, read, with end 1 and the last pair named
 pub record Hidden : Type 0 where
   pub damage : Damage 2 (imageOf gap24) hitGap
   pub given : Summary

@@ -2,130 +2,30 @@
 -- and both buffers, is that of the same multiframes without them. It needs a multiframe, and at most 255: a refusal's place counts octets.
 -- Assumes nothing.
 use mathlib.Core.Path.{_≡_, refl, sym, ap, ap₂, _∙_, subst}
-use mathlib.Core.Bool.{Bool, not}
 use mathlib.Core.List.{List, [], _∷_, _++_, append-nil, append-assoc}
-use mathlib.Core.Logic.{inl, inr}
-use Prim.Native.Nat.{ℕ, zero, suc, _+_, _*_, _/_, _%_, _≤_, _<_}
+use Prim.Native.Nat.{ℕ, zero, suc, _+_, _-_, _*_, _≤_, _<_}
 use native.Mathlib.Omega.{arith}
-use lib.Dec.{eqb}
 use lib.IntN.{ℤ}
-use lib.ListN.{length, take, drop, getD, replicate, length-append, take-append-drop}
+use lib.ListN.{length, take, drop, getD, replicate, length-append, length-drop, take-append-drop}
 use lib.Seq.{take-at, drop-length, drop-drop, getD-take}
-use borrow.Author.Tests.{ne-eqb}
-use Rattle.lists.specs.Tests.{when}
-use Rattle.lists.specs.Parts.{part, over, part-right, length-part}
-use Rattle.lists.specs.Rows.{each, joined, same-each, same-joined}
-use Rattle.layout.specs.Layout.{widths, frameIndices, dataBits, multiframePairs, multiframeOctets, syncOctets, headerOctets, streamOctets, mostMultiframes, indexOctets, reportOctets, codebookNumbers, thresholdNumbers, firstPair}
-use Rattle.bits.specs.Bits.{value, bits}
-use Rattle.crc.specs.Crc.{right}
-use Rattle.packet.specs.Packet.{apart}
-use Rattle.consistency.specs.Consistency.{inconsistent}
+use Rattle.lists.specs.Parts.{part, part-right, length-part}
+use Rattle.layout.specs.Layout.{multiframeOctets, syncOctets, headerOctets, streamOctets, mostMultiframes}
 use Rattle.cutting.specs.declared.Piece.the-variants.{Bad}
 use Rattle.cutting.specs.Cutting.{syncFirst, syncSecond, inverseFirst, inverseSecond, pieceOf, Cutting, whole, cutting}
-use Rattle.cutting.specs.Laws.{one-too-many, lone-sync, Chunk, multiframe, inverse, octetsOf, placesOf, Proper, cut-chunks, places-placed}
-use Rattle.header.specs.Reading as H
-use Rattle.header.specs.Message.{rateOf, typeOf}
-use Rattle.header.specs.declared.Header.{Header}
-use Rattle.header.specs.declared.Header.the-variants.{Lost}
-use Rattle.settling.specs.Settling.{readings, settling, headerNote, headerWord}
-use Rattle.pairs.specs.Pairs.{streamAt, packetAt, pairCount, pairFails, framesOf, allFrames, pairOdd, pairNotes}
-use Rattle.judging.specs.Judging.{notes, badPairs}
-use Rattle.replacing.specs.Replacing.{replaced}
-use Rattle.replacing.specs.Speech.{speechOf, endOf}
-use Rattle.reader.specs.Reading.{placeOf, reportPart, settledVerdict, wholeVerdict, verdict, finished, Outcome, outcome, reading}
+use Rattle.cutting.specs.Laws.{one-too-many, lone-sync, every-length, Chunk, multiframe, inverse, octetsOf, placesOf, Proper, cut-chunks, places-placed}
+use Rattle.reader.specs.Reading.{placeOf, Outcome, reading}
 use Rattle.reader.specs.declared.Summary.{Summary}
-use Rattle.reader.specs.declared.Verdict.{Verdict}
-use Rattle.reader.specs.declared.Verdict.the-variants.{Refuse, Accept}
 use Rattle.reader.specs.declared.Answer.the-variants.{Read, Refused}
-use Rattle.reader.specs.declared.Refusal.the-variants.{WrongTables}
 use Rattle.writer.specs.Laws.{few-multiframes, length-image}
-use Rattle.writer.specs.Made.{syncIn, part-within}
+use Rattle.writer.specs.Made.{syncIn}
 use Rattle.writer.specs.Image.{image-sync, Utterance, multiframesOf, imageOf, is-accepted}
 use Rattle.demands.specs.Damage.{Damage}
+use Rattle.demands.specs.Whole.{rowOf, cut-is}
 use Rattle.demands.specs.Met.{zeroBook, zeroThresholds, indexFor, reportFor, hurtImage, hurts, says24, two-multiframes, names-says24}
 use Rattle.demands.specs.NamesTheDamage as N
+use Rattle.promises.specs.Same.{same-read}
+use Rattle.promises.specs.First as F
 use Rattle.promises.specs.Chunks.{multiframesIn, multiframeCount, inverseCount, places-count, chunk-octets, refused-behind, chunked, Refuses, Tables, cut-refuses, none-refuses}
-
--- ---- what is read of octets o at places p depends on the multiframes that stand there, and not on where they stand
-module _ (o₁ p₁ o₂ p₂ : List ℕ) (count : length p₁ ≡ length p₂)
-    (same : (k : ℕ) → k < length p₁ → part (getD p₁ k 0) multiframeOctets o₁ ≡ part (getD p₂ k 0) multiframeOctets o₂)
-    (room₁ : (k : ℕ) → k < length p₁ → getD p₁ k 0 + multiframeOctets ≤ length o₁) (room₂ : (k : ℕ) → k < length p₂ → getD p₂ k 0 + multiframeOctets ≤ length o₂) where
-  piece : (k a v : ℕ) → k < length p₁ → a + v ≤ multiframeOctets → part (getD p₁ k 0 + a) v o₁ ≡ part (getD p₂ k 0 + a) v o₂
-  piece k a v h l =
-      part-within o₁ (getD p₁ k 0) multiframeOctets a v (room₁ k h) l ∙ ap (part a v) (same k h)
-      ∙ sym (part-within o₂ (getD p₂ k 0) multiframeOctets a v (room₂ k (omega arith)) l)
-
-  headers-same : readings o₁ p₁ ≡ readings o₂ p₂
-  unfolding readings
-  headers-same =
-      same-each (λ k. H.reading (headerWord o₁ (getD p₁ k 0))) (λ k. H.reading (headerWord o₂ (getD p₂ k 0))) (length p₁)
-      (λ k h. ap (λ (l : List ℕ). H.reading (value (bits l))) (piece k 2 4 h (omega arith)))
-      ∙ ap (each (λ k. H.reading (headerWord o₂ (getD p₂ k 0)))) count
-
-  stream-same : (k : ℕ) → k < length p₁ → streamAt o₁ p₁ k ≡ streamAt o₂ p₂ k
-  stream-same k h =
-      let a : getD p₁ k 0 + 2 + 4 ≡ getD p₁ k 0 + 6 = omega arith in
-      let b : getD p₂ k 0 + 6 ≡ getD p₂ k 0 + 2 + 4 = omega arith in
-      ap (λ (i : ℕ). part i 138 o₁) a ∙ piece k 6 138 h (omega arith) ∙ ap (λ (i : ℕ). part i 138 o₂) b
-
-  packet-same : (q : ℕ) → q < multiframePairs * length p₁ → packetAt o₁ p₁ q ≡ packetAt o₂ p₂ q
-  packet-same q h = ap (λ (l : List ℕ). part (92 * (q % 12)) 92 (bits l)) (stream-same (q / 12) (omega arith))
-
-  pairs-count : pairCount p₁ ≡ pairCount p₂
-  pairs-count = ap (λ (n : ℕ). multiframePairs * n) count
-
-  frames-same : allFrames o₁ p₁ ≡ allFrames o₂ p₂
-  unfolding allFrames framesOf
-  frames-same =
-      same-joined (framesOf o₁ p₁) (framesOf o₂ p₂) (pairCount p₁) (λ q h. ap (apart widths) (packet-same q h)) ∙ ap (joined (framesOf o₂ p₂)) pairs-count
-
-  module _ (codebook thresholds : List ℤ) where
-    notes-same : pairNotes o₁ p₁ codebook thresholds ≡ pairNotes o₂ p₂ codebook thresholds
-    unfolding pairNotes pairFails pairOdd framesOf
-    notes-same =
-        ap₂ notes
-        (same-each (pairFails o₁ p₁) (pairFails o₂ p₂) (pairCount p₁) (λ q h. ap (λ (l : List Bool). not (right dataBits l)) (packet-same q h)) ∙ ap (each (pairFails o₂ p₂)) pairs-count)
-        (same-each (pairOdd o₁ p₁ codebook thresholds) (pairOdd o₂ p₂ codebook thresholds) (pairCount p₁)
-        (λ q h. ap (λ (l : List Bool). inconsistent codebook thresholds (take frameIndices (apart widths l)) (drop frameIndices (apart widths l))) (packet-same q h))
-        ∙ ap (each (pairOdd o₂ p₂ codebook thresholds)) pairs-count)
-
-    module _ (index report : List ℕ) where
-      -- what success gives depends on the headers, the frames, the notes and the count alone
-      given : ℕ → List Header → List ℕ → List ℕ → ℕ → Outcome
-      given m hs fs ns c = outcome
-          (Read (record {
-            rate = rateOf c;
-            kind = typeOf c;
-            multiframes = m;
-            speech = speechOf m (replaced ns fs);
-            bad = badPairs ns;
-            end = endOf m (replaced ns fs);
-          }))
-          (over index 0 (indexOctets * m) (replaced ns fs))
-          (over report 0 (reportOctets * m) (joined (λ k. headerNote c k (getD hs k Lost) ∷ part (firstPair k) multiframePairs ns) m))
-
-      finished-same : (v : Verdict) → finished o₁ codebook thresholds index report p₁ v ≡ finished o₂ codebook thresholds index report p₂ v
-      unfolding reportPart given
-      finished-same (Refuse r) = refl
-      finished-same (Accept c) =
-          ap₂ (λ (m : ℕ) (hs : List Header). given m hs (allFrames o₁ p₁) (pairNotes o₁ p₁ codebook thresholds) c) count headers-same
-          ∙ ap₂ (λ (fs ns : List ℕ). given (length p₂) (readings o₂ p₂) fs ns c) frames-same notes-same
-
-      verdict-same : 0 < length p₁ → wholeVerdict o₁ codebook thresholds (length index) (length report) p₁ ≡ wholeVerdict o₂ codebook thresholds (length index) (length report) p₂
-      unfolding wholeVerdict
-      verdict-same h =
-          rw (ne-eqb (length p₁) 0 (λ e. omega arith), ne-eqb (length p₂) 0 (λ e. omega arith))
-          (ap₂ (λ (m : ℕ) (ns : List ℕ). settledVerdict m (badPairs ns) (multiframePairs * m) (length index) (length report) (settling (readings o₁ p₁))) count notes-same
-          ∙ ap (λ (hs : List Header). settledVerdict (length p₂) (badPairs (pairNotes o₂ p₂ codebook thresholds)) (pairCount p₂) (length index) (length report) (settling hs)) headers-same)
-
-      -- OCTETS THAT HOLD THE SAME MULTIFRAMES ARE READ THE SAME
-      pub same-read : cutting o₁ ≡ record { places = p₁; ending = whole } → cutting o₂ ≡ record { places = p₂; ending = whole } → 0 < length p₁
-          → reading o₁ codebook thresholds index report ≡ reading o₂ codebook thresholds index report
-      unfolding reading verdict
-      same-read c₁ c₂ h =
-          rw (c₁, c₂)
-          (finished-same (when (eqb (length codebook) codebookNumbers) (when (eqb (length thresholds) thresholdNumbers) (wholeVerdict o₁ codebook thresholds (length index) (length report) p₁) (Refuse WrongTables)) (Refuse WrongTables))
-          ∙ ap (λ (v : Verdict). finished o₂ codebook thresholds index report p₂ (when (eqb (length codebook) codebookNumbers) (when (eqb (length thresholds) thresholdNumbers) v (Refuse WrongTables)) (Refuse WrongTables))) (verdict-same h))
 
 -- ---- chunks without their inverse syncs
 abbrev pub plain : List Chunk → List Chunk
@@ -224,6 +124,34 @@ one-inverse a b ca cb some few codebook thresholds index report =
     ∙ ap (λ (l : List Chunk). reading (octetsOf l) codebook thresholds index report) (plain-append cs (inverse ∷ ds) ∙ sym (plain-append cs ds))
     ∙ sym (inverses-change-nothing (cs ++ ds) (proper-append cs ds (x .proper) (y .proper)) (omega (arith, n)) (omega (arith, n)) codebook thresholds index report)
     ∙ ap (λ (s : List ℕ). reading s codebook thresholds index report) without
+
+-- so before any multiframe of an image of any accepted utterance, with any damage that demand 3 counts, and behind the last
+pub one-in-image : (u : Utterance) (s : List ℕ) → Damage (multiframesOf u) (imageOf u) s → (k : ℕ) → k ≤ multiframesOf u → (codebook thresholds : List ℤ) (index report : List ℕ)
+    → reading (take (multiframeOctets * k) s ++ (inverseFirst ∷ inverseSecond ∷ drop (multiframeOctets * k) s)) codebook thresholds index report
+    ≡ reading s codebook thresholds index report
+one-in-image u s d k within codebook thresholds index report =
+    one-inverse (take (144 * k) s) (drop (144 * k) s) (ap (λ (w : Cutting). w .ending) front) (ap (λ (w : Cutting). w .ending) back) (omega (arith, n)) (omega (arith, n, few))
+    codebook thresholds index report
+    ∙ ap (λ (l : List ℕ). reading l codebook thresholds index report) (take-append-drop (144 * k) s)
+  where
+    few : multiframesOf u ≤ mostMultiframes
+    few = F.few u s d k within
+
+    front : cutting (take (multiframeOctets * k) s) ≡ record { places = rowOf k; ending = whole }
+    front = F.cut-first u s d k within
+
+    syncs : (i : ℕ) → i < multiframesOf u - k → syncIn (drop (multiframeOctets * k) s) i ≡ syncFirst ∷ syncSecond ∷ []
+    syncs i h =
+        let e : 144 * k + 144 * i ≡ 144 * (k + i) = omega arith in
+        ap (take 2) (drop-drop (144 * i) (144 * k) s ∙ ap (λ (j : ℕ). drop j s) e) ∙ F.syncs u s d k within (k + i) (omega arith)
+
+    back : cutting (drop (multiframeOctets * k) s) ≡ record { places = rowOf (multiframesOf u - k); ending = whole }
+    back = cut-is (drop (144 * k) s) (multiframesOf u - k) (omega (arith, few)) (length-drop (144 * k) s ∙ omega (arith, F.size u s d k within)) syncs
+
+    n : found (take (multiframeOctets * k) s) + found (drop (multiframeOctets * k) s) ≡ multiframesOf u
+    n =
+        ap₂ _+_ (ap (λ (w : Cutting). length (w .places)) front ∙ every-length 0 k) (ap (λ (w : Cutting). length (w .places)) back ∙ every-length 0 (multiframesOf u - k))
+        ∙ omega arith
 
 -- ---- ANY NUMBER BEFORE, BETWEEN AND BEHIND the multiframes of an image: g k inverse syncs before multiframe k, and g m behind the last
 -- n inverse syncs
@@ -415,7 +343,7 @@ module _ (codebook thresholds : List ℤ) (index report : List ℕ) (tables : Ta
       let n : length (octetsOf cs) ≡ 36720 + 2 * inverseCount cs = chunk-octets cs ok ∙ omega arith in
       let bad : pieceOf (syncFirst ∷ syncSecond ∷ r) (multiframeCount cs) ≡ Bad 15 = rw all (one-too-many (length (syncFirst ∷ syncSecond ∷ r)) (omega arith)) in
       subst (Refuses (read s) index report 15) n
-      (cut-refuses s codebook thresholds index report tables 15 (length (octetsOf cs)) (inr (inr refl)) (refused-behind cs (syncFirst ∷ syncSecond ∷ r) 15 ok (omega arith) bad))
+      (cut-refuses s codebook thresholds index report tables 15 (length (octetsOf cs)) (refused-behind cs (syncFirst ∷ syncSecond ∷ r) 15 ok (omega arith) bad))
 
   -- of 255 multiframes and a sync, and of the same with one inverse sync in front
   pub place-36720 : (cs : List Chunk) (r : List ℕ) → Proper cs → multiframeCount cs ≡ mostMultiframes → inverseCount cs ≡ 0
@@ -439,7 +367,7 @@ module _ (codebook thresholds : List ℤ) (index report : List ℕ) (tables : Ta
   lone-moves cs ok few =
       let s = octetsOf cs ++ (syncFirst ∷ []) in
       subst (Refuses (read s) index report 13) (chunk-octets cs ok)
-      (cut-refuses s codebook thresholds index report tables 13 (length (octetsOf cs)) (inr (inl refl)) (refused-behind cs (syncFirst ∷ []) 13 ok few (lone-sync 0 (multiframeCount cs))))
+      (cut-refuses s codebook thresholds index report tables 13 (length (octetsOf cs)) (refused-behind cs (syncFirst ∷ []) 13 ok few (lone-sync 0 (multiframeCount cs))))
 
   pub not-cut : read (0x78 ∷ 0x4D ∷ 0x87 ∷ []) ≡ read (0x87 ∷ []) → ⊥
   not-cut = moved (read (0x78 ∷ 0x4D ∷ 0x87 ∷ [])) (read (0x87 ∷ [])) index report 13 2 0 (lone-moves (inverse ∷ []) tt (omega arith)) (lone-moves [] tt (omega arith)) (λ e. omega arith)

@@ -1,6 +1,7 @@
 pub mod Chunks
-pub mod Inverse
+pub mod Same
 pub mod First
+pub mod Inverse
 pub mod Said
 pub mod Hit
 pub mod CutOff

@@ -1,6 +1,6 @@
 -- PAIRS THAT THE CONSISTENCY RULE MAKES BAD (01, "Bad pairs"), where one pair is damaged: the inconsistent pair before it, and the inconsistent pairs behind
 -- it, one after the other, up to the first consistent one. The premises of `names-the-damage` are met with such pairs, of one multiframe and of two, and a
--- pair that is only undamaged is not enough for them. No threshold here is negative.
+-- pair that is only undamaged is not enough for them. The tables are not zero, and no threshold is negative.
 -- Assumes nothing.
 use mathlib.Core.Path.{_≡_, sym, ap, _∙_, subst}
 use mathlib.Core.List.{List}
@@ -111,22 +111,25 @@ module _ (u : Utterance) (s : List ℕ) (d : Damage (multiframesOf u) (imageOf u
         ∙ pair-note-is s row (pairNotes s row codebook thresholds) report (sentCommon u) (reportOctets * length row) (length-notes s row codebook thresholds) q
         (omega (arith, every-length 0 (multiframesOf u)))
 
--- ---- THE CHAIN, READ: if every pair is inconsistent and pair p, not one of the first two, is damaged, then all from the pair before it on are bad, and no other
+-- ---- THE CHAIN, READ: every pair is inconsistent, and pair p alone is damaged
 pub record Chain (u : Utterance) (p : ℕ) (codebook thresholds : List ℤ) (index report : List ℕ) : Type 0 where
+  pub alone : (q : ℕ) → q < pairsOf u → (q ≡ p → ⊥) → Touched (imageOf u) (hitImage u p) q → ⊥
   pub premises : N.Premises u (hitImage u p) codebook thresholds index report
   pub given : Summary
   pub is-read : reading (hitImage u p) codebook thresholds index report .answer ≡ Read given
-  -- the damaged pair
+  -- the note of the damaged pair is 1
   pub hit : pairNoteIn (reading (hitImage u p) codebook thresholds index report .report) p ≡ 1
-  -- the pair before it and each pair behind it are undamaged, and bad by the rule
+  -- that of the pair before it and of each pair behind it is 2: they are bad by the rule alone
   pub before : (q : ℕ) → suc q ≡ p → pairNoteIn (reading (hitImage u p) codebook thresholds index report .report) q ≡ 2
   pub behind : (q : ℕ) → p < q → q < pairsOf u → pairNoteIn (reading (hitImage u p) codebook thresholds index report .report) q ≡ 2
-  -- those before that are inconsistent too, and good
+  -- and that of every pair before those is 0: inconsistent too, and good
   pub earlier : (q : ℕ) → suc q < p → pairNoteIn (reading (hitImage u p) codebook thresholds index report .report) q ≡ 0
 
+-- if it is not one of the first two pairs, so that one is good
 pub chain : (u : Utterance) (p : ℕ) (codebook thresholds : List ℤ) (index report : List ℕ) → ((q : ℕ) → q < pairsOf u → Odd u (hitImage u p) codebook thresholds q)
     → 2 ≤ p → p < pairsOf u → Lent (multiframesOf u) codebook thresholds index report → Chain u p codebook thresholds index report
 chain u p codebook thresholds index report odd two inside lent = record {
+  alone = not-hit u p;
   premises = premises;
   given = named .given;
   is-read = named .succeeds;
@@ -154,15 +157,15 @@ chain u p codebook thresholds index report odd two inside lent = record {
         report-note u (hitImage u p) (hits u p) codebook thresholds index report premises q h
         ∙ ruled-note u (hitImage u p) (hits u p) codebook thresholds q h (not-hit u p q h n) r
 
--- of one multiframe, with damage
+-- it is so of one multiframe
 pub chain-23 : Chain rises23 5 stairBook fours (indexFor 1) (reportFor 1)
 chain-23 = chain rises23 5 stairBook fours (indexFor 1) (reportFor 1) odd-23 (omega arith) (omega arith) (lent-stairs 1)
 
--- of two, where the chain runs on from the first multiframe into the second
+-- of two, where the chain runs on from the first into the second
 pub chain-47 : Chain rises47 10 stairBook fours (indexFor 2) (reportFor 2)
 chain-47 = chain rises47 10 stairBook fours (indexFor 2) (reportFor 2) odd-47 (omega arith) (omega arith) (lent-stairs 2)
 
--- and one that stops: of 7 frames the first pair is damaged, the three behind it are bad by the rule, and the padding behind them is good
+-- and a chain that stops: of 7 frames the first pair is damaged, the three behind it are bad by the rule, and the padding behind them is good
 pub record Stops : Type 0 where
   pub premises : N.Premises rises7 (hitImage rises7 0) stairBook fours (indexFor 1) (reportFor 1)
   pub hit : Touched (imageOf rises7) (hitImage rises7 0) 0
@@ -194,5 +197,6 @@ undamaged-not-enough u codebook thresholds index report odd lent = (
     every zero h = inl (is-hit u 0 h)
     every (suc q) h = inr (ruled-behind u 0 (omega arith) codebook thresholds (suc q) (omega arith) (λ i a b. odd i (omega arith)))
 
+-- it is so of one multiframe
 pub all-but-one : reading (hitImage rises23 0) stairBook fours (indexFor 1) (reportFor 1) ≡ outcome (Refused AllBad) (indexFor 1) (reportFor 1)
 all-but-one = undamaged-not-enough rises23 stairBook fours (indexFor 1) (reportFor 1) odd-23 (lent-stairs 1) .1

@@ -1,4 +1,4 @@
--- Literal utterances on which the promises are tried.
+-- Literal utterances, and tables, on which the promises are tried. Frames and pairs count from 0 in the laws, and from 1 in the comments.
 -- Assumes nothing.
 use mathlib.Core.Path.{_≡_, refl, sym}
 use mathlib.Core.Bool.{Bool, true, false}
@@ -16,7 +16,7 @@ use Rattle.packet.specs.Packet.{row, frameAt}
 use Rattle.consistency.specs.Consistency.{flagged, flags, inconsistent}
 use Rattle.writer.specs.Writing.{verdict, roomAnswer, firstFrom, needed}
 use Rattle.writer.specs.Made.{Small}
-use Rattle.writer.specs.Image.{Utterance}
+use Rattle.writer.specs.Image.{Utterance, multiframesOf}
 use Rattle.writer.specs.declared.Answer.the-variants.{Written}
 use Rattle.demands.specs.Whole.{Lent}
 use Rattle.demands.specs.Met.{indexFor, reportFor}
@@ -26,6 +26,7 @@ abbrev pub octetsOnly : List ℕ → Bool
 octetsOnly [] = true
 octetsOnly (x ∷ l) = when (ltb x 256) (octetsOnly l) false
 
+-- then each is small
 pub small-octets : (l : List ℕ) → octetsOnly l ≡ true → Small l
 small-octets [] e i = lit< tt
 small-octets (x ∷ l) e i = by (ltb x 256) refl e i (λ z j. small-octets l z j)
@@ -85,6 +86,9 @@ rises47 = record { rate = 0; kind = 0; indices = rising 23; small = small-octets
 abbrev pub rises7 : Utterance
 rises7 = record { rate = 0; kind = 0; indices = rising 3; small = small-octets (rising 3) refl; written = written-7 }
 
+pub lengths : (multiframesOf rises23 ≡ 1) × (multiframesOf rises47 ≡ 2) × (multiframesOf rises7 ≡ 1)
+lengths = (refl, refl, refl)
+
 -- ---- tables under which a pair of these frames is inconsistent: entry 1 of each codebook is 0, every other is 5, and all thresholds are 4. A rise of 5
 -- from the first frame to the second is flagged, a fall and no change are not
 abbrev pub stair : ℕ → List ℤ
@@ -120,7 +124,7 @@ pub odd-47 : (q : ℕ) → q < 24 → inconsistent stairBook fours (frameAt (ris
 unfolding inconsistent flags flagged row
 odd-47 q h = is-true (oddPair (rising 23) q) (all-holds (oddPair (rising 23)) 24 tt q h)
 
--- of 7 frames the first four pairs, and no other
+-- of 7 frames the first four pairs, and not the fifth, which is padding
 pub odd-7 : (q : ℕ) → q < 4 → inconsistent stairBook fours (frameAt (rising 3) (firstFrame q)) (frameAt (rising 3) (secondFrame q)) ≡ true
 unfolding inconsistent flags flagged row
 odd-7 q h = is-true (oddPair (rising 3) q) (all-holds (oddPair (rising 3)) 4 tt q h)
