@@ -21,7 +21,7 @@ use Rattle.writer.specs.Made.{syncIn}
 use Rattle.writer.specs.Image.{image-sync, Utterance, multiframesOf, imageOf, is-accepted}
 use Rattle.demands.specs.Damage.{Damage}
 use Rattle.demands.specs.Whole.{rowOf, cut-is}
-use Rattle.demands.specs.Met.{zeroBook, zeroThresholds, indexFor, reportFor, hurtImage, hurts, says24, two-multiframes, names-says24}
+use Rattle.demands.specs.Met.{zeroBook, zeroThresholds, indexFor, reportFor, lent-zeros, hurtImage, hurts, says24, two-multiframes, names-says24}
 use Rattle.demands.specs.NamesTheDamage as N
 use Rattle.promises.specs.Same.{same-read}
 use Rattle.promises.specs.First as F
@@ -38,6 +38,7 @@ same-multiframes [] = refl
 same-multiframes (multiframe f ∷ cs) = ap (λ (l : List (List ℕ)). f ∷ l) (same-multiframes cs)
 same-multiframes (inverse ∷ cs) = same-multiframes cs
 
+-- they are as whole as they were
 pub plain-proper : (cs : List Chunk) → Proper cs → Proper (plain cs)
 plain-proper [] ok = ok
 plain-proper (multiframe f ∷ cs) ok = (ok .0, ok .1, ok .2, plain-proper cs (ok .3))
@@ -80,7 +81,7 @@ inverses-change-nothing cs ok some few codebook thresholds index report =
     c₂ : cutting (octetsOf (plain cs)) ≡ record { places = placesOf 0 (plain cs); ending = whole }
     c₂ = cut-chunks (plain cs) (plain-proper cs ok) (omega (arith, count, places-count cs 0))
 
--- ---- ONE INVERSE SYNC, over octets alone: between any octets a and b, each of which the reader cuts to its end
+-- ---- ONE INVERSE SYNC, over octets alone
 -- chunks behind chunks
 octets-append : (cs ds : List Chunk) → octetsOf (cs ++ ds) ≡ octetsOf cs ++ octetsOf ds
 octets-append [] ds = refl
@@ -106,6 +107,7 @@ count-append (inverse ∷ cs) ds = count-append cs ds
 abbrev pub found : List ℕ → ℕ
 found s = length (cutting s .places)
 
+-- it changes nothing between any octets a and b, each of which is cut to its end
 pub one-inverse : (a b : List ℕ) → cutting a .ending ≡ whole → cutting b .ending ≡ whole → 0 < found a + found b → found a + found b ≤ mostMultiframes
     → (codebook thresholds : List ℤ) (index report : List ℕ)
     → reading (a ++ (inverseFirst ∷ inverseSecond ∷ b)) codebook thresholds index report ≡ reading (a ++ b) codebook thresholds index report
@@ -243,7 +245,7 @@ module _ (g : ℕ → ℕ) (s : List ℕ) where
         quiet-proper (g k) (multiframe (part (144 * k) 144 s) ∷ spacedChunks g s (suc k) n)
         (length-part s (144 * k) 144 (omega arith), in-sync k 0 h (omega arith), in-sync k 1 h (omega arith), spaced-proper (suc k) n (omega arith))
 
--- octets of m multiframes, each with its sync
+-- they change nothing of the reading of m multiframes, each with its sync
 pub spaced-same : (s : List ℕ) (m : ℕ) → 0 < m → m ≤ mostMultiframes → length s ≡ multiframeOctets * m
     → ((k : ℕ) → k < m → syncIn s k ≡ syncFirst ∷ syncSecond ∷ []) → (g : ℕ → ℕ) (codebook thresholds : List ℤ) (index report : List ℕ)
     → reading (spaced g s m) codebook thresholds index report ≡ reading s codebook thresholds index report
@@ -254,7 +256,7 @@ spaced-same s m some few size syncs g codebook thresholds index report =
     ∙ inverses-change-nothing (spacedChunks g s 0 m) (spaced-proper g s m size syncs 0 m z) (omega (arith, n)) (omega (arith, n)) codebook thresholds index report
     ∙ ap (λ (l : List ℕ). reading l codebook thresholds index report) (spaced-plain g s 0 m (omega arith))
 
--- an image of any accepted utterance, with any damage that demand 3 counts
+-- nor of an image of any accepted utterance, with any damage that demand 3 counts
 pub spaced-image : (u : Utterance) (s : List ℕ) → Damage (multiframesOf u) (imageOf u) s → (g : ℕ → ℕ) (codebook thresholds : List ℤ) (index report : List ℕ)
     → reading (spaced g s (multiframesOf u)) codebook thresholds index report ≡ reading s codebook thresholds index report
 spaced-image u s d =
@@ -326,6 +328,7 @@ module _ (codebook thresholds : List ℤ) (index report : List ℕ) (tables : Ta
       ∙ ap (λ (l : List ℕ). record { places = l; ending = whole }) (quiet-places n 0) in
       subst (Refuses (read (inverses n)) index report 14) (inverses-length n) (none-refuses (inverses n) codebook thresholds index report tables c)
 
+  -- one inverse sync is refused at place 2, nothing at place 0, and these outcomes differ
   pub one-sync-14 : Refuses (read (0x78 ∷ 0x4D ∷ [])) index report 14 2
   one-sync-14 = none-moves 1
 
@@ -345,7 +348,7 @@ module _ (codebook thresholds : List ℤ) (index report : List ℕ) (tables : Ta
       subst (Refuses (read s) index report 15) n
       (cut-refuses s codebook thresholds index report tables 15 (length (octetsOf cs)) (refused-behind cs (syncFirst ∷ syncSecond ∷ r) 15 ok (omega arith) bad))
 
-  -- of 255 multiframes and a sync, and of the same with one inverse sync in front
+  -- of 255 multiframes and a sync it is 36,720, with one inverse sync in front 36,722, and these outcomes differ
   pub place-36720 : (cs : List Chunk) (r : List ℕ) → Proper cs → multiframeCount cs ≡ mostMultiframes → inverseCount cs ≡ 0
       → Refuses (read (octetsOf cs ++ (syncFirst ∷ syncSecond ∷ r))) index report 15 36720
   place-36720 cs r ok all none = subst (Refuses (read (octetsOf cs ++ (syncFirst ∷ syncSecond ∷ r))) index report 15) (omega arith) (too-many cs r ok all)
@@ -369,6 +372,7 @@ module _ (codebook thresholds : List ℤ) (index report : List ℕ) (tables : Ta
       subst (Refuses (read s) index report 13) (chunk-octets cs ok)
       (cut-refuses s codebook thresholds index report tables 13 (length (octetsOf cs)) (refused-behind cs (syncFirst ∷ []) 13 ok few (lone-sync 0 (multiframeCount cs))))
 
+  -- 78 4D 87 is refused at place 2, and 87 at place 0
   pub not-cut : read (0x78 ∷ 0x4D ∷ 0x87 ∷ []) ≡ read (0x87 ∷ []) → ⊥
   not-cut = moved (read (0x78 ∷ 0x4D ∷ 0x87 ∷ [])) (read (0x87 ∷ [])) index report 13 2 0 (lone-moves (inverse ∷ []) tt (omega arith)) (lone-moves [] tt (omega arith)) (λ e. omega arith)
 
@@ -377,6 +381,7 @@ abbrev pub blanks : ℕ → List Chunk
 blanks zero = []
 blanks (suc n) = multiframe (syncFirst ∷ syncSecond ∷ replicate (headerOctets + streamOctets) 0) ∷ blanks n
 
+-- each is whole, and there are n of them and no inverse sync
 pub blanks-proper : (n : ℕ) → Proper (blanks n)
 blanks-proper zero = tt
 blanks-proper (suc n) = (refl, refl, refl, blanks-proper n)
@@ -384,3 +389,11 @@ blanks-proper (suc n) = (refl, refl, refl, blanks-proper n)
 pub blanks-count : (n : ℕ) → (multiframeCount (blanks n) ≡ n) × (inverseCount (blanks n) ≡ 0)
 blanks-count zero = (refl, refl)
 blanks-count (suc n) = (ap suc (blanks-count n .0), blanks-count n .1)
+
+-- so with 255 of them and a sync an inverse sync changes the outcome
+pub past-255 : (index report : List ℕ)
+    → reading (inverseFirst ∷ inverseSecond ∷ (octetsOf (blanks mostMultiframes) ++ (syncFirst ∷ syncSecond ∷ []))) zeroBook zeroThresholds index report
+    ≡ reading (octetsOf (blanks mostMultiframes) ++ (syncFirst ∷ syncSecond ∷ [])) zeroBook zeroThresholds index report → ⊥
+past-255 index report =
+    not-past-255 zeroBook zeroThresholds index report (record { codebook-size = lent-zeros 1 .codebook-size; thresholds-size = lent-zeros 1 .thresholds-size }) (blanks mostMultiframes) []
+    (blanks-proper mostMultiframes) (blanks-count mostMultiframes .0) (blanks-count mostMultiframes .1)
