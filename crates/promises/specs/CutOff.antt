@@ -259,8 +259,8 @@ pub cut-inside-damaged : (u : Utterance) (s : List ℕ) → Damage (multiframesO
     → (codebook thresholds : List ℤ) (index report : List ℕ) → Tables codebook thresholds
     → Refuses (reading (take (multiframeOctets * k + j) s) codebook thresholds index report) index report 13 (multiframeOctets * k)
 cut-inside-damaged u s d k j less some short codebook thresholds index report tables =
-    subst (Refuses (reading (take (144 * k + j) s) codebook thresholds index report) index report 13) place
-    (cut-refuses (take (144 * k + j) s) codebook thresholds index report tables 13 (length (octetsOf (c .chunks)))
+    subst (Refuses (reading (take (multiframeOctets * k + j) s) codebook thresholds index report) index report 13) place
+    (cut-refuses (take (multiframeOctets * k + j) s) codebook thresholds index report tables 13 (length (octetsOf (c .chunks)))
     (ap (λ (l : List ℕ). cutting l .ending) (take-add (144 * k) j s ∙ ap (λ (l : List ℕ). l ++ r) (sym (c .octets)))
     ∙ refused-behind (c .chunks) r 13 (c .proper) (omega (arith, count, F.few u s d k (omega arith))) bad))
   where

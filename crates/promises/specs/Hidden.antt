@@ -9,6 +9,7 @@ use mathlib.Core.Logic.{inl, inr}
 use Prim.Native.Nat.{ℕ, _*_, _<_}
 use native.Mathlib.Omega.{arith}
 use lib.ListN.{length, take, drop, getD}
+use Rattle.lists.specs.Tests.{when}
 use Rattle.lists.specs.Parts.{part, over}
 use Rattle.layout.specs.Layout.{frameIndices, dataBits, multiframeOctets, indexOctets, reportOctets}
 use Rattle.crc.specs.Crc.{right}
@@ -112,7 +113,7 @@ hidden-end = record {
   damage = hits gap24 11;
   given = summary gapCame (rowOf 1) gapNotes (sentCommon gap24);
   is-read = ap (λ (o : Outcome). o .answer) is;
-  ends = rw gap-last;
+  ends = ap (λ (t : Bool). when t 1 0) gap-last;
   noted = ap (λ (o : Outcome). pairNoteIn (o .report) 11) is
       ∙ pair-note-is gapCame (rowOf 1) gapNotes (reportFor 1) (sentCommon gap24) (reportOctets * length (rowOf 1)) gap-size 11 (omega arith) ∙ gap-one;
 }
