@@ -216,8 +216,11 @@ cut-off-answer u k less codebook thresholds index report given e =
       | no none ↦ absurd (a .some (rows ∙ omega arith))
     ]
   where
-    a : Accepted (take (multiframeOctets * k) (imageOf u)) codebook thresholds (length index) (length report) (A.was-read (take (multiframeOctets * k) (imageOf u)) codebook thresholds index report [] given e .common)
-    a = A.was-read (take (multiframeOctets * k) (imageOf u)) codebook thresholds index report [] given e .reader-accepts
+    w : A.WasRead (take (multiframeOctets * k) (imageOf u)) codebook thresholds index report [] given
+    w = A.was-read (take (multiframeOctets * k) (imageOf u)) codebook thresholds index report [] given e
+
+    a : Accepted (take (multiframeOctets * k) (imageOf u)) codebook thresholds (length index) (length report) (w .common)
+    a = w .reader-accepts
 
     rows : length (cutting (take (multiframeOctets * k) (imageOf u)) .places) ≡ k
     rows = ap (λ (w : Cutting). length (w .places)) (F.cut-first u (imageOf u) (unharmed u) k (omega arith)) ∙ every-length 0 k
@@ -305,7 +308,8 @@ cut-anywhere u n short codebook thresholds index report given e =
     elim (ℕ-discrete (n % 144) 0) [
       | yes z ↦
           let w : n ≡ 144 * (n / 144) = omega arith in
-          let g = cut-off-answer u (n / 144) less codebook thresholds index report given (ap (λ (i : ℕ). reading (take i (imageOf u)) codebook thresholds index report .answer) (sym w) ∙ e) in
+          let g = cut-off-answer u (n / 144) less codebook thresholds index report given
+          (ap (λ (i : ℕ). reading (take i (imageOf u)) codebook thresholds index report .answer) (sym w) ∙ e) in
           (w ∙ ap (λ (g : Summary). 144 * g .multiframes) (sym g), ap (λ (g : Summary). g .end) g)
       | no z ↦
           let w : 144 * (n / 144) + n % 144 ≡ n = omega arith in

@@ -104,7 +104,12 @@ module _ (o₁ p₁ o₂ p₂ : List ℕ) (count : length p₁ ≡ length p₂)
       verdict-same h =
           rw (ne-eqb (length p₁) 0 (λ e. omega arith), ne-eqb (length p₂) 0 (λ e. omega arith))
           (ap₂ (λ (m : ℕ) (ns : List ℕ). settledVerdict m (badPairs ns) (multiframePairs * m) (length index) (length report) (settling (readings o₁ p₁))) count notes-same
-          ∙ ap (λ (hs : List Header). settledVerdict (length p₂) (badPairs (pairNotes o₂ p₂ codebook thresholds)) (pairCount p₂) (length index) (length report) (settling hs)) headers-same)
+          ∙ ap (λ (hs : List Header). settledVerdict (length p₂) (badPairs (pairNotes o₂ p₂ codebook thresholds)) (pairCount p₂) (length index) (length report) (settling hs))
+          headers-same)
+
+      -- the verdict, if the tables have their sizes
+      abbrev tabled : Verdict → Verdict
+      tabled v = when (eqb (length codebook) codebookNumbers) (when (eqb (length thresholds) thresholdNumbers) v (Refuse WrongTables)) (Refuse WrongTables)
 
       -- if these are what cutting finds, and there is one, the whole outcome is the same
       pub same-read : cutting o₁ ≡ record { places = p₁; ending = whole } → cutting o₂ ≡ record { places = p₂; ending = whole } → 0 < length p₁
@@ -112,5 +117,5 @@ module _ (o₁ p₁ o₂ p₂ : List ℕ) (count : length p₁ ≡ length p₂)
       unfolding reading verdict
       same-read c₁ c₂ h =
           rw (c₁, c₂)
-          (finished-same (when (eqb (length codebook) codebookNumbers) (when (eqb (length thresholds) thresholdNumbers) (wholeVerdict o₁ codebook thresholds (length index) (length report) p₁) (Refuse WrongTables)) (Refuse WrongTables))
-          ∙ ap (λ (v : Verdict). finished o₂ codebook thresholds index report p₂ (when (eqb (length codebook) codebookNumbers) (when (eqb (length thresholds) thresholdNumbers) v (Refuse WrongTables)) (Refuse WrongTables))) (verdict-same h))
+          (finished-same (tabled (wholeVerdict o₁ codebook thresholds (length index) (length report) p₁))
+          ∙ ap (λ (v : Verdict). finished o₂ codebook thresholds index report p₂ (tabled v)) (verdict-same h))
