@@ -1,8 +1,8 @@
 -- A CUT-OFF UTTERANCE TELLS. The first k of its m multiframes alone are read with `end` 0, and a cut inside a multiframe is refusal 13: a reading with `end` 1
--- is of no image that was cut off anywhere and is otherwise whole. With damage besides, `end` tells if the last pair that came has note 0; Hidden shows why.
+-- is of no image that was cut off anywhere and is otherwise whole. CutDamaged says what `end` tells with damage besides.
 -- Assumes nothing.
 use mathlib.Core.Path.{_≡_, refl, sym, ap, ap₂, _∙_, subst}
-use mathlib.Core.Bool.{Bool, true, false, not}
+use mathlib.Core.Bool.{Bool, false, not}
 use mathlib.Core.List.{List, [], _∷_, _++_}
 use mathlib.Core.Logic.{inr}
 use Prim.Native.Nat.{ℕ, zero, suc, _+_, _-_, _*_, _/_, _%_, _≤_, _<_}
@@ -16,7 +16,6 @@ use borrow.Author.Tests.{eq-eqb, ne-eqb, lt-ltb}
 use lib.IntN.{ℤ}
 use lib.ListN.{length, take, drop, getD, replicate, length-drop, length-replicate, getD-replicate, replicate-append-replicate}
 use lib.Seq.{length-take-le, take-all, take-add, ext-getD, getD-take, getD-drop}
-use Rattle.lists.specs.Tests.{true-false, not-false}
 use Rattle.lists.specs.Parts.{part, over, length-part}
 use Rattle.lists.specs.Rows.{joined, each-at, same-joined}
 use Rattle.layout.specs.Layout.{dataBits, multiframeFrames, multiframePairs, multiframeOctets, mostMultiframes, indexOctets, reportOctets, firstPair}
@@ -32,24 +31,21 @@ use Rattle.header.specs.declared.Header.{Header}
 use Rattle.header.specs.declared.Header.the-variants.{Codeword, Lost}
 use Rattle.settling.specs.Settling.{readings, headerNote}
 use Rattle.settling.specs.Laws.{clean-note}
-use Rattle.pairs.specs.Pairs.{packetAt, pairCount, pairFails, allFrames, pairNotes}
+use Rattle.pairs.specs.Pairs.{pairCount, pairFails, allFrames, pairNotes}
 use Rattle.pairs.specs.Laws.{length-notes, length-all, no-failed-crc}
 use Rattle.judging.specs.Judging.{badPairs}
 use Rattle.judging.specs.Laws.{Good}
-use Rattle.replacing.specs.Replacing.{replaced}
-use Rattle.replacing.specs.Laws.{good-kept}
 use Rattle.replacing.specs.Speech.{zeroFrame, speechOf, endOf, place-stop}
 use Rattle.reader.specs.Reading.{indexPart, reportPart, summary, Outcome, outcome, reading}
 use Rattle.reader.specs.ReadingLaws.{Accepted}
 use Rattle.reader.specs.declared.Summary.{Summary}
 use Rattle.reader.specs.declared.Answer.the-variants.{Read, Refused}
-use Rattle.writer.specs.Writing.{needed}
 use Rattle.writer.specs.Laws.{length-image}
 use Rattle.writer.specs.Made.{wordIn, packetIn}
-use Rattle.writer.specs.Image.{Nonzero, boundary-speaks, image-packet, Utterance, multiframesOf, pairsOf, imageOf, is-accepted, whole-frames}
-use Rattle.demands.specs.Damage.{Damage, headerFlips, sentMessage, Fate, whole, hit, fate}
+use Rattle.writer.specs.Image.{image-packet, Utterance, multiframesOf, imageOf, whole-frames}
+use Rattle.demands.specs.Damage.{Damage, headerFlips, sentMessage}
 use Rattle.demands.specs.Damages.{unharmed}
-use Rattle.demands.specs.Whole.{rowOf, Lent, nothing-replaced, pairNoteIn, pair-note-is}
+use Rattle.demands.specs.Whole.{rowOf, Lent, nothing-replaced}
 use Rattle.demands.specs.Received.{sentCommon, common-sent, rate-sent, kind-sent}
 use Rattle.demands.specs.Met.{zeroBook, zeroThresholds, indexFor, reportFor, lent-zeros}
 use Rattle.demands.specs.ReadsBack.{spoken, reads-image}
@@ -114,13 +110,10 @@ module _ (u : Utterance) (k : ℕ) (some : 0 < k) (less : k < multiframesOf u) w
       ∙ ap (λ (f : List ℕ). getD f (i % 7) 0) (F.frame-first u s d k within (i / 7) (omega (arith, la)) (sent (i / 7 / 2) (omega (arith, la))))
       ∙ getD-row (u .indices) (7 * (i / 7)) 7 (i % 7) j ∙ ap (λ (t : ℕ). getD (u .indices) t 0) z ∙ sym (getD-take (168 * k) (u .indices) i 0 (omega (arith, la))))
 
-  -- the last of them is one of those that must not be zero
-  last : Nonzero (u .indices) (24 * k - 1)
-  last = boundary-speaks (u .rate) (u .kind) (u .indices) (needed (u .indices)) (needed (u .indices)) (is-accepted u) (24 * k - 1) (omega arith) (omega arith)
-
+  -- the last of them is not zero
   speaks : zeroFrame all (24 * k - 1) ≡ false
   speaks =
-      F.frame-speaks (u .indices) all (24 * k - 1) last
+      F.frame-speaks (u .indices) all (24 * k - 1) (F.border-speaks u k some less)
       (F.frame-first u s d k within (24 * k - 1) (omega arith) (sent ((24 * k - 1) / 2) (omega arith)))
 
   speech-is : speechOf k all ≡ multiframeFrames * k
@@ -327,89 +320,6 @@ cut-anywhere u n short codebook thresholds index report given e =
     tables =
         let a = A.was-read (take n (imageOf u)) codebook thresholds index report [] given e .reader-accepts in
         record { codebook-size = a .codebook-size; thresholds-size = a .thresholds-size }
-
--- ---- WITH DAMAGE BESIDES, THE LAST PAIR'S NOTE DECIDES: if the last pair that came has note 0, and they are read, end is 0
-module _ (u : Utterance) (s : List ℕ) (d : Damage (multiframesOf u) (imageOf u) s) (k : ℕ) (less : k < multiframesOf u) (codebook thresholds : List ℤ) (index report : List ℕ)
-    (given : Summary) (e : reading (take (multiframeOctets * k) s) codebook thresholds index report .answer ≡ Read given)
-    (note : pairNoteIn (reading (take (multiframeOctets * k) s) codebook thresholds index report .report) (multiframePairs * k - 1) ≡ 0) where
-  within-d : k ≤ multiframesOf u
-  within-d = omega arith
-
-  abbrev came : List ℕ
-  came = take (multiframeOctets * k) s
-
-  w : A.WasRead came codebook thresholds index report [] given
-  w = A.was-read came codebook thresholds index report [] given e
-
-  cut-d : cutting came .places ≡ rowOf k
-  cut-d = ap (λ (x : Cutting). x .places) (F.cut-first u s d k within-d)
-
-  rows-d : length (rowOf k) ≡ k
-  rows-d = F.rows u s d k within-d
-
-  abbrev ns-d : List ℕ
-  ns-d = pairNotes came (rowOf k) codebook thresholds
-
-  size-d : length ns-d ≡ pairCount (rowOf k)
-  size-d = length-notes came (rowOf k) codebook thresholds
-
-  some-d : 0 < k
-  some-d = by k (λ z. w .reader-accepts .some (ap length cut-d ∙ rows-d ∙ z))
-    where
-      by : (n : ℕ) → (n ≡ 0 → ⊥) → 0 < n
-      by n h = omega arith
-
-  abbrev q : ℕ
-  q = multiframePairs * k - 1
-
-  in-first : q < multiframePairs * k
-  in-first = omega (arith, some-d)
-
-  in-image : q < pairsOf u
-  in-image = omega (arith, some-d)
-
-  last-note : getD ns-d q 0 ≡ 0
-  last-note =
-      ap (λ (l : List ℕ). getD (pairNotes came l codebook thresholds) q 0) (sym cut-d)
-      ∙ sym (ap (λ (o : Outcome). pairNoteIn (o .report) q) (w .result-is)
-      ∙ pair-note-is came (cutting came .places) (pairNotes came (cutting came .places) codebook thresholds) report (w .common) (reportOctets * length (cutting came .places))
-      (length-notes came (cutting came .places) codebook thresholds) q (omega (arith, ap length cut-d, rows-d, in-first)))
-      ∙ note
-
-  -- so it is not damaged
-  last-sent : packetIn s q ≡ packetOf (u .indices) q
-  unfolding pairFails
-  last-sent = by (fate u s d q in-image)
-    where
-      passed : right dataBits (packetIn s q) ≡ true
-      passed =
-          ap (right dataBits) (sym (F.packet-first u s d k within-d q in-first))
-          ∙ not-false (right dataBits (packetAt came (rowOf k) q)) (F.zero-passed came (rowOf k) codebook thresholds q (omega (arith, rows-d, in-first)) last-note)
-
-      by : Fate u s d q in-image → packetIn s q ≡ packetOf (u .indices) q
-      by (whole x r) = x
-      by (hit x r) = absurd (true-false (sym passed ∙ r))
-
-  speaks-d : zeroFrame (indexPart came (rowOf k) ns-d) (24 * k - 1) ≡ false
-  speaks-d =
-      let all = allFrames came (rowOf k) in
-      let some = some-d in
-      let p : (24 * k - 1) / 2 ≡ q = omega arith in
-      F.frame-speaks (u .indices) (replaced ns-d all) (24 * k - 1) (last u k some less)
-      (good-kept ns-d (record { pair = q; within = omega (arith, size-d, rows-d); good = last-note }) all (24 * k - 1) (omega (arith, size-d, length-all came (rowOf k)))
-      (omega (arith, size-d, rows-d)) (ap (λ (i : ℕ). getD ns-d i 0) p ∙ last-note)
-      ∙ F.frame-first u s d k within-d (24 * k - 1) (omega arith) (subst (λ (i : ℕ). packetIn s i ≡ packetOf (u .indices) i) (sym p) last-sent))
-
-  ends-d : given .end ≡ 0
-  ends-d =
-      ap (λ (g : Summary). g .end) (w .given-is)
-      ∙ ap (λ (l : List ℕ). endOf (length l) (indexPart came l (pairNotes came l codebook thresholds))) cut-d ∙ ap (λ (n : ℕ). endOf n (indexPart came (rowOf k) ns-d)) rows-d
-      ∙ rw speaks-d
-
-pub cut-off-told-damaged : (u : Utterance) (s : List ℕ) → Damage (multiframesOf u) (imageOf u) s → (k : ℕ) → k < multiframesOf u
-    → (codebook thresholds : List ℤ) (index report : List ℕ) (given : Summary) → reading (take (multiframeOctets * k) s) codebook thresholds index report .answer ≡ Read given
-    → pairNoteIn (reading (take (multiframeOctets * k) s) codebook thresholds index report .report) (multiframePairs * k - 1) ≡ 0 → given .end ≡ 0
-cut-off-told-damaged u s d k less codebook thresholds index report given e note = ends-d u s d k less codebook thresholds index report given e note
 
 -- ---- the premises are met
 -- of 24 frames of ones the first multiframe alone is read: rate 0, one multiframe, 24 frames of speech, end 0

@@ -5,7 +5,7 @@ use mathlib.Core.Path.{_≡_, refl, sym, ap, ap₂, _∙_, subst}
 use mathlib.Core.Bool.{Bool, true, false}
 use mathlib.Core.List.{List, [], _∷_, _++_}
 use mathlib.Core.Logic.{_⊎_, inl, inr, ⊎-elim}
-use Prim.Native.Nat.{ℕ, zero, suc, _+_, _*_, _/_, _≤_, _<_}
+use Prim.Native.Nat.{ℕ, zero, suc, _+_, _-_, _*_, _/_, _≤_, _<_}
 use native.Mathlib.Decide.{ℕ-discrete, decLt}
 use native.Mathlib.Omega.{arith}
 use lib.IntN.{ℤ}
@@ -34,9 +34,10 @@ use Rattle.judging.specs.Laws.{failed-is-1, consistent-is-good, badBefore, note
 use Rattle.replacing.specs.Speech.{allZero, zeroFrame}
 use Rattle.reader.specs.Reading.{indexPart, reportPart, summary, outcome, reading}
 use Rattle.reader.specs.declared.Answer.the-variants.{Read}
+use Rattle.writer.specs.Writing.{needed}
 use Rattle.writer.specs.Laws.{few-multiframes, length-image}
 use Rattle.writer.specs.Made.{syncIn, wordIn, packetIn, part-within}
-use Rattle.writer.specs.Image.{Nonzero, image-sync, Utterance, multiframesOf, imageOf, is-accepted, rate-not-2, fits-each-frame}
+use Rattle.writer.specs.Image.{Nonzero, boundary-speaks, image-sync, Utterance, multiframesOf, imageOf, is-accepted, rate-not-2, fits-each-frame}
 use Rattle.demands.specs.Damage.{Damage, headerFlips, sentMessage, header-read}
 use Rattle.demands.specs.Whole.{rowOf, Lent, readings-are, packet-at, cut-is, reads-as, all-zero-at}
 use Rattle.demands.specs.Received.{sentCommon, common-sent, rate-sent, exp-sent}
@@ -60,6 +61,11 @@ frame-speaks idx l j x e = by (allZero (part (7 * j) 7 l)) refl
     by false z = z
     by true z =
         absurd (x .nonzero (sym (ap (λ (f : List ℕ). getD f (x .place) 0) e ∙ getD-row idx (7 * j) 7 (x .place) (x .within)) ∙ all-zero-at (part (7 * j) 7 l) (x .place) z))
+
+-- the last frame of a multiframe but the last is one that the writer refuses to be zero
+pub border-speaks : (u : Utterance) (k : ℕ) → 0 < k → k < multiframesOf u → Nonzero (u .indices) (multiframeFrames * k - 1)
+border-speaks u k some less =
+    boundary-speaks (u .rate) (u .kind) (u .indices) (needed (u .indices)) (needed (u .indices)) (is-accepted u) (24 * k - 1) (omega arith) (omega arith)
 
 -- ---- a pair's note: by the pair before it, its own CRC and consistency, and the next pair's CRC
 module _ (octets places : List ℕ) (codebook thresholds : List ℤ) (q : ℕ) (inside : q < pairCount places) where

@@ -5,5 +5,5 @@ pub mod Inverse
 pub mod Said
 pub mod Hit
 pub mod CutOff
-pub mod Hidden
+pub mod CutDamaged
 pub mod Ruled
