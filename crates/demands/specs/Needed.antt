@@ -40,10 +40,6 @@ use Rattle.header_code.specs.Code.Examples.{three-from-rate-1}
 use Rattle.header.specs.Message.{message, rateOf, typeOf}
 use Rattle.header.specs.Message.Laws.{message-lt, message-back, message-counts, rate-masked, type-masked, count-masked, exp-shifted}
 use Rattle.header.specs.Reading.Laws.{flips-of}
-use Rattle.header.specs.declared.Header.the-variants.{Codeword}
-use Rattle.settling.specs.Settling.{settling}
-use Rattle.settling.specs.Laws.{only-mended}
-use Rattle.settling.specs.declared.Settings.the-variants as S
 use Rattle.pairs.specs.Pairs.{pairCount, pairNotes}
 use Rattle.pairs.specs.Laws.{length-notes}
 use Rattle.cutting.specs.Laws.{every-length}

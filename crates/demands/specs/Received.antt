@@ -20,7 +20,6 @@ use Rattle.packet.specs.Packet.{apart, frameAt}
 use Rattle.packet.specs.Laws.{length-row, packetOf-back}
 use Rattle.consistency.specs.Consistency.{inconsistent}
 use Rattle.cutting.specs.Laws.{every-length}
-use Rattle.header.specs.Reading as H
 use Rattle.pairs.specs.Pairs.{packetAt, pairCount, pairFails, framesOf, pairOdd, pairNotes}
 use Rattle.pairs.specs.Laws.{length-notes}
 use Rattle.judging.specs.Judging.{bad, badPairs, noteBy, notes}

@@ -11,7 +11,6 @@ use native.Mathlib.Omega.{arith}
 use lib.Bits.{bitXor, xor-lt}
 use lib.Count.{ones}
 use lib.Dec.{lit<, lit≤}
-use lib.IntN.{ℤ}
 use lib.ListN.{length, take, replicate, length-replicate}
 use lib.Seq.{take-add}
 use Rattle.lists.specs.Tests.{true-false}
@@ -33,7 +32,7 @@ use Rattle.writer.specs.Image.{image-word, image-packet, Utterance, multiframes
 use Rattle.demands.specs.Damage.{sentMessage}
 use Rattle.demands.specs.Received.{BadPair}
 use Rattle.demands.specs.Met.{zeroBook, zeroThresholds, zero-consistent, indexFor, reportFor, lent-zeros, hurtWord, hurtStream, hurtImage, length-hurt, part-on, hurts, says24, two-multiframes}
-use Rattle.hunting_demands.specs.Standing.{placeInRow, syncAt, wordAt, unlike-fails}
+use Rattle.hunting_demands.specs.Standing.{syncAt, unlike-fails}
 use Rattle.hunting_demands.specs.Laid.{laidMultiframe, laidOctets, Sizes, bits-laid, size-laid, laid-behind, laid-sync, laid-word, laid-stream}
 use Rattle.hunting_demands.specs.HuntsBack.{receivedFlips}
 use Rattle.hunting_demands.specs.Met.{worstSync, worst-matches, threeZeros, manyZeros, earlier, fails-before, zeros-match, zeros-part, two-ones}

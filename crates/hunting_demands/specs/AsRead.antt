@@ -26,9 +26,8 @@ use Rattle.hunting.specs.declared.Counted.{Counted}
 use Rattle.hunting.specs.declared.Answer.the-variants.{Read}
 use Rattle.writer.specs.Laws.{few-multiframes, length-image}
 use Rattle.writer.specs.Made.{Small, syncIn, wordIn, streamIn, framed, made-again}
-use Rattle.writer.specs.Image.{image-sync, Utterance, multiframesOf, pairsOf, imageOf, is-accepted}
-use Rattle.demands.specs.Damage.{Damage, Touched, headerFlips, sentMessage, header-read}
-use Rattle.demands.specs.Whole.{pairNoteIn}
+use Rattle.writer.specs.Image.{image-sync, Utterance, multiframesOf, imageOf, is-accepted}
+use Rattle.demands.specs.Damage.{Damage, headerFlips, sentMessage, header-read}
 use Rattle.demands.specs.NamesTheDamage as N
 use Rattle.hunting_demands.specs.Standing.{placeInRow, row, syncAt, wordAt, streamAt, at-most-all, passes-there, InARow, testedInRow, reads-in-a-row, image-made}
 

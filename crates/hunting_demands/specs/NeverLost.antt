@@ -1,7 +1,7 @@
 -- HEADER NOTE 3 NEVER COMES IN A HUNTING READING: each multiframe found has passed the test, so its header is readable.
 -- Assumes nothing.
 use Prim.Native.Nat.{ℕ, zero, suc, _+_, _*_, _%_, _^_, _≤_, _<_}
-use mathlib.Core.Path.{_≡_, refl, sym, ap, _∙_, subst}
+use mathlib.Core.Path.{_≡_, sym, ap, _∙_, subst}
 use mathlib.Core.List.{List, [], _∷_, _++_}
 use mathlib.Core.Bool.{Bool, true, false}
 use native.Mathlib.Nat.{mod-eq-of-lt}
@@ -14,7 +14,7 @@ use Rattle.lists.specs.Tests.{when, both, true-false}
 use Rattle.lists.specs.Parts.{part, length-part, part-left}
 use Rattle.lists.specs.Rows.{each-at}
 use Rattle.layout.specs.Layout.{reportOctets, headerOctets}
-use Rattle.bits.specs.Bits.{field, value, bits, octets}
+use Rattle.bits.specs.Bits.{field, value, bits}
 use Rattle.bits.specs.Laws.{length-field, value-field, value-lt, bits-octets}
 use Rattle.header.specs.Message.{countOf, commonBits}
 use Rattle.header.specs.Reading.{ReadAs, reading}
@@ -27,7 +27,6 @@ use Rattle.settling.specs.Settling.{readings, headerNote}
 use Rattle.pairs.specs.Pairs.{pairNotes}
 use Rattle.pairs.specs.Laws.{length-notes}
 use Rattle.reader.specs.Reading as R
-use Rattle.reader.specs.declared.Answer.the-variants as RA
 use Rattle.hunt.specs.Hunt.{sync, matches, readable, passes}
 use Rattle.hunt.specs.Laws.{searched-le}
 use Rattle.hunting.specs.Hunting as G

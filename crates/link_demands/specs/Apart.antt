@@ -8,7 +8,6 @@ use Prim.Native.Nat.{ℕ, _+_, _*_, _≤_, _<_}
 use native.Mathlib.Omega.{arith}
 use lib.ListN.{length, take, drop, getD}
 use lib.Seq.{take-at}
-use Rattle.lists.specs.Parts.{over}
 use Rattle.layout.specs.Layout.{frameIndices, multiframePairs, multiframeOctets, firstFrame, secondFrame}
 use Rattle.packet.specs.Packet.{frameAt}
 use Rattle.packet.specs.Laws.{getD-row}
@@ -16,11 +15,11 @@ use Rattle.writer.specs.Writing.{frameCount, multiframesFor, needed, writing}
 use Rattle.writer.specs.Laws.{length-image, Accepted, accepts}
 use Rattle.writer.specs.Laws as L
 use Rattle.writer.specs.Made.{Small}
-use Rattle.writer.specs.Image.{Utterance, multiframesOf, imageOf, success}
+use Rattle.writer.specs.Image.{Utterance, imageOf, success}
 use Rattle.writer.specs.declared.Answer.the-variants.{Written}
 use Rattle.demands.specs.Damage.{DamageUpTo, headerBits, headerFlips, Touched}
 use Rattle.demands.specs.ToldApart.{Alike, told-by-one}
-use Rattle.link_demands.specs.Calls.{WriteReturned, dsrWrite, write-zero}
+use Rattle.link_demands.specs.Calls.{dsrWrite, write-zero}
 use Rattle.link_demands.specs.Back.{accepted}
 
 -- a call of dsr_write that answered 0, of octets

@@ -1,14 +1,14 @@
 -- DEMAND 2 AT THE ENTRIES: what dsr_write wrote, dsr_read reads back, and what dsr_read read without a note, dsr_write writes again octet for
 -- octet. Said in the numbers, octets and buffers that a caller in C has, of any octets that dsr_write answers with 0.
 -- Assumes nothing.
-use mathlib.Core.Path.{_≡_, refl, sym, ap, ap₂, _∙_, subst}
+use mathlib.Core.Path.{_≡_, sym, ap, ap₂, _∙_, subst}
 use mathlib.Core.List.{List, _∷_, []}
-use Prim.Native.Nat.{ℕ, _+_, _-_, _*_, _/_, _≤_, _<_}
+use Prim.Native.Nat.{ℕ, _-_, _*_, _≤_, _<_}
 use native.Mathlib.Omega.{arith}
 use lib.IntN.{ℤ}
 use lib.ListN.{length, take, drop, getD, replicate, length-replicate, List·getD-eq-default}
 use Rattle.lists.specs.Parts.{over}
-use Rattle.layout.specs.Layout.{frameIndices, multiframeFrames, multiframeOctets, indexOctets, reportOctets}
+use Rattle.layout.specs.Layout.{frameIndices, multiframeOctets, indexOctets, reportOctets}
 use Rattle.writer.specs.Writing as W
 use Rattle.writer.specs.Writing.{frameCount, multiframesFor, needed, writing, verdict}
 use Rattle.writer.specs.Laws.{length-image, Accepted, accepts}

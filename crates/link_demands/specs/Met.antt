@@ -1,37 +1,34 @@
 -- The premises of the theorems at the entries are met: by every utterance where they can be, and else by one with damage of each kind.
 -- Assumes nothing.
-use mathlib.Core.Path.{_≡_, refl, sym, ap, ap₂, _∙_, subst}
-use mathlib.Core.List.{List, []}
+use mathlib.Core.Path.{_≡_, sym, ap, ap₂, _∙_, subst}
+use mathlib.Core.List.{List}
 use Prim.Native.Nat.{ℕ, _+_, _*_, _≤_, _<_}
 use native.Mathlib.Nat.{le-of-eq}
 use native.Mathlib.Omega.{arith}
 use lib.Dec.{lit<, lit≤}
-use lib.ListN.{length, take, drop, getD, replicate, length-replicate}
+use lib.ListN.{take, drop, getD, replicate, length-replicate}
 use lib.Seq.{take-at}
 use Rattle.lists.specs.Parts.{over}
 use Rattle.layout.specs.Layout.{frameIndices, multiframeOctets, reportOctets}
 use Rattle.hunt.specs.Hunt.{fewestMatches}
 use Rattle.reader.specs.Reading.{Outcome, reading}
-use Rattle.reader.specs.declared.Answer.the-variants.{Read}
 use Rattle.writer.specs.Writing as W
-use Rattle.writer.specs.Writing.{frameCount, needed, writing}
+use Rattle.writer.specs.Writing.{needed, writing}
 use Rattle.writer.specs.declared.Answer.the-variants.{Written}
 use Rattle.writer.specs.Laws.{length-image}
 use Rattle.writer.specs.Image.{Utterance, multiframesOf, imageOf, writes}
 use Rattle.link.specs.Link.{answerNumbers, summaryNumbers, Returned, returned}
-use Rattle.link.specs.Bits.{BitsReturned}
 use Rattle.demands.specs.Damage.{DamageUpTo, headerBits, loosened, headerFlips}
-use Rattle.demands.specs.Instances.{says1, says2, hurt1, hurt2, equal-images}
+use Rattle.demands.specs.Instances.{says1, says2, hurt1, equal-images}
 use Rattle.demands.specs.Met.{zeroBook, zeroThresholds, indexFor, reportFor, lent-zeros, writes-again-met, says24, hurtImage, names-says24}
-use Rattle.demands.specs.ReadsBack.{spoken, reads-image}
-use Rattle.demands.specs.ToldApart.{Equal}
+use Rattle.demands.specs.ReadsBack.{spoken}
 use Rattle.hunting_demands.specs.Aired.{aired, aired-on-air, names-aired-24}
 use Rattle.hunting_demands.specs.Radio.{together}
-use Rattle.link_demands.specs.Calls.{WriteReturned, dsrWrite, dsrRead, read-success, dsrReadBits}
+use Rattle.link_demands.specs.Calls.{dsrWrite, dsrRead, read-success, dsrReadBits}
 use Rattle.link_demands.specs.Back.{BackPremises, AgainPremises}
-use Rattle.link_demands.specs.Named.{Tells, Stays, c-names-the-damage}
-use Rattle.link_demands.specs.OnAir.{Counts, c-names-on-air}
-use Rattle.link_demands.specs.Apart.{Call, octetsOf, countOf, Meet}
+use Rattle.link_demands.specs.Named.{Tells, c-names-the-damage}
+use Rattle.link_demands.specs.OnAir.{c-names-on-air}
+use Rattle.link_demands.specs.Apart.{Call, octetsOf, Meet}
 
 -- room for six numbers, and for eight
 abbrev pub six : List ℕ

@@ -7,7 +7,7 @@ use mathlib.Core.Logic.{_↔_}
 use Prim.Native.Nat.{ℕ, _+_, _-_, _*_, _/_, _%_, _≤_, _<_}
 use native.Mathlib.Omega.{arith}
 use lib.IntN.{ℤ}
-use lib.ListN.{length, take, drop, getD, replicate, length-replicate, List·getD-eq-default}
+use lib.ListN.{length, drop, getD, replicate, List·getD-eq-default}
 use lib.Seq.{getD-take, getD-drop}
 use Rattle.lists.specs.Parts.{part, over}
 use Rattle.lists.specs.Rows.{length-joined, joined-part}
@@ -23,8 +23,8 @@ use Rattle.reader.specs.declared.Answer.the-variants.{Read}
 use Rattle.writer.specs.Writing.{frameCount}
 use Rattle.writer.specs.Image.{Utterance, multiframesOf, pairsOf, imageOf, whole-frames}
 use Rattle.link.specs.Link.{answerNumbers, summaryNumbers, Returned, returned}
-use Rattle.demands.specs.Damage.{Damage, Touched, headerFlips}
-use Rattle.demands.specs.Whole.{front-at, headerNoteIn, pairNoteIn}
+use Rattle.demands.specs.Damage.{Touched, headerFlips}
+use Rattle.demands.specs.Whole.{front-at, pairNoteIn}
 use Rattle.demands.specs.Received.{ByRule, BadPair, Count}
 use Rattle.demands.specs.NamesTheDamage as N
 use Rattle.demands.specs.ReadsBack.{spoken, padded, mendedReport, length-padded, padded-at, no-more}

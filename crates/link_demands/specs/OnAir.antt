@@ -2,43 +2,41 @@
 -- sync besides, if no place before it and none behind it passes the test. Reading back, names-the-damage and trusted, in the numbers, octets and
 -- buffers that a caller in C has.
 -- Assumes nothing.
-use mathlib.Core.Path.{_≡_, refl, sym, ap, ap₂, _∙_, subst}
-use mathlib.Core.List.{List, [], _∷_, _++_}
+use mathlib.Core.Path.{_≡_, refl, sym, ap, _∙_, subst}
+use mathlib.Core.List.{List}
 use mathlib.Core.Logic.{inl, inr}
-use Prim.Native.Nat.{ℕ, _+_, _*_, _≤_, _<_}
+use Prim.Native.Nat.{ℕ, _*_, _≤_, _<_}
 use native.Mathlib.Decide.{decLt}
 use native.Mathlib.Omega.{arith}
 use lib.Dec.{lit≤}
 use lib.IntN.{ℤ}
 use lib.ListN.{length, getD, List·getD-eq-default}
 use Rattle.lists.specs.Parts.{over}
-use Rattle.layout.specs.Layout.{indexOctets, reportOctets, mostMultiframes}
+use Rattle.layout.specs.Layout.{indexOctets, reportOctets}
 use Rattle.bits.specs.Bits.{bits}
 use Rattle.reader.specs.Reading as R
 use Rattle.reader.specs.declared.Summary.{Summary}
 use Rattle.reader.specs.declared.Answer.the-variants as RA
 use Rattle.hunting.specs.Hunting as G
-use Rattle.hunting.specs.Hunting.{outsideOf, gathering, huntingReading}
+use Rattle.hunting.specs.Hunting.{outsideOf, huntingReading}
 use Rattle.hunting.specs.Says as F
 use Rattle.hunting.specs.declared.Counted.{Counted}
 use Rattle.hunting.specs.declared.Answer.the-variants.{Read}
 use Rattle.writer.specs.Writing.{frameCount}
 use Rattle.writer.specs.Image.{Utterance, multiframesOf, imageOf, whole-frames}
-use Rattle.link.specs.Link.{answerNumbers, summaryNumbers}
-use Rattle.link.specs.Bits.{countedNumbers, numbersOf, BitsReturned, bitsReturned}
+use Rattle.link.specs.Bits.{countedNumbers, numbersOf, BitsReturned}
 use Rattle.demands.specs.Damage.{headerFlips}
 use Rattle.demands.specs.Whole.{front-at}
 use Rattle.demands.specs.NamesTheDamage as N
 use Rattle.demands.specs.ReadsBack.{spoken, padded, length-padded, padded-at}
 use Rattle.promises.specs.Misled as M
 use Rattle.promises.specs.Trusted as T
-use Rattle.hunting_demands.specs.Standing.{row, testedInRow}
+use Rattle.hunting_demands.specs.Standing.{testedInRow}
 use Rattle.hunting_demands.specs.HuntsBack as B
-use Rattle.hunting_demands.specs.HuntsBack.{receivedFlips}
 use Rattle.hunting_demands.specs.Radio.{together, Caught, OnAir, on-air, found-on-air, flips-few, together-size, together-syncs}
 use Rattle.hunting_demands.specs.Radio as Radio
 use Rattle.link_demands.specs.Calls.{dsrReadBits, bits-success, bits-zero}
-use Rattle.link_demands.specs.Named.{headerNoteAt, Tells, tells}
+use Rattle.link_demands.specs.Named.{Tells, tells}
 
 module _ (u : Utterance) (s : List ℕ) (from at least : ℕ) (codebook thresholds : List ℤ) (index report answer : List ℕ) (place : ℕ) where
   abbrev c : BitsReturned

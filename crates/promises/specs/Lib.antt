@@ -1,3 +1,12 @@
 pub mod Misled
 pub mod Trusted
 pub mod Heard
+pub mod Chunks
+pub mod Same
+pub mod First
+pub mod Inverse
+pub mod Said
+pub mod Hit
+pub mod CutOff
+pub mod CutDamaged
+pub mod Ruled

@@ -1,0 +1,338 @@
+-- A CUT-OFF UTTERANCE TELLS. The first k of its m multiframes alone are read with `end` 0, and a cut inside a multiframe is refusal 13: a reading with `end` 1
+-- is of no image that was cut off anywhere and is otherwise whole. CutDamaged says what `end` tells with damage besides.
+-- Assumes nothing.
+use mathlib.Core.Path.{_≡_, refl, sym, ap, ap₂, _∙_, subst}
+use mathlib.Core.Bool.{Bool, false, not}
+use mathlib.Core.List.{List, [], _∷_, _++_}
+use mathlib.Core.Logic.{inr}
+use Prim.Native.Nat.{ℕ, zero, suc, _+_, _-_, _*_, _/_, _%_, _≤_, _<_}
+use native.Mathlib.Nat.{mul-zero, mul-suc}
+use native.Mathlib.Decide.{ℕ-discrete, decLt}
+use native.Mathlib.Omega.{arith}
+use lib.Bits.{xor-self}
+use lib.Count.{ones, ones-le}
+use lib.Dec.{lit<}
+use borrow.Author.Tests.{eq-eqb, ne-eqb, lt-ltb}
+use lib.IntN.{ℤ}
+use lib.ListN.{length, take, drop, getD, replicate, length-drop, length-replicate, getD-replicate, replicate-append-replicate}
+use lib.Seq.{length-take-le, take-all, take-add, ext-getD, getD-take, getD-drop}
+use Rattle.lists.specs.Parts.{part, over, length-part}
+use Rattle.lists.specs.Rows.{joined, each-at, same-joined}
+use Rattle.layout.specs.Layout.{dataBits, multiframeFrames, multiframePairs, multiframeOctets, mostMultiframes, indexOctets, reportOctets, firstPair}
+use Rattle.crc.specs.Crc.{right}
+use Rattle.packet.specs.Packet.{packetOf}
+use Rattle.packet.specs.Laws.{getD-row, packetOf-good}
+use Rattle.cutting.specs.declared.Piece.the-variants.{Bad}
+use Rattle.cutting.specs.Cutting.{syncFirst, syncSecond, syncMet, pieceBy, pieceOf, Cutting, cutting}
+use Rattle.cutting.specs.Laws.{lone-sync, every-length, octetsOf}
+use Rattle.header.specs.Message.{rateOf, typeOf}
+use Rattle.header.specs.Message.Laws.{count-back}
+use Rattle.header.specs.declared.Header.{Header}
+use Rattle.header.specs.declared.Header.the-variants.{Codeword, Lost}
+use Rattle.settling.specs.Settling.{readings, headerNote}
+use Rattle.settling.specs.Laws.{clean-note}
+use Rattle.pairs.specs.Pairs.{pairCount, pairFails, allFrames, pairNotes}
+use Rattle.pairs.specs.Laws.{length-notes, length-all, no-failed-crc}
+use Rattle.judging.specs.Judging.{badPairs}
+use Rattle.judging.specs.Laws.{Good}
+use Rattle.replacing.specs.Speech.{zeroFrame, speechOf, endOf, place-stop}
+use Rattle.reader.specs.Reading.{indexPart, reportPart, summary, Outcome, outcome, reading}
+use Rattle.reader.specs.ReadingLaws.{Accepted}
+use Rattle.reader.specs.declared.Summary.{Summary}
+use Rattle.reader.specs.declared.Answer.the-variants.{Read, Refused}
+use Rattle.writer.specs.Laws.{length-image}
+use Rattle.writer.specs.Made.{wordIn, packetIn}
+use Rattle.writer.specs.Image.{image-packet, Utterance, multiframesOf, imageOf, whole-frames}
+use Rattle.demands.specs.Damage.{Damage, headerFlips, sentMessage}
+use Rattle.demands.specs.Damages.{unharmed}
+use Rattle.demands.specs.Whole.{rowOf, Lent, nothing-replaced}
+use Rattle.demands.specs.Headers.{sentCommon, common-sent, rate-sent, kind-sent}
+use Rattle.demands.specs.Met.{zeroBook, zeroThresholds, indexFor, reportFor, lent-zeros}
+use Rattle.demands.specs.ReadsBack.{spoken, reads-image}
+use Rattle.demands.specs.WritesAgain as A
+use Rattle.promises.specs.Chunks.{multiframeCount, refused-behind, Chunked, chunked, Refuses, Tables, cut-refuses}
+use Rattle.promises.specs.Inverse.{nothing-14}
+use Rattle.promises.specs.First as F
+use Rattle.promises.specs.Said.{ones24}
+
+-- ---- lists of zeros
+zeros : (l : List ℕ) → ((i : ℕ) → i < length l → getD l i 0 ≡ 0) → l ≡ replicate (length l) 0
+zeros l h = ext-getD 0 l (replicate (length l) 0) (sym (length-replicate (length l) 0)) (λ i k. h i k ∙ sym (getD-replicate (length l) i 0 0 k))
+
+zero-rows : (w m : ℕ) → joined {A = ℕ} (λ k. replicate w 0) m ≡ replicate (w * m) 0
+zero-rows w zero = ap (λ (n : ℕ). replicate n 0) (sym (mul-zero w))
+zero-rows w (suc m) =
+    ap (λ (l : List ℕ). l ++ replicate w 0) (zero-rows w m) ∙ replicate-append-replicate (w * m) w 0 ∙ ap (λ (n : ℕ). replicate n 0) (sym (mul-suc w m))
+
+none-bad : (l : List ℕ) → ((i : ℕ) → i < length l → getD l i 0 ≡ 0) → badPairs l ≡ 0
+none-bad [] h = refl
+none-bad (x ∷ l) h = rw (eq-eqb x 0 (h 0 (omega arith))) (none-bad l (λ i k. h (suc i) (omega arith)))
+
+-- ---- THE FIRST k MULTIFRAMES ALONE, fewer than all
+-- the success answer: the settings sent, k, all of its frames speech, no bad pair, and no end
+abbrev pub heard : Utterance → ℕ → Summary
+heard u k = record { rate = u .rate; kind = u .kind; multiframes = k; speech = multiframeFrames * k; bad = 0; end = 0 }
+
+module _ (u : Utterance) (k : ℕ) (some : 0 < k) (less : k < multiframesOf u) where
+  abbrev s : List ℕ
+  s = imageOf u
+
+  abbrev d : Damage (multiframesOf u) s s
+  d = unharmed u
+
+  within : k ≤ multiframesOf u
+  within = omega arith
+
+  abbrev first : List ℕ
+  first = take (multiframeOctets * k) s
+
+  abbrev all : List ℕ
+  all = allFrames first (rowOf k)
+
+  rows : length (rowOf k) ≡ k
+  rows = F.rows u s d k within
+
+  sent : (q : ℕ) → q < multiframePairs * k → packetIn s q ≡ packetOf (u .indices) q
+  sent q h = image-packet (u .rate) (u .kind) (u .indices) (multiframesOf u) q (omega arith)
+
+  no-flips : (i : ℕ) → headerFlips s s i ≡ 0
+  no-flips i = ap ones (xor-self (wordIn s i)) ∙ omega (arith, ones-le 0 0 (lit< tt))
+
+  -- the frames read are the first 24k
+  frames-are : all ≡ take (indexOctets * k) (u .indices)
+  frames-are =
+      let la : length all ≡ 168 * k = length-all first (rowOf k) ∙ omega (arith, rows) in
+      let lt : length (take (168 * k) (u .indices)) ≡ 168 * k = length-take-le (168 * k) (u .indices) (omega (arith, whole-frames u)) in
+      ext-getD 0 all (take (168 * k) (u .indices)) (la ∙ sym lt) (λ i h.
+      let j : i % 7 < 7 = omega arith in
+      let z : 7 * (i / 7) + i % 7 ≡ i = omega arith in
+      ap (λ (t : ℕ). getD all t 0) (sym z) ∙ sym (getD-take 7 (drop (7 * (i / 7)) all) (i % 7) 0 j ∙ getD-drop (7 * (i / 7)) all (i % 7) 0)
+      ∙ ap (λ (f : List ℕ). getD f (i % 7) 0) (F.frame-first u s d k within (i / 7) (omega (arith, la)) (sent (i / 7 / 2) (omega (arith, la))))
+      ∙ getD-row (u .indices) (7 * (i / 7)) 7 (i % 7) j ∙ ap (λ (t : ℕ). getD (u .indices) t 0) z ∙ sym (getD-take (168 * k) (u .indices) i 0 (omega (arith, la))))
+
+  -- the last of them is not zero
+  speaks : zeroFrame all (24 * k - 1) ≡ false
+  speaks =
+      F.frame-speaks (u .indices) all (24 * k - 1) (F.border-speaks u k some less)
+      (F.frame-first u s d k within (24 * k - 1) (omega arith) (sent ((24 * k - 1) / 2) (omega arith)))
+
+  speech-is : speechOf k all ≡ multiframeFrames * k
+  speech-is =
+      let z : 24 * (k - 1) + (24 - 1) ≡ 24 * k - 1 = omega arith in
+      ap (λ (n : ℕ). 24 * (k - 1) + n) (place-stop all (24 * (k - 1)) 24 (omega arith) (ap (zeroFrame all) z ∙ speaks)) ∙ omega arith
+
+  end-is : endOf k all ≡ 0
+  end-is = rw speaks
+
+  module _ (codebook thresholds : List ℤ) where
+    abbrev ns : List ℕ
+    ns = pairNotes first (rowOf k) codebook thresholds
+
+    size : length ns ≡ pairCount (rowOf k)
+    size = length-notes first (rowOf k) codebook thresholds
+
+    passes : (q : ℕ) → q < pairCount (rowOf k) → pairFails first (rowOf k) q ≡ false
+    unfolding pairFails
+    passes q h =
+        ap (λ (p : List Bool). not (right dataBits p)) (F.packet-first u s d k within q (omega (arith, rows)) ∙ sent q (omega (arith, rows)))
+        ∙ ap not (packetOf-good (u .indices) q)
+
+    quiet : (q : ℕ) → q < length ns → getD ns q 0 ≡ 0
+    quiet q h = no-failed-crc first (rowOf k) codebook thresholds passes q (omega (arith, size))
+
+    index-is : indexPart first (rowOf k) ns ≡ all
+    index-is = nothing-replaced ns all quiet (length-all first (rowOf k) ∙ omega (arith, size))
+
+    note-row : (i : ℕ) → i < length (rowOf k)
+        → headerNote (sentCommon u) i (getD (readings first (rowOf k)) i Lost) ∷ part (firstPair i) multiframePairs ns ≡ replicate reportOctets 0
+    note-row i h =
+        let p = part (12 * i) 12 ns in
+        let l : length p ≡ 12 = length-part ns (12 * i) 12 (omega (arith, size)) in
+        let r : getD (readings first (rowOf k)) i Lost ≡ Codeword (sentMessage u i) 0 =
+        ap (λ (hs : List Header). getD hs i Lost) (F.headers-first u s d k within)
+        ∙ each-at (λ i. Codeword (sentMessage u i) (headerFlips s s i)) k i Lost (omega (arith, rows)) ∙ ap (Codeword (sentMessage u i)) (no-flips i) in
+        ap₂ (λ (x : ℕ) (y : List ℕ). x ∷ y)
+        (ap (headerNote (sentCommon u) i) r ∙ clean-note (sentCommon u) i (sentMessage u i) (count-back (u .rate) (u .kind) (i + 1) 0) (common-sent u i))
+        (zeros p (λ j g. getD-take 12 (drop (12 * i) ns) j 0 (omega (arith, l)) ∙ getD-drop (12 * i) ns j 0 ∙ quiet (12 * i + j) (omega (arith, l, size)))
+        ∙ ap (λ (w : ℕ). replicate w 0) l)
+
+    report-is : reportPart first (rowOf k) ns (sentCommon u) ≡ replicate (reportOctets * k) 0
+    unfolding reportPart
+    report-is =
+        same-joined (λ i. headerNote (sentCommon u) i (getD (readings first (rowOf k)) i Lost) ∷ part (firstPair i) multiframePairs ns) (λ i. replicate reportOctets 0)
+        (length (rowOf k)) note-row
+        ∙ zero-rows reportOctets (length (rowOf k)) ∙ ap (λ (n : ℕ). replicate (reportOctets * n) 0) rows
+
+    make : ℕ → ℕ → ℕ → ℕ → ℕ → ℕ → Summary
+    make a b c d e f = record { rate = a; kind = b; multiframes = c; speech = d; bad = e; end = f }
+
+    answer-is : summary first (rowOf k) ns (sentCommon u) ≡ heard u k
+    unfolding make
+    answer-is =
+        let x : speechOf (length (rowOf k)) (indexPart first (rowOf k) ns) ≡ 24 * k = ap₂ speechOf rows index-is ∙ speech-is in
+        let y : endOf (length (rowOf k)) (indexPart first (rowOf k) ns) ≡ 0 = ap₂ endOf rows index-is ∙ end-is in
+        let c = sentCommon u in
+        let speech = speechOf (length (rowOf k)) (indexPart first (rowOf k) ns) in
+        let end = endOf (length (rowOf k)) (indexPart first (rowOf k) ns) in
+        let p : make (rateOf c) (typeOf c) (length (rowOf k)) speech (badPairs ns) end ≡ make (u .rate) (u .kind) k (24 * k) 0 0 =
+        ap₂ (λ (a b : ℕ). make a b (length (rowOf k)) speech (badPairs ns) end) (rate-sent u) (kind-sent u)
+        ∙ ap₂ (λ (a b : ℕ). make (u .rate) (u .kind) a b (badPairs ns) end) rows x ∙ ap₂ (λ (a b : ℕ). make (u .rate) (u .kind) k (24 * k) a b) (none-bad ns quiet) y in
+        p
+
+    good : Good ns
+    good = record { pair = 0; within = omega (arith, size, rows); good = quiet 0 (omega (arith, size, rows)) }
+
+    reads : (index report : List ℕ) → Lent k codebook thresholds index report
+        → reading first codebook thresholds index report
+        ≡ outcome (Read (heard u k)) (over index 0 (indexOctets * k) (take (indexOctets * k) (u .indices))) (over report 0 (reportOctets * k) (replicate (reportOctets * k) 0))
+    reads index report lent =
+        F.read-first u s d k within codebook thresholds index report some (inr (no-flips 0)) good lent
+        ∙ ap₂ (λ (a : Summary) (i : List ℕ). outcome (Read a) i (over report 0 (reportOctets * length (rowOf k)) (reportPart first (rowOf k) ns (sentCommon u)))) answer-is
+        (ap₂ (λ (n : ℕ) (l : List ℕ). over index 0 (indexOctets * n) l) rows (index-is ∙ frames-are))
+        ∙ ap (outcome (Read (heard u k)) (over index 0 (indexOctets * k) (take (indexOctets * k) (u .indices))))
+        (ap₂ (λ (n : ℕ) (l : List ℕ). over report 0 (reportOctets * n) l) rows report-is)
+
+-- with 01's tables and room for k multiframes they are read: the settings sent, k, the frames of these multiframes, no note, and end 0
+pub cut-off-reads : (u : Utterance) (k : ℕ) → 0 < k → k < multiframesOf u → (codebook thresholds : List ℤ) (index report : List ℕ) → Lent k codebook thresholds index report
+    → reading (take (multiframeOctets * k) (imageOf u)) codebook thresholds index report
+    ≡ outcome (Read (heard u k)) (over index 0 (indexOctets * k) (take (indexOctets * k) (u .indices))) (over report 0 (reportOctets * k) (replicate (reportOctets * k) 0))
+cut-off-reads u k some less codebook thresholds index report lent = reads u k some less codebook thresholds index report lent
+
+-- and whatever the tables and the buffers: if they are read, that is the answer
+pub cut-off-answer : (u : Utterance) (k : ℕ) → k < multiframesOf u → (codebook thresholds : List ℤ) (index report : List ℕ) (given : Summary)
+    → reading (take (multiframeOctets * k) (imageOf u)) codebook thresholds index report .answer ≡ Read given → given ≡ heard u k
+cut-off-answer u k less codebook thresholds index report given e =
+    elim (decLt 0 k) [
+      | yes some ↦
+          let r : Read given ≡ Read (heard u k) = sym e ∙ ap (λ (o : Outcome). o .answer) (reads u k some less codebook thresholds index report lent) in
+          cc
+      | no none ↦ absurd (a .some (rows ∙ omega arith))
+    ]
+  where
+    w : A.WasRead (take (multiframeOctets * k) (imageOf u)) codebook thresholds index report [] given
+    w = A.was-read (take (multiframeOctets * k) (imageOf u)) codebook thresholds index report [] given e
+
+    a : Accepted (take (multiframeOctets * k) (imageOf u)) codebook thresholds (length index) (length report) (w .common)
+    a = w .reader-accepts
+
+    rows : length (cutting (take (multiframeOctets * k) (imageOf u)) .places) ≡ k
+    rows = ap (λ (w : Cutting). length (w .places)) (F.cut-first u (imageOf u) (unharmed u) k (omega arith)) ∙ every-length 0 k
+
+    lent : Lent k codebook thresholds index report
+    lent = record {
+      codebook-size = a .codebook-size;
+      thresholds-size = a .thresholds-size;
+      index-room = subst (λ (n : ℕ). indexOctets * n ≤ length index) rows (a .fitting .roomy .index-room);
+      report-room = subst (λ (n : ℕ). reportOctets * n ≤ length report) rows (a .fitting .roomy .report-room);
+    }
+
+-- A CUT-OFF UTTERANCE TELLS: if they are read, end is 0
+pub cut-off-told : (u : Utterance) (k : ℕ) → k < multiframesOf u → (codebook thresholds : List ℤ) (index report : List ℕ) (given : Summary)
+    → reading (take (multiframeOctets * k) (imageOf u)) codebook thresholds index report .answer ≡ Read given → given .end ≡ 0
+cut-off-told u k less codebook thresholds index report given e = ap (λ (g : Summary). g .end) (cut-off-answer u k less codebook thresholds index report given e)
+
+-- "fewer than all" is needed: all of them are read with end 1
+pub whole-ends : (u : Utterance) (codebook thresholds : List ℤ) (index report : List ℕ) → Lent (multiframesOf u) codebook thresholds index report
+    → (reading (take (multiframeOctets * multiframesOf u) (imageOf u)) codebook thresholds index report .answer ≡ Read (spoken u)) × (spoken u .end ≡ 1)
+whole-ends u codebook thresholds index report lent =
+    let m = multiframesOf u in
+    let e : take (144 * m) (imageOf u) ≡ imageOf u = take-all (144 * m) (imageOf u) (omega (arith, length-image (u .rate) (u .kind) (u .indices) m)) in
+    (ap (λ (l : List ℕ). reading l codebook thresholds index report .answer) e ∙ ap (λ (o : Outcome). o .answer) (reads-image u codebook thresholds index report lent), refl)
+
+-- ---- A CUT INSIDE A MULTIFRAME IS REFUSAL 13, at the place of that multiframe
+-- a sync, or its first octet alone, with too few octets
+cut-sync : (n a b m : ℕ) → 0 < n → n < multiframeOctets → m < mostMultiframes → a ≡ syncFirst → (2 ≤ n → b ≡ syncSecond) → pieceBy n a b m ≡ Bad 13
+unfolding pieceBy syncMet
+cut-sync n a b m some less few ea eb =
+    elim (ℕ-discrete n 1) [
+      | yes e ↦ ap₂ (λ (i j : ℕ). pieceBy i j b m) e ea ∙ lone-sync b m
+      | no x ↦
+          rw (ea, eb (omega arith), ne-eqb n 0 (λ e. omega arith), ne-eqb n 1 x, ne-eqb m mostMultiframes (λ e. omega arith), lt-ltb n multiframeOctets less)
+    ]
+
+-- the first k multiframes and j octets of the next, of an image with any damage that demand 3 counts
+pub cut-inside-damaged : (u : Utterance) (s : List ℕ) → Damage (multiframesOf u) (imageOf u) s → (k j : ℕ) → k < multiframesOf u → 0 < j → j < multiframeOctets
+    → (codebook thresholds : List ℤ) (index report : List ℕ) → Tables codebook thresholds
+    → Refuses (reading (take (multiframeOctets * k + j) s) codebook thresholds index report) index report 13 (multiframeOctets * k)
+cut-inside-damaged u s d k j less some short codebook thresholds index report tables =
+    subst (Refuses (reading (take (multiframeOctets * k + j) s) codebook thresholds index report) index report 13) place
+    (cut-refuses (take (multiframeOctets * k + j) s) codebook thresholds index report tables 13 (length (octetsOf (c .chunks)))
+    (ap (λ (l : List ℕ). cutting l .ending) (take-add (144 * k) j s ∙ ap (λ (l : List ℕ). l ++ r) (sym (c .octets)))
+    ∙ refused-behind (c .chunks) r 13 (c .proper) (omega (arith, count, F.few u s d k (omega arith))) bad))
+  where
+    r : List ℕ
+    r = take j (drop (multiframeOctets * k) s)
+
+    c : Chunked (take (multiframeOctets * k) s) (length (cutting (take (multiframeOctets * k) s) .places))
+    c = chunked (take (multiframeOctets * k) s) (ap (λ (w : Cutting). w .ending) (F.cut-first u s d k (omega arith)))
+
+    count : multiframeCount (c .chunks) ≡ k
+    count = c .counted ∙ ap (λ (w : Cutting). length (w .places)) (F.cut-first u s d k (omega arith)) ∙ every-length 0 k
+
+    place : length (octetsOf (c .chunks)) ≡ multiframeOctets * k
+    place = ap length (c .octets) ∙ F.size-first u s d k (omega arith)
+
+    size : length (take j (drop (multiframeOctets * k) s)) ≡ j
+    size = length-take-le j (drop (144 * k) s) (omega (arith, length-drop (144 * k) s, F.size u s d k (omega arith)))
+
+    octet : (i : ℕ) → i < j → i < 2 → getD (take j (drop (multiframeOctets * k) s)) i 0 ≡ getD (syncFirst ∷ syncSecond ∷ []) i 0
+    octet i h l =
+        getD-take j (drop (144 * k) s) i 0 h ∙ sym (getD-take 2 (drop (144 * k) s) i 0 l) ∙ ap (λ (x : List ℕ). getD x i 0) (F.syncs u s d k (omega arith) k less)
+
+    bad : pieceOf (take j (drop (multiframeOctets * k) s)) (multiframeCount (c .chunks)) ≡ Bad 13
+    bad =
+        cut-sync (length r) (getD r 0 0) (getD r 1 0) (multiframeCount (c .chunks)) (omega (arith, size)) (omega (arith, size)) (omega (arith, count, F.few u s d k (omega arith)))
+        (octet 0 some (omega arith)) (λ h. octet 1 (omega (arith, size)) (omega arith))
+
+-- and of the image as it was written
+pub cut-inside : (u : Utterance) (k j : ℕ) → k < multiframesOf u → 0 < j → j < multiframeOctets → (codebook thresholds : List ℤ) (index report : List ℕ) → Tables codebook thresholds
+    → Refuses (reading (take (multiframeOctets * k + j) (imageOf u)) codebook thresholds index report) index report 13 (multiframeOctets * k)
+cut-inside u = cut-inside-damaged u (imageOf u) (unharmed u)
+
+-- and nothing at all is 14, at place 0
+pub nothing-refused : (u : Utterance) (codebook thresholds : List ℤ) (index report : List ℕ) → Tables codebook thresholds
+    → Refuses (reading (take 0 (imageOf u)) codebook thresholds index report) index report 14 0
+nothing-refused u codebook thresholds index report tables = nothing-14 codebook thresholds index report tables
+
+-- ---- CUT OFF ANYWHERE: whatever is read of fewer octets than the image's is whole multiframes, with end 0
+pub cut-anywhere : (u : Utterance) (n : ℕ) → n < length (imageOf u) → (codebook thresholds : List ℤ) (index report : List ℕ) (given : Summary)
+    → reading (take n (imageOf u)) codebook thresholds index report .answer ≡ Read given → (n ≡ multiframeOctets * given .multiframes) × (given .end ≡ 0)
+cut-anywhere u n short codebook thresholds index report given e =
+    elim (ℕ-discrete (n % 144) 0) [
+      | yes z ↦
+          let w : n ≡ 144 * (n / 144) = omega arith in
+          let g = cut-off-answer u (n / 144) less codebook thresholds index report given
+          (ap (λ (i : ℕ). reading (take i (imageOf u)) codebook thresholds index report .answer) (sym w) ∙ e) in
+          (w ∙ ap (λ (g : Summary). 144 * g .multiframes) (sym g), ap (λ (g : Summary). g .end) g)
+      | no z ↦
+          let w : 144 * (n / 144) + n % 144 ≡ n = omega arith in
+          let r = cut-inside u (n / 144) (n % 144) less (omega arith) (omega arith) codebook thresholds index report tables in
+          let x : Refused (r .refusal) ≡ Read given =
+          sym (ap (λ (o : Outcome). o .answer) (r .is-refused)) ∙ ap (λ (i : ℕ). reading (take i (imageOf u)) codebook thresholds index report .answer) w ∙ e in
+          let y : _≡_ {A = ℕ} 0 1 = cc in
+          absurd (omega arith)
+    ]
+  where
+    less : n / 144 < multiframesOf u
+    less = omega (arith, length-image (u .rate) (u .kind) (u .indices) (multiframesOf u))
+
+    tables : Tables codebook thresholds
+    tables =
+        let a = A.was-read (take n (imageOf u)) codebook thresholds index report [] given e .reader-accepts in
+        record { codebook-size = a .codebook-size; thresholds-size = a .thresholds-size }
+
+-- ---- the premises are met
+-- of 24 frames of ones the first multiframe alone is read: rate 0, one multiframe, 24 frames of speech, end 0
+pub first-of-24 : reading (take multiframeOctets (imageOf ones24)) zeroBook zeroThresholds (indexFor 1) (reportFor 1) .answer
+    ≡ Read (record { rate = 0; kind = 0; multiframes = 1; speech = 24; bad = 0; end = 0 })
+first-of-24 = ap (λ (o : Outcome). o .answer) (cut-off-reads ones24 1 (omega arith) (omega arith) zeroBook zeroThresholds (indexFor 1) (reportFor 1) (lent-zeros 1))
+
+-- 01's example: 143 octets that open with a sync are 13
+pub received-143 : (u : Utterance) (codebook thresholds : List ℤ) (index report : List ℕ) → Tables codebook thresholds
+    → Refuses (reading (take 143 (imageOf u)) codebook thresholds index report) index report 13 0
+received-143 u = cut-inside u 0 143 (omega arith) (omega arith) (omega arith)
+
+-- one octet more than the first multiframe is 13 at the second
+pub received-145 : (codebook thresholds : List ℤ) (index report : List ℕ) → Tables codebook thresholds
+    → Refuses (reading (take 145 (imageOf ones24)) codebook thresholds index report) index report 13 144
+received-145 = cut-inside ones24 1 1 (omega arith) (omega arith) (omega arith)

@@ -1,0 +1,231 @@
+-- The first k multiframes of an image, damaged or not, as the reader takes them: their headers settle the settings sent, and the frames of their
+-- undamaged pairs are those written.
+-- Assumes nothing.
+use mathlib.Core.Path.{_≡_, refl, sym, ap, ap₂, _∙_, subst}
+use mathlib.Core.Bool.{Bool, true, false}
+use mathlib.Core.List.{List, [], _∷_, _++_}
+use mathlib.Core.Logic.{_⊎_, inl, inr, ⊎-elim}
+use Prim.Native.Nat.{ℕ, zero, suc, _+_, _-_, _*_, _/_, _≤_, _<_}
+use native.Mathlib.Decide.{ℕ-discrete, decLt}
+use native.Mathlib.Omega.{arith}
+use lib.IntN.{ℤ}
+use lib.ListN.{length, take, drop, getD, take-append-drop}
+use lib.Seq.{length-take-le, take-at, take-all}
+use Rattle.lists.specs.Tests.{true-false}
+use Rattle.lists.specs.Parts.{part, over, part-left, part-right}
+use Rattle.lists.specs.Rows.{each, length-each, each-at, same-each}
+use Rattle.layout.specs.Layout.{widths, frameIndices, packetBits, multiframeFrames, multiframePairs, multiframeOctets, mostMultiframes, indexOctets, reportOctets, pairOf, firstFrame, secondFrame, packetStart}
+use Rattle.bits.specs.Bits.{value, bits}
+use Rattle.packet.specs.Packet.{apart, frameAt, packetOf}
+use Rattle.packet.specs.Laws.{length-row, getD-row, packetOf-back}
+use Rattle.cutting.specs.Cutting.{whole, cutting, syncFirst, syncSecond}
+use Rattle.cutting.specs.Laws.{every-length}
+use Rattle.header.specs.Message.{commonBits}
+use Rattle.header.specs.Reading as H
+use Rattle.header.specs.declared.Header.{Header}
+use Rattle.header.specs.declared.Header.the-variants.{Codeword, Lost}
+use Rattle.settling.specs.Settling.{readings, settling}
+use Rattle.settling.specs.Laws.{AllHave, all-agree, only-clean}
+use Rattle.settling.specs.declared.Settings.the-variants.{Settled}
+use Rattle.pairs.specs.Pairs.{packetAt, pairCount, pairFails, framesOf, allFrames, pairOdd, pairNotes}
+use Rattle.pairs.specs.Laws.{length-notes, length-all, frames-at}
+use Rattle.judging.specs.Judging.{bad, noteBy, notes}
+use Rattle.judging.specs.Laws.{failed-is-1, consistent-is-good, badBefore, note-at, Good, none-good}
+use Rattle.replacing.specs.Speech.{allZero, zeroFrame}
+use Rattle.reader.specs.Reading.{indexPart, reportPart, summary, outcome, reading}
+use Rattle.reader.specs.declared.Answer.the-variants.{Read}
+use Rattle.writer.specs.Writing.{needed}
+use Rattle.writer.specs.Laws.{few-multiframes, length-image}
+use Rattle.writer.specs.Made.{syncIn, wordIn, packetIn, part-within}
+use Rattle.writer.specs.Image.{Nonzero, boundary-speaks, image-sync, Utterance, multiframesOf, imageOf, is-accepted, rate-not-2, fits-each-frame}
+use Rattle.demands.specs.Damage.{Damage, headerFlips, sentMessage, header-read}
+use Rattle.demands.specs.Whole.{rowOf, Lent, readings-are, packet-at, cut-is, reads-as, all-zero-at}
+use Rattle.demands.specs.Headers.{sentCommon, common-sent, rate-sent, exp-sent}
+
+-- ---- headers that all have the same common bits
+have-one-more : (l : List Header) (m f c : ℕ) → AllHave l c → commonBits m ≡ c → AllHave (l ++ (Codeword m f ∷ [])) c
+have-one-more [] m f c a e = (e, tt)
+have-one-more (Lost ∷ l) m f c a e = absurd a
+have-one-more (Codeword n g ∷ l) m f c a e = (a .0, have-one-more l m f c (a .1) e)
+
+all-have : (g f : ℕ → ℕ) (c n : ℕ) → ((k : ℕ) → commonBits (g k) ≡ c) → AllHave (each (λ k. Codeword (g k) (f k)) n) c
+all-have g f c zero h = tt
+all-have g f c (suc n) h = have-one-more (each (λ k. Codeword (g k) (f k)) n) (g n) (f n) c (all-have g f c n h) (h n)
+
+-- ---- a frame that is not zero, as it was written
+pub frame-speaks : (idx l : List ℕ) (j : ℕ) → Nonzero idx j → part (frameIndices * j) frameIndices l ≡ frameAt idx j → zeroFrame l j ≡ false
+unfolding zeroFrame
+frame-speaks idx l j x e = by (allZero (part (7 * j) 7 l)) refl
+  where
+    by : (t : Bool) → allZero (part (7 * j) 7 l) ≡ t → allZero (part (7 * j) 7 l) ≡ false
+    by false z = z
+    by true z =
+        absurd (x .nonzero (sym (ap (λ (f : List ℕ). getD f (x .place) 0) e ∙ getD-row idx (7 * j) 7 (x .place) (x .within)) ∙ all-zero-at (part (7 * j) 7 l) (x .place) z))
+
+-- the last frame of a multiframe but the last is one that the writer refuses to be zero
+pub border-speaks : (u : Utterance) (k : ℕ) → 0 < k → k < multiframesOf u → Nonzero (u .indices) (multiframeFrames * k - 1)
+border-speaks u k some less =
+    boundary-speaks (u .rate) (u .kind) (u .indices) (needed (u .indices)) (needed (u .indices)) (is-accepted u) (24 * k - 1) (omega arith) (omega arith)
+
+-- ---- a pair's note: by the pair before it, its own CRC and consistency, and the next pair's CRC
+module _ (octets places : List ℕ) (codebook thresholds : List ℤ) (q : ℕ) (inside : q < pairCount places) where
+  abbrev before : Bool
+  before = badBefore false (pairNotes octets places codebook thresholds) q
+
+  abbrev after : Bool
+  after = getD (each (pairFails octets places) (pairCount places)) (suc q) false
+
+  note-is : getD (pairNotes octets places codebook thresholds) q 0 ≡ noteBy before (pairFails octets places q) (pairOdd octets places codebook thresholds q) after
+  unfolding pairNotes
+  note-is =
+      let c = pairCount places in
+      let fs = each (pairFails octets places) c in
+      let os = each (pairOdd octets places codebook thresholds) c in
+      note-at false fs os q (omega (arith, length-each (pairFails octets places) c))
+      ∙ ap₂ (λ (f o : Bool). noteBy (badBefore false (notes fs os) q) f o (getD fs (suc q) false)) (each-at (pairFails octets places) c q false inside)
+      (each-at (pairOdd octets places codebook thresholds) c q false inside)
+
+  -- 1 if its CRC fails
+  pub failed-note : pairFails octets places q ≡ true → getD (pairNotes octets places codebook thresholds) q 0 ≡ 1
+  failed-note e =
+      note-is ∙ ap (λ (f : Bool). noteBy before f (pairOdd octets places codebook thresholds q) after) e ∙ failed-is-1 before (pairOdd octets places codebook thresholds q) after
+
+  -- so its CRC passed if it is 0
+  pub zero-passed : getD (pairNotes octets places codebook thresholds) q 0 ≡ 0 → pairFails octets places q ≡ false
+  zero-passed z = by (pairFails octets places q) refl
+    where
+      by : (t : Bool) → pairFails octets places q ≡ t → pairFails octets places q ≡ false
+      by false e = e
+      by true e = let y : _≡_ {A = ℕ} 0 1 = sym z ∙ failed-note e in absurd (omega arith)
+
+  -- 0 if the CRC passes and the pair is consistent
+  pub consistent-note : pairFails octets places q ≡ false → pairOdd octets places codebook thresholds q ≡ false → getD (pairNotes octets places codebook thresholds) q 0 ≡ 0
+  consistent-note e o = note-is ∙ ap₂ (λ (f x : Bool). noteBy before f x after) e o ∙ consistent-is-good before after
+
+  -- 2 if the CRC passes and the pair is bad
+  zero-or-two : (b o a : Bool) → (noteBy b false o a ≡ 0) ⊎ (noteBy b false o a ≡ 2)
+  unfolding noteBy
+  zero-or-two b false a = inl refl
+  zero-or-two b true true = inr refl
+  zero-or-two true true false = inr refl
+  zero-or-two false true false = inl refl
+
+  pub bad-note : pairFails octets places q ≡ false → bad (getD (pairNotes octets places codebook thresholds) q 0) ≡ true → getD (pairNotes octets places codebook thresholds) q 0 ≡ 2
+  bad-note e b =
+      let o = pairOdd octets places codebook thresholds q in
+      let n : getD (pairNotes octets places codebook thresholds) q 0 ≡ noteBy before false o after = note-is ∙ ap (λ (f : Bool). noteBy before f o after) e in
+      ⊎-elim (λ z. absurd (true-false (sym b ∙ ap bad (n ∙ z)))) (λ z. n ∙ z) (zero-or-two before o after)
+
+-- ---- the first k of m multiframes
+module _ (u : Utterance) (s : List ℕ) (d : Damage (multiframesOf u) (imageOf u) s) (k : ℕ) (within : k ≤ multiframesOf u) where
+  abbrev pub m : ℕ
+  m = multiframesOf u
+
+  abbrev pub first : List ℕ
+  first = take (multiframeOctets * k) s
+
+  pub size : length s ≡ multiframeOctets * m
+  size = d .size ∙ length-image (u .rate) (u .kind) (u .indices) m
+
+  pub size-first : length first ≡ multiframeOctets * k
+  size-first = length-take-le (144 * k) s (omega (arith, size))
+
+  pub part-first : (a v : ℕ) → a + v ≤ multiframeOctets * k → part a v first ≡ part a v s
+  part-first a v h = sym (ap (part a v) (sym (take-append-drop (144 * k) s)) ∙ part-left first (drop (144 * k) s) a v (omega (arith, size-first)))
+
+  pub few : m ≤ mostMultiframes
+  few = few-multiframes (u .rate) (u .kind) (u .indices) (is-accepted u .sizes)
+
+  pub syncs : (i : ℕ) → i < m → syncIn s i ≡ syncFirst ∷ syncSecond ∷ []
+  syncs i h = d .syncs i h ∙ image-sync (u .rate) (u .kind) (u .indices) m i h
+
+  pub syncs-first : (i : ℕ) → i < k → syncIn first i ≡ syncFirst ∷ syncSecond ∷ []
+  syncs-first i h = part-first (144 * i) 2 (omega arith) ∙ syncs i (omega arith)
+
+  pub cut-first : cutting first ≡ record { places = rowOf k; ending = whole }
+  cut-first = cut-is first k (omega (arith, few)) size-first syncs-first
+
+  pub rows : length (rowOf k) ≡ k
+  rows = every-length 0 k
+
+  -- its headers settle the settings sent
+  abbrev pub flips : ℕ → ℕ
+  flips i = headerFlips (imageOf u) s i
+
+  pub headers-first : readings first (rowOf k) ≡ each (λ i. Codeword (sentMessage u i) (flips i)) k
+  headers-first =
+      readings-are first k
+      ∙ same-each (λ i. H.reading (wordIn first i)) (λ i. Codeword (sentMessage u i) (flips i)) k (λ i h.
+      ap (λ (l : List ℕ). H.reading (value (bits l))) (part-first (144 * i + 2) 4 (omega arith)) ∙ header-read u s i (omega arith) (d .headers i (omega arith)))
+
+  pub settles-first : 0 < k → (2 ≤ k) ⊎ (flips 0 ≡ 0) → settling (readings first (rowOf k)) ≡ Settled (sentCommon u)
+  settles-first some x = ap settling headers-first ∙ by (decLt k 2) x
+    where
+      two : 2 ≤ k → settling (each (λ i. Codeword (sentMessage u i) (flips i)) k) ≡ Settled (sentCommon u)
+      two h =
+          all-agree (each (λ i. Codeword (sentMessage u i) (flips i)) k) (sentCommon u) (omega (arith, length-each (λ i. Codeword (sentMessage u i) (flips i)) k))
+          (all-have (sentMessage u) flips (sentCommon u) k (common-sent u))
+
+      by : Dec (k < 2) → (2 ≤ k) ⊎ (flips 0 ≡ 0) → settling (each (λ i. Codeword (sentMessage u i) (flips i)) k) ≡ Settled (sentCommon u)
+      by (no n) y = two (omega arith)
+      by (yes l) (inl h) = two h
+      by (yes l) (inr z) =
+          let e : k ≡ 1 = omega arith in
+          ap (λ (n : ℕ). settling (each (λ i. Codeword (sentMessage u i) (flips i)) n)) e
+          ∙ ap (λ (f : ℕ). settling (Codeword (sentMessage u 0) f ∷ [])) z ∙ only-clean (sentMessage u 0) ∙ ap Settled (common-sent u 0)
+
+  -- its packets are those of the image
+  pub packet-first : (q : ℕ) → q < multiframePairs * k → packetAt first (rowOf k) q ≡ packetIn s q
+  packet-first q h =
+      packet-at first k q h ∙ ap (λ (l : List ℕ). part (packetStart q) packetBits (bits l)) (part-first (144 * (q / 12) + 2 + 4) 138 (omega arith))
+
+  abbrev pub all : List ℕ
+  all = allFrames first (rowOf k)
+
+  -- and an undamaged pair's frames stand in it as they were written
+  pub frame-first : (j : ℕ) → j < multiframeFrames * k → packetIn s (pairOf j) ≡ packetOf (u .indices) (pairOf j) → part (frameIndices * j) frameIndices all ≡ frameAt (u .indices) j
+  unfolding framesOf
+  frame-first j h e =
+      let q = j / 2 in
+      let f = frameAt (u .indices) (2 * q) in
+      let g = frameAt (u .indices) (2 * q + 1) in
+      let lf : length f ≡ 7 = length-row (u .indices) (7 * (2 * q)) 7 in
+      let lg : length g ≡ 7 = length-row (u .indices) (7 * (2 * q + 1)) 7 in
+      let pair : part (14 * q) 14 all ≡ f ++ g =
+      frames-at first (rowOf k) q (omega (arith, rows)) ∙ ap (apart widths) (packet-first q (omega arith) ∙ e)
+      ∙ packetOf-back (u .indices) q (fits-each-frame u (firstFrame q)) (fits-each-frame u (secondFrame q)) in
+      let room : 14 * q + 14 ≤ length all = omega (arith, length-all first (rowOf k), rows) in
+      elim (ℕ-discrete (2 * q) j) [
+        | yes x ↦
+            let a : 7 * j ≡ 14 * q + 0 = omega arith in
+            ap (λ (i : ℕ). part i 7 all) a ∙ part-within all (14 * q) 14 0 7 room (omega arith) ∙ ap (part 0 7) pair ∙ take-at f g 7 lf ∙ ap (frameAt (u .indices)) x
+        | no x ↦
+            let a : 7 * j ≡ 14 * q + 7 = omega arith in
+            let b : 2 * q + 1 ≡ j = omega arith in
+            ap (λ (i : ℕ). part i 7 all) a ∙ part-within all (14 * q) 14 7 7 room (omega arith) ∙ ap (part 7 7) pair ∙ part-right f g 7 7 lf
+            ∙ take-all 7 g (omega arith) ∙ ap (frameAt (u .indices)) b
+      ]
+
+  module _ (codebook thresholds : List ℤ) where
+    abbrev pub ns : List ℕ
+    ns = pairNotes first (rowOf k) codebook thresholds
+
+    pub notes-size : length ns ≡ pairCount (rowOf k)
+    notes-size = length-notes first (rowOf k) codebook thresholds
+
+    -- with a good pair, settings and room it is read
+    pub read-first : (index report : List ℕ) → 0 < k → (2 ≤ k) ⊎ (flips 0 ≡ 0) → Good ns → Lent k codebook thresholds index report
+        → reading first codebook thresholds index report
+        ≡ outcome (Read (summary first (rowOf k) ns (sentCommon u))) (over index 0 (indexOctets * length (rowOf k)) (indexPart first (rowOf k) ns))
+        (over report 0 (reportOctets * length (rowOf k)) (reportPart first (rowOf k) ns (sentCommon u)))
+    read-first index report some heads good lent =
+        reads-as first k (omega (arith, few)) size-first syncs-first codebook thresholds index report (sentCommon u) some lent
+        record {
+          settles = settles-first some heads;
+          usable = record { rate = λ e. rate-not-2 u (sym (rate-sent u) ∙ e); exp = exp-sent u };
+          roomy = record {
+            index-room = subst (λ (n : ℕ). indexOctets * n ≤ length index) (sym rows) (lent .index-room);
+            report-room = subst (λ (n : ℕ). reportOctets * n ≤ length report) (sym rows) (lent .report-room);
+            not-all = λ e. none-good ns (e ∙ sym notes-size) (good .pair) (good .within) (good .good);
+          };
+        }

@@ -1,0 +1,134 @@
+-- Literal utterances, and tables, on which the promises are tried. Frames and pairs count from 0 in the laws, and from 1 in the comments.
+-- Assumes nothing.
+use mathlib.Core.Path.{_≡_, refl, sym}
+use mathlib.Core.Bool.{Bool, true, false}
+use mathlib.Core.List.{List, [], _∷_, _++_}
+use Prim.Native.Nat.{ℕ, zero, suc, _*_, _^_, _<_}
+use native.Mathlib.Nat.{le-of-eq}
+use lib.Dec.{T, ltb, lit<}
+use lib.IntN.{ℤ, pos}
+use lib.ListN.{getD, replicate, length-replicate}
+use borrow.Author.Tests.{ltb-true}
+use Rattle.lists.specs.Tests.{when, true-false, all-holds}
+use Rattle.lists.specs.Rows.{joined}
+use Rattle.layout.specs.Layout.{frameIndices, indexOctets, reportOctets, thresholdNumbers, firstFrame, secondFrame}
+use Rattle.packet.specs.Packet.{row, frameAt}
+use Rattle.consistency.specs.Consistency.{flagged, flags, inconsistent}
+use Rattle.writer.specs.Writing.{verdict, roomAnswer, firstFrom, needed}
+use Rattle.writer.specs.Made.{Small}
+use Rattle.writer.specs.Image.{Utterance, multiframesOf}
+use Rattle.writer.specs.declared.Answer.the-variants.{Written}
+use Rattle.demands.specs.Whole.{Lent}
+use Rattle.demands.specs.Met.{indexFor, reportFor}
+
+-- every one of a list's numbers is an octet, computed
+abbrev pub octetsOnly : List ℕ → Bool
+octetsOnly [] = true
+octetsOnly (x ∷ l) = when (ltb x 256) (octetsOnly l) false
+
+-- then each is small
+pub small-octets : (l : List ℕ) → octetsOnly l ≡ true → Small l
+small-octets [] e i = lit< tt
+small-octets (x ∷ l) e i = by (ltb x 256) refl e i (λ z j. small-octets l z j)
+  where
+    by : (t : Bool) → ltb x 256 ≡ t → when t (octetsOnly l) false ≡ true → (i : ℕ) → (octetsOnly l ≡ true → Small l) → getD (x ∷ l) i 0 < 2 ^ 8
+    by true h z zero f = ltb-true x 256 h
+    by true h z (suc i) f = f z i
+    by false h z i f = absurd (true-false (sym z))
+
+-- 8 kHz, type 0, 24 frames of ones, which take two multiframes
+pub written-24 : verdict 0 0 (replicate 168 1) (needed (replicate 168 1)) ≡ Written (needed (replicate 168 1))
+unfolding verdict roomAnswer firstFrom
+written-24 = refl
+
+abbrev pub ones24 : Utterance
+ones24 = record { rate = 0; kind = 0; indices = replicate 168 1; small = small-octets (replicate 168 1) refl; written = written-24 }
+
+-- the same with frame 22 of zeros
+abbrev pub gap : List ℕ
+gap = replicate 147 1 ++ (replicate frameIndices 0 ++ replicate 14 1)
+
+pub written-gap : verdict 0 0 gap (needed gap) ≡ Written (needed gap)
+unfolding verdict roomAnswer firstFrom
+written-gap = refl
+
+abbrev pub gap24 : Utterance
+gap24 = record { rate = 0; kind = 0; indices = gap; small = small-octets gap refl; written = written-gap }
+
+pub zero-22 : frameAt gap 21 ≡ replicate frameIndices 0
+unfolding row
+zero-22 = refl
+
+-- ---- frames that rise: one of ones, one of twos, and so on, 2n + 1 of them; behind the last, of ones, stands padding
+abbrev pub rising : ℕ → List ℕ
+rising zero = replicate frameIndices 1
+rising (suc n) = replicate frameIndices 1 ++ (replicate frameIndices 2 ++ rising n)
+
+pub written-23 : verdict 0 0 (rising 11) (needed (rising 11)) ≡ Written (needed (rising 11))
+unfolding verdict roomAnswer firstFrom
+written-23 = refl
+
+pub written-47 : verdict 0 0 (rising 23) (needed (rising 23)) ≡ Written (needed (rising 23))
+unfolding verdict roomAnswer firstFrom
+written-47 = refl
+
+pub written-7 : verdict 0 0 (rising 3) (needed (rising 3)) ≡ Written (needed (rising 3))
+unfolding verdict roomAnswer firstFrom
+written-7 = refl
+
+-- 23 frames, one multiframe; 47 frames, two; 7 frames, one multiframe of which most is padding
+abbrev pub rises23 : Utterance
+rises23 = record { rate = 0; kind = 0; indices = rising 11; small = small-octets (rising 11) refl; written = written-23 }
+
+abbrev pub rises47 : Utterance
+rises47 = record { rate = 0; kind = 0; indices = rising 23; small = small-octets (rising 23) refl; written = written-47 }
+
+abbrev pub rises7 : Utterance
+rises7 = record { rate = 0; kind = 0; indices = rising 3; small = small-octets (rising 3) refl; written = written-7 }
+
+pub lengths : (multiframesOf rises23 ≡ 1) × (multiframesOf rises47 ≡ 2) × (multiframesOf rises7 ≡ 1)
+lengths = (refl, refl, refl)
+
+-- ---- tables under which a pair of these frames is inconsistent: entry 1 of each codebook is 0, every other is 5, and all thresholds are 4. A rise of 5
+-- from the first frame to the second is flagged, a fall and no change are not
+abbrev pub stair : ℕ → List ℤ
+stair n = pos 5 ∷ pos 5 ∷ pos 0 ∷ pos 0 ∷ replicate n (pos 5)
+
+abbrev pub stairBook : List ℤ
+stairBook = joined (λ c. stair 124) 6 ++ stair 508
+
+abbrev pub fours : List ℤ
+fours = replicate thresholdNumbers (pos 4)
+
+pub lent-stairs : (m : ℕ) → Lent m stairBook fours (indexFor m) (reportFor m)
+lent-stairs m = record {
+  codebook-size = refl;
+  thresholds-size = refl;
+  index-room = le-of-eq (sym (length-replicate (indexOctets * m) 0));
+  report-room = le-of-eq (sym (length-replicate (reportOctets * m) 0));
+}
+
+-- which pairs are inconsistent: of 23 and of 47 frames all, also the last, whose second frame is padding
+abbrev oddPair : List ℕ → ℕ → Bool
+oddPair idx q = inconsistent stairBook fours (frameAt idx (firstFrame q)) (frameAt idx (secondFrame q))
+
+is-true : (b : Bool) → T b → b ≡ true
+is-true true t = refl
+is-true false t = absurd t
+
+pub odd-23 : (q : ℕ) → q < 12 → inconsistent stairBook fours (frameAt (rising 11) (firstFrame q)) (frameAt (rising 11) (secondFrame q)) ≡ true
+unfolding inconsistent flags flagged row
+odd-23 q h = is-true (oddPair (rising 11) q) (all-holds (oddPair (rising 11)) 12 tt q h)
+
+pub odd-47 : (q : ℕ) → q < 24 → inconsistent stairBook fours (frameAt (rising 23) (firstFrame q)) (frameAt (rising 23) (secondFrame q)) ≡ true
+unfolding inconsistent flags flagged row
+odd-47 q h = is-true (oddPair (rising 23) q) (all-holds (oddPair (rising 23)) 24 tt q h)
+
+-- of 7 frames the first four pairs, and not the fifth, which is padding
+pub odd-7 : (q : ℕ) → q < 4 → inconsistent stairBook fours (frameAt (rising 3) (firstFrame q)) (frameAt (rising 3) (secondFrame q)) ≡ true
+unfolding inconsistent flags flagged row
+odd-7 q h = is-true (oddPair (rising 3) q) (all-holds (oddPair (rising 3)) 4 tt q h)
+
+pub even-7 : inconsistent stairBook fours (frameAt (rising 3) (firstFrame 4)) (frameAt (rising 3) (secondFrame 4)) ≡ false
+unfolding inconsistent flags flagged row
+even-7 = refl

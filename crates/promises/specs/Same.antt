@@ -1,0 +1,121 @@
+-- OCTETS THAT HOLD THE SAME MULTIFRAMES ARE READ THE SAME, wherever these stand in them.
+-- Assumes nothing.
+use mathlib.Core.Path.{_≡_, refl, sym, ap, ap₂, _∙_}
+use mathlib.Core.Bool.{Bool, not}
+use mathlib.Core.List.{List, _∷_}
+use Prim.Native.Nat.{ℕ, _+_, _*_, _/_, _%_, _≤_, _<_}
+use native.Mathlib.Omega.{arith}
+use lib.Dec.{eqb}
+use lib.IntN.{ℤ}
+use lib.ListN.{length, take, drop, getD}
+use borrow.Author.Tests.{ne-eqb}
+use Rattle.lists.specs.Tests.{when}
+use Rattle.lists.specs.Parts.{part, over}
+use Rattle.lists.specs.Rows.{each, joined, same-each, same-joined}
+use Rattle.layout.specs.Layout.{widths, frameIndices, dataBits, multiframePairs, multiframeOctets, indexOctets, reportOctets, codebookNumbers, thresholdNumbers, firstPair}
+use Rattle.bits.specs.Bits.{value, bits}
+use Rattle.crc.specs.Crc.{right}
+use Rattle.packet.specs.Packet.{apart}
+use Rattle.consistency.specs.Consistency.{inconsistent}
+use Rattle.cutting.specs.Cutting.{whole, cutting}
+use Rattle.header.specs.Reading as H
+use Rattle.header.specs.Message.{rateOf, typeOf}
+use Rattle.header.specs.declared.Header.{Header}
+use Rattle.header.specs.declared.Header.the-variants.{Lost}
+use Rattle.settling.specs.Settling.{readings, settling, headerNote, headerWord}
+use Rattle.pairs.specs.Pairs.{streamAt, packetAt, pairCount, pairFails, framesOf, allFrames, pairOdd, pairNotes}
+use Rattle.judging.specs.Judging.{notes, badPairs}
+use Rattle.replacing.specs.Replacing.{replaced}
+use Rattle.replacing.specs.Speech.{speechOf, endOf}
+use Rattle.reader.specs.Reading.{reportPart, settledVerdict, wholeVerdict, verdict, finished, Outcome, outcome, reading}
+use Rattle.reader.specs.declared.Verdict.{Verdict}
+use Rattle.reader.specs.declared.Verdict.the-variants.{Refuse, Accept}
+use Rattle.reader.specs.declared.Answer.the-variants.{Read}
+use Rattle.reader.specs.declared.Refusal.the-variants.{WrongTables}
+use Rattle.writer.specs.Made.{part-within}
+
+-- two lists of octets, each with the places of as many multiframes, the k-th of the one the same as the k-th of the other
+module _ (o₁ p₁ o₂ p₂ : List ℕ) (count : length p₁ ≡ length p₂)
+    (same : (k : ℕ) → k < length p₁ → part (getD p₁ k 0) multiframeOctets o₁ ≡ part (getD p₂ k 0) multiframeOctets o₂)
+    (room₁ : (k : ℕ) → k < length p₁ → getD p₁ k 0 + multiframeOctets ≤ length o₁) (room₂ : (k : ℕ) → k < length p₂ → getD p₂ k 0 + multiframeOctets ≤ length o₂) where
+  piece : (k a v : ℕ) → k < length p₁ → a + v ≤ multiframeOctets → part (getD p₁ k 0 + a) v o₁ ≡ part (getD p₂ k 0 + a) v o₂
+  piece k a v h l =
+      part-within o₁ (getD p₁ k 0) multiframeOctets a v (room₁ k h) l ∙ ap (part a v) (same k h)
+      ∙ sym (part-within o₂ (getD p₂ k 0) multiframeOctets a v (room₂ k (omega arith)) l)
+
+  headers-same : readings o₁ p₁ ≡ readings o₂ p₂
+  unfolding readings
+  headers-same =
+      same-each (λ k. H.reading (headerWord o₁ (getD p₁ k 0))) (λ k. H.reading (headerWord o₂ (getD p₂ k 0))) (length p₁)
+      (λ k h. ap (λ (l : List ℕ). H.reading (value (bits l))) (piece k 2 4 h (omega arith)))
+      ∙ ap (each (λ k. H.reading (headerWord o₂ (getD p₂ k 0)))) count
+
+  stream-same : (k : ℕ) → k < length p₁ → streamAt o₁ p₁ k ≡ streamAt o₂ p₂ k
+  stream-same k h =
+      let a : getD p₁ k 0 + 2 + 4 ≡ getD p₁ k 0 + 6 = omega arith in
+      let b : getD p₂ k 0 + 6 ≡ getD p₂ k 0 + 2 + 4 = omega arith in
+      ap (λ (i : ℕ). part i 138 o₁) a ∙ piece k 6 138 h (omega arith) ∙ ap (λ (i : ℕ). part i 138 o₂) b
+
+  packet-same : (q : ℕ) → q < multiframePairs * length p₁ → packetAt o₁ p₁ q ≡ packetAt o₂ p₂ q
+  packet-same q h = ap (λ (l : List ℕ). part (92 * (q % 12)) 92 (bits l)) (stream-same (q / 12) (omega arith))
+
+  pairs-count : pairCount p₁ ≡ pairCount p₂
+  pairs-count = ap (λ (n : ℕ). multiframePairs * n) count
+
+  frames-same : allFrames o₁ p₁ ≡ allFrames o₂ p₂
+  unfolding allFrames framesOf
+  frames-same =
+      same-joined (framesOf o₁ p₁) (framesOf o₂ p₂) (pairCount p₁) (λ q h. ap (apart widths) (packet-same q h)) ∙ ap (joined (framesOf o₂ p₂)) pairs-count
+
+  module _ (codebook thresholds : List ℤ) where
+    notes-same : pairNotes o₁ p₁ codebook thresholds ≡ pairNotes o₂ p₂ codebook thresholds
+    unfolding pairNotes pairFails pairOdd framesOf
+    notes-same =
+        ap₂ notes
+        (same-each (pairFails o₁ p₁) (pairFails o₂ p₂) (pairCount p₁) (λ q h. ap (λ (l : List Bool). not (right dataBits l)) (packet-same q h)) ∙ ap (each (pairFails o₂ p₂)) pairs-count)
+        (same-each (pairOdd o₁ p₁ codebook thresholds) (pairOdd o₂ p₂ codebook thresholds) (pairCount p₁)
+        (λ q h. ap (λ (l : List Bool). inconsistent codebook thresholds (take frameIndices (apart widths l)) (drop frameIndices (apart widths l))) (packet-same q h))
+        ∙ ap (each (pairOdd o₂ p₂ codebook thresholds)) pairs-count)
+
+    module _ (index report : List ℕ) where
+      -- what success gives depends on the headers, the frames, the notes and the count alone
+      given : ℕ → List Header → List ℕ → List ℕ → ℕ → Outcome
+      given m hs fs ns c = outcome
+          (Read (record {
+            rate = rateOf c;
+            kind = typeOf c;
+            multiframes = m;
+            speech = speechOf m (replaced ns fs);
+            bad = badPairs ns;
+            end = endOf m (replaced ns fs);
+          }))
+          (over index 0 (indexOctets * m) (replaced ns fs))
+          (over report 0 (reportOctets * m) (joined (λ k. headerNote c k (getD hs k Lost) ∷ part (firstPair k) multiframePairs ns) m))
+
+      finished-same : (v : Verdict) → finished o₁ codebook thresholds index report p₁ v ≡ finished o₂ codebook thresholds index report p₂ v
+      unfolding reportPart given
+      finished-same (Refuse r) = refl
+      finished-same (Accept c) =
+          ap₂ (λ (m : ℕ) (hs : List Header). given m hs (allFrames o₁ p₁) (pairNotes o₁ p₁ codebook thresholds) c) count headers-same
+          ∙ ap₂ (λ (fs ns : List ℕ). given (length p₂) (readings o₂ p₂) fs ns c) frames-same notes-same
+
+      verdict-same : 0 < length p₁ → wholeVerdict o₁ codebook thresholds (length index) (length report) p₁ ≡ wholeVerdict o₂ codebook thresholds (length index) (length report) p₂
+      unfolding wholeVerdict
+      verdict-same h =
+          rw (ne-eqb (length p₁) 0 (λ e. omega arith), ne-eqb (length p₂) 0 (λ e. omega arith))
+          (ap₂ (λ (m : ℕ) (ns : List ℕ). settledVerdict m (badPairs ns) (multiframePairs * m) (length index) (length report) (settling (readings o₁ p₁))) count notes-same
+          ∙ ap (λ (hs : List Header). settledVerdict (length p₂) (badPairs (pairNotes o₂ p₂ codebook thresholds)) (pairCount p₂) (length index) (length report) (settling hs))
+          headers-same)
+
+      -- the verdict, if the tables have their sizes
+      abbrev tabled : Verdict → Verdict
+      tabled v = when (eqb (length codebook) codebookNumbers) (when (eqb (length thresholds) thresholdNumbers) v (Refuse WrongTables)) (Refuse WrongTables)
+
+      -- if these are what cutting finds, and there is one, the whole outcome is the same
+      pub same-read : cutting o₁ ≡ record { places = p₁; ending = whole } → cutting o₂ ≡ record { places = p₂; ending = whole } → 0 < length p₁
+          → reading o₁ codebook thresholds index report ≡ reading o₂ codebook thresholds index report
+      unfolding reading verdict
+      same-read c₁ c₂ h =
+          rw (c₁, c₂)
+          (finished-same (tabled (wholeVerdict o₁ codebook thresholds (length index) (length report) p₁))
+          ∙ ap (λ (v : Verdict). finished o₂ codebook thresholds index report p₂ (tabled v)) (verdict-same h))
