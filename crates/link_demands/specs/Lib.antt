@@ -4,3 +4,4 @@ pub mod Named
 pub mod OnAir
 pub mod Apart
 pub mod Met
+pub mod Cut
