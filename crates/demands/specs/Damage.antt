@@ -4,12 +4,16 @@ use mathlib.Core.Path.{_≡_, sym, ap, _∙_, subst}
 use mathlib.Core.Bool.{Bool, true, false}
 use mathlib.Core.List.{List}
 use mathlib.Core.Logic.{_⊎_, inl, inr}
-use Prim.Native.Nat.{ℕ, _+_, _*_, _≤_, _<_}
+use Prim.Native.Nat.{ℕ, _+_, _*_, _^_, _≤_, _<_}
+use native.Mathlib.Nat.{lt-of-lt-of-le}
 use native.Mathlib.Omega.{arith}
-use lib.Bits.{bitXor}
-use lib.Count.{ones}
-use lib.ListN.{length, getD}
+use lib.Bits.{bitXor, xor-lt}
+use lib.Count.{ones, ones-le}
+use lib.ListN.{length, drop, getD, length-take}
+use lib.Pow.{pow-mono}
 use Rattle.layout.specs.Layout.{dataBits, multiframePairs}
+use Rattle.bits.specs.Bits.{bits}
+use Rattle.bits.specs.Laws.{length-bits, value-lt}
 use Rattle.crc.specs.Crc.{Damaged, right}
 use Rattle.packet.specs.Packet.{packetOf}
 use Rattle.packet.specs.Laws.{packetOf-good, packetOf-damaged}
@@ -19,7 +23,7 @@ use Rattle.header.specs.Message.Laws.{message-lt}
 use Rattle.header.specs.Reading.{reading}
 use Rattle.header.specs.Reading.Laws.{near, lost-at-three}
 use Rattle.header.specs.declared.Header.the-variants.{Codeword, Lost}
-use Rattle.writer.specs.Made.{Small, syncIn, wordIn, packetIn}
+use Rattle.writer.specs.Made.{Small, syncIn, headerIn, wordIn, packetIn}
 use Rattle.writer.specs.Image.{image-word, image-packet, Utterance, multiframesOf, pairsOf, imageOf}
 
 -- ---- the damage: `sent` is an image of m multiframes, `got` is what came of it
@@ -51,6 +55,15 @@ Damage m sent got = DamageUpTo 2 m sent got
 -- as much as a header can have, and so no limit: a header has 32 bits
 abbrev pub headerBits : ℕ
 headerBits = 32
+
+word-lt : (s : List ℕ) (k : ℕ) → wordIn s k < 2 ^ headerBits
+word-lt s k =
+    let h = headerIn s k in
+    let l : length (bits h) ≤ 32 = omega (arith, length-bits h, length-take 4 (drop (144 * k + 2) s)) in
+    lt-of-lt-of-le (value-lt (bits h)) (pow-mono l)
+
+pub any-header : (sent got : List ℕ) (k : ℕ) → headerFlips sent got k ≤ headerBits
+any-header sent got k = ones-le 32 (bitXor (wordIn got k) (wordIn sent k)) (xor-lt 32 (wordIn got k) (wordIn sent k) (word-lt got k) (word-lt sent k))
 
 -- less damage is such damage
 pub loosened : {a b m : ℕ} {sent got : List ℕ} → a ≤ b → DamageUpTo a m sent got → DamageUpTo b m sent got
