@@ -62,14 +62,14 @@ abbrev pub mendedReport : Utterance → List ℕ → List ℕ
 mendedReport u s = joined (λ k. headerFlips (imageOf u) s k ∷ replicate multiframePairs 0) (multiframesOf u)
 
 -- ---- lists of zeros
-zeros : (l : List ℕ) → ((i : ℕ) → i < length l → getD l i 0 ≡ 0) → l ≡ replicate (length l) 0
+pub zeros : (l : List ℕ) → ((i : ℕ) → i < length l → getD l i 0 ≡ 0) → l ≡ replicate (length l) 0
 zeros l h = ext-getD 0 l (replicate (length l) 0) (sym (length-replicate (length l) 0)) (λ i k. h i k ∙ sym (getD-replicate (length l) i 0 0 k))
 
-none-bad : (l : List ℕ) → ((i : ℕ) → i < length l → getD l i 0 ≡ 0) → badPairs l ≡ 0
+pub none-bad : (l : List ℕ) → ((i : ℕ) → i < length l → getD l i 0 ≡ 0) → badPairs l ≡ 0
 none-bad [] h = refl
 none-bad (x ∷ l) h = rw (eq-eqb x 0 (h 0 (omega arith))) (none-bad l (λ i k. h (suc i) (omega arith)))
 
-zero-rows : (w m : ℕ) → joined {A = ℕ} (λ k. replicate w 0) m ≡ replicate (w * m) 0
+pub zero-rows : (w m : ℕ) → joined {A = ℕ} (λ k. replicate w 0) m ≡ replicate (w * m) 0
 zero-rows w zero = ap (λ (n : ℕ). replicate n 0) (sym (mul-zero w))
 zero-rows w (suc m) =
     ap (λ (l : List ℕ). l ++ replicate w 0) (zero-rows w m) ∙ replicate-append-replicate (w * m) w 0 ∙ ap (λ (n : ℕ). replicate n 0) (sym (mul-suc w m))

@@ -5,61 +5,15 @@ use mathlib.Core.Path.{_≡_, refl, sym, ap, _∙_, subst}
 use mathlib.Core.List.{List}
 use mathlib.Core.Logic.{_↔_}
 use Prim.Native.Nat.{ℕ, _+_, _*_, _≤_, _<_}
-use native.Mathlib.Omega.{arith}
-use lib.ListN.{length, take, drop, getD}
-use lib.Seq.{take-at}
+use lib.ListN.{getD}
 use Rattle.layout.specs.Layout.{frameIndices, multiframePairs, multiframeOctets, firstFrame, secondFrame}
 use Rattle.packet.specs.Packet.{frameAt}
 use Rattle.packet.specs.Laws.{getD-row}
-use Rattle.writer.specs.Writing.{frameCount, multiframesFor, needed, writing}
-use Rattle.writer.specs.Laws.{length-image, Accepted, accepts}
-use Rattle.writer.specs.Laws as L
-use Rattle.writer.specs.Made.{Small}
-use Rattle.writer.specs.Image.{Utterance, imageOf, success}
-use Rattle.writer.specs.declared.Answer.the-variants.{Written}
+use Rattle.writer.specs.Image.{imageOf}
 use Rattle.demands.specs.Damage.{DamageUpTo, headerBits, headerFlips, Touched}
 use Rattle.demands.specs.ToldApart.{Alike, told-by-one}
-use Rattle.link_demands.specs.Calls.{dsrWrite, write-zero}
-use Rattle.link_demands.specs.Back.{accepted}
-
--- a call of dsr_write that answered 0, of octets
-pub record Call (rate kind : ℕ) (indices out : List ℕ) : Type 0 where
-  pub small : Small indices
-  pub written : dsrWrite rate kind indices out .number ≡ 0
-
--- the octets written
-abbrev pub octetsOf : ℕ → ℕ → List ℕ → List ℕ → List ℕ
-octetsOf rate kind indices out = take (dsrWrite rate kind indices out .place) (dsrWrite rate kind indices out .output)
-
-abbrev pub countOf : List ℕ → ℕ
-countOf indices = multiframesFor (frameCount indices)
-
-module _ (rate kind : ℕ) (indices out : List ℕ) (c : Call rate kind indices out) where
-  abbrev n : ℕ
-  n = dsrWrite rate kind indices out .place
-
-  ok : writing rate kind indices out .answer ≡ Written n
-  ok = write-zero rate kind indices out (c .written)
-
-  took : Accepted rate kind indices (length out) n
-  took = L.accepted rate kind indices (length out) n (accepted rate kind indices out n ok)
-
-  abbrev called : Utterance
-  called = record {
-    rate = rate;
-    kind = kind;
-    indices = indices;
-    small = c .small;
-    written = accepts rate kind indices (needed indices) (took .sizes) (took .narrow-indices) (took .speaks) (omega arith);
-  }
-
-  place-is : dsrWrite rate kind indices out .place ≡ multiframeOctets * countOf indices
-  place-is = success rate kind indices out n ok .0
-
-  octets-are : octetsOf rate kind indices out ≡ imageOf called
-  octets-are =
-      ap (take n) (success rate kind indices out n ok .1)
-      ∙ take-at (imageOf called) (drop (0 + n) out) n (length-image rate kind indices (countOf indices) ∙ sym place-is)
+use Rattle.link_demands.specs.Calls.{dsrWrite}
+use Rattle.link_demands.specs.Called.{Call, octetsOf, countOf, called, place-is, octets-are}
 
 -- two calls, and octets that both outputs can be damaged into
 module _ (rate kind : ℕ) (indices out : List ℕ) (rate′ kind′ : ℕ) (indices′ out′ s : List ℕ) where

@@ -9,15 +9,10 @@ use lib.IntN.{ℤ}
 use lib.ListN.{length, take, drop, getD, replicate, length-replicate, List·getD-eq-default}
 use Rattle.lists.specs.Parts.{over}
 use Rattle.layout.specs.Layout.{frameIndices, multiframeOctets, indexOctets, reportOctets}
-use Rattle.writer.specs.Writing as W
-use Rattle.writer.specs.Writing.{frameCount, multiframesFor, needed, writing, verdict}
-use Rattle.writer.specs.Laws.{length-image, Accepted, accepts}
-use Rattle.writer.specs.Laws as L
+use Rattle.writer.specs.Writing.{frameCount, multiframesFor}
+use Rattle.writer.specs.Laws.{accepts}
 use Rattle.writer.specs.Made.{Small}
-use Rattle.writer.specs.Image.{Utterance, imageOf, whole-frames, success}
-use Rattle.writer.specs.declared.Answer as WA
-use Rattle.writer.specs.declared.Answer.the-variants.{Written}
-use Rattle.writer.specs.declared.Answer.the-variants as WV
+use Rattle.writer.specs.Image.{Utterance, whole-frames}
 use Rattle.reader.specs.Reading.{Outcome, reading}
 use Rattle.reader.specs.declared.Summary.{Summary}
 use Rattle.reader.specs.declared.Answer.the-variants.{Read}
@@ -26,16 +21,8 @@ use Rattle.demands.specs.Whole.{Lent, front-at}
 use Rattle.demands.specs.ReadsBack.{spoken, padded, no-more, length-padded, padded-at}
 use Rattle.demands.specs.ReadsBack as R
 use Rattle.demands.specs.WritesAgain as A
+use Rattle.link_demands.specs.Called.{Call, called, took, place-is, output-beyond-is}
 use Rattle.link_demands.specs.Calls.{beyond, WriteReturned, dsrWrite, write-zero, dsrRead, read-success, read-zero}
-
--- dsr_write's success is the writer's
-pub accepted : (rate kind : ℕ) (indices out : List ℕ) (n : ℕ) → writing rate kind indices out .answer ≡ Written n → verdict rate kind indices (length out) ≡ Written n
-unfolding writing
-accepted rate kind indices out n e = by (verdict rate kind indices (length out)) e
-  where
-    by : (v : WA.Answer) → W.finished rate kind indices out v .answer ≡ Written n → v ≡ Written n
-    by (Written k) e = e
-    by (WV.Refused r) e = e
 
 -- ---- READS BACK
 module _ (rate kind : ℕ) (indices out : List ℕ) (codebook thresholds : List ℤ) (index report answer : List ℕ) where
@@ -72,42 +59,24 @@ module _ (rate kind : ℕ) (indices out : List ℕ) (codebook thresholds : List 
     abbrev n : ℕ
     n = wrote .place
 
-    ok : writing rate kind indices out .answer ≡ Written n
-    ok = write-zero rate kind indices out (p .written)
-
-    took : Accepted rate kind indices (length out) n
-    took = L.accepted rate kind indices (length out) n (accepted rate kind indices out n ok)
+    call : Call rate kind indices out
+    call = record { small = p .small; written = p .written }
 
     abbrev u : Utterance
-    u = record {
-      rate = rate;
-      kind = kind;
-      indices = indices;
-      small = p .small;
-      written = accepts rate kind indices (needed indices) (took .sizes) (took .narrow-indices) (took .speaks) (omega arith);
-    }
+    u = called rate kind indices out call
 
     abbrev m : ℕ
     m = multiframesFor (frameCount indices)
 
-    octets-are : n ≡ multiframeOctets * m
-    octets-are = success rate kind indices out n ok .0
-
-    output-is : wrote .output ≡ over out 0 n (imageOf u)
-    output-is = success rate kind indices out n ok .1
-
-    image-size : length (imageOf u) ≡ n
-    image-size = length-image rate kind indices m ∙ sym octets-are
-
     b : R.Back u codebook thresholds out index report
-    b = R.reads-back u codebook thresholds out index report (record { output-room = took .room; lent = p .lent })
+    b = R.reads-back u codebook thresholds out index report (record { output-room = took rate kind indices out call .room; lent = p .lent })
 
     -- reading the octets written
     abbrev o : Outcome
     o = reading (take n (wrote .output)) codebook thresholds index report
 
     o-is : R.result u codebook thresholds out index report ≡ o
-    o-is = ap (λ (k : ℕ). reading (take k (wrote .output)) codebook thresholds index report) (sym octets-are)
+    o-is = ap (λ (k : ℕ). reading (take k (wrote .output)) codebook thresholds index report) (sym (place-is rate kind indices out call))
 
     back-is : back ≡ returned 0 (o .index) (o .report) (over answer 0 answerNumbers (summaryNumbers (spoken u)))
     back-is = read-success answer index report o (p .numbers) (spoken u) (ap (λ (x : Outcome). x .answer) (sym o-is) ∙ b .succeeds)
@@ -124,8 +93,8 @@ module _ (rate kind : ℕ) (indices out : List ℕ) (codebook thresholds : List 
 
     proof : ReadBack
     proof = record {
-      octets = octets-are;
-      output-beyond = ap (drop n) output-is ∙ beyond out (imageOf u) n (omega (arith, octets-are, took .room)) image-size;
+      octets = place-is rate kind indices out call;
+      output-beyond = output-beyond-is rate kind indices out call;
       number = ap (λ (x : Returned). x .number) back-is;
       numbers = ap (λ (x : Returned). x .answer) back-is;
       frames = λ i h. index-octet i (omega (arith, whole-frames u));

@@ -1,4 +1,5 @@
 pub mod Calls
+pub mod Called
 pub mod Back
 pub mod Named
 pub mod OnAir

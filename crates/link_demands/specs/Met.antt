@@ -28,7 +28,8 @@ use Rattle.link_demands.specs.Calls.{dsrWrite, dsrRead, read-success, ds
 use Rattle.link_demands.specs.Back.{BackPremises, AgainPremises}
 use Rattle.link_demands.specs.Named.{Tells, c-names-the-damage}
 use Rattle.link_demands.specs.OnAir.{c-names-on-air}
-use Rattle.link_demands.specs.Apart.{Call, octetsOf, Meet}
+use Rattle.link_demands.specs.Called.{Call, octetsOf}
+use Rattle.link_demands.specs.Apart.{Meet}
 
 -- room for six numbers, and for eight
 abbrev pub six : List ℕ

@@ -5,19 +5,18 @@ use mathlib.Core.Path.{_≡_, refl, sym, ap, ap₂, _∙_, subst}
 use mathlib.Core.Bool.{Bool, false, not}
 use mathlib.Core.List.{List, [], _∷_, _++_}
 use mathlib.Core.Logic.{inr}
-use Prim.Native.Nat.{ℕ, zero, suc, _+_, _-_, _*_, _/_, _%_, _≤_, _<_}
-use native.Mathlib.Nat.{mul-zero, mul-suc}
+use Prim.Native.Nat.{ℕ, _+_, _-_, _*_, _/_, _%_, _≤_, _<_}
 use native.Mathlib.Decide.{ℕ-discrete, decLt}
 use native.Mathlib.Omega.{arith}
 use lib.Bits.{xor-self}
 use lib.Count.{ones, ones-le}
 use lib.Dec.{lit<}
-use borrow.Author.Tests.{eq-eqb, ne-eqb, lt-ltb}
+use borrow.Author.Tests.{ne-eqb, lt-ltb}
 use lib.IntN.{ℤ}
-use lib.ListN.{length, take, drop, getD, replicate, length-drop, length-replicate, getD-replicate, replicate-append-replicate}
+use lib.ListN.{length, take, drop, getD, replicate, length-drop}
 use lib.Seq.{length-take-le, take-all, take-add, ext-getD, getD-take, getD-drop}
 use Rattle.lists.specs.Parts.{part, over, length-part}
-use Rattle.lists.specs.Rows.{joined, each-at, same-joined}
+use Rattle.lists.specs.Rows.{each-at, same-joined}
 use Rattle.layout.specs.Layout.{dataBits, multiframeFrames, multiframePairs, multiframeOctets, mostMultiframes, indexOctets, reportOctets, firstPair}
 use Rattle.crc.specs.Crc.{right}
 use Rattle.packet.specs.Packet.{packetOf}
@@ -48,25 +47,12 @@ use Rattle.demands.specs.Damages.{unharmed}
 use Rattle.demands.specs.Whole.{rowOf, Lent, nothing-replaced}
 use Rattle.demands.specs.Headers.{sentCommon, common-sent, rate-sent, kind-sent}
 use Rattle.demands.specs.Met.{zeroBook, zeroThresholds, indexFor, reportFor, lent-zeros}
-use Rattle.demands.specs.ReadsBack.{spoken, reads-image}
+use Rattle.demands.specs.ReadsBack.{spoken, reads-image, zeros, zero-rows, none-bad}
 use Rattle.demands.specs.WritesAgain as A
 use Rattle.promises.specs.Chunks.{multiframeCount, refused-behind, Chunked, chunked, Refuses, Tables, cut-refuses}
 use Rattle.promises.specs.Inverse.{nothing-14}
 use Rattle.promises.specs.First as F
 use Rattle.promises.specs.Said.{ones24}
-
--- ---- lists of zeros
-zeros : (l : List ℕ) → ((i : ℕ) → i < length l → getD l i 0 ≡ 0) → l ≡ replicate (length l) 0
-zeros l h = ext-getD 0 l (replicate (length l) 0) (sym (length-replicate (length l) 0)) (λ i k. h i k ∙ sym (getD-replicate (length l) i 0 0 k))
-
-zero-rows : (w m : ℕ) → joined {A = ℕ} (λ k. replicate w 0) m ≡ replicate (w * m) 0
-zero-rows w zero = ap (λ (n : ℕ). replicate n 0) (sym (mul-zero w))
-zero-rows w (suc m) =
-    ap (λ (l : List ℕ). l ++ replicate w 0) (zero-rows w m) ∙ replicate-append-replicate (w * m) w 0 ∙ ap (λ (n : ℕ). replicate n 0) (sym (mul-suc w m))
-
-none-bad : (l : List ℕ) → ((i : ℕ) → i < length l → getD l i 0 ≡ 0) → badPairs l ≡ 0
-none-bad [] h = refl
-none-bad (x ∷ l) h = rw (eq-eqb x 0 (h 0 (omega arith))) (none-bad l (λ i k. h (suc i) (omega arith)))
 
 -- ---- THE FIRST k MULTIFRAMES ALONE, fewer than all
 -- the success answer: the settings sent, k, all of its frames speech, no bad pair, and no end

@@ -4,14 +4,13 @@
 use mathlib.Core.Path.{_≡_, refl, sym, ap, ap₂, _∙_, subst}
 use mathlib.Core.Bool.{Bool, true, false}
 use mathlib.Core.List.{List, [], _∷_, _++_}
-use mathlib.Core.Logic.{_⊎_, inl, inr, ⊎-elim}
+use mathlib.Core.Logic.{_⊎_, inl, inr}
 use Prim.Native.Nat.{ℕ, zero, suc, _+_, _-_, _*_, _/_, _≤_, _<_}
 use native.Mathlib.Decide.{ℕ-discrete, decLt}
 use native.Mathlib.Omega.{arith}
 use lib.IntN.{ℤ}
 use lib.ListN.{length, take, drop, getD, take-append-drop}
 use lib.Seq.{length-take-le, take-at, take-all}
-use Rattle.lists.specs.Tests.{true-false}
 use Rattle.lists.specs.Parts.{part, over, part-left, part-right}
 use Rattle.lists.specs.Rows.{each, length-each, each-at, same-each}
 use Rattle.layout.specs.Layout.{widths, frameIndices, packetBits, multiframeFrames, multiframePairs, multiframeOctets, mostMultiframes, indexOctets, reportOctets, pairOf, firstFrame, secondFrame, packetStart}
@@ -29,7 +28,7 @@ use Rattle.settling.specs.Laws.{AllHave, all-agree, only-clean}
 use Rattle.settling.specs.declared.Settings.the-variants.{Settled}
 use Rattle.pairs.specs.Pairs.{packetAt, pairCount, pairFails, framesOf, allFrames, pairOdd, pairNotes}
 use Rattle.pairs.specs.Laws.{length-notes, length-all, frames-at}
-use Rattle.judging.specs.Judging.{bad, noteBy, notes}
+use Rattle.judging.specs.Judging.{noteBy, notes}
 use Rattle.judging.specs.Laws.{failed-is-1, consistent-is-good, badBefore, note-at, Good, none-good}
 use Rattle.replacing.specs.Speech.{allZero, zeroFrame}
 use Rattle.reader.specs.Reading.{indexPart, reportPart, summary, outcome, reading}
@@ -101,20 +100,6 @@ module _ (octets places : List ℕ) (codebook thresholds : List ℤ) (q : ℕ) (
   -- 0 if the CRC passes and the pair is consistent
   pub consistent-note : pairFails octets places q ≡ false → pairOdd octets places codebook thresholds q ≡ false → getD (pairNotes octets places codebook thresholds) q 0 ≡ 0
   consistent-note e o = note-is ∙ ap₂ (λ (f x : Bool). noteBy before f x after) e o ∙ consistent-is-good before after
-
-  -- 2 if the CRC passes and the pair is bad
-  zero-or-two : (b o a : Bool) → (noteBy b false o a ≡ 0) ⊎ (noteBy b false o a ≡ 2)
-  unfolding noteBy
-  zero-or-two b false a = inl refl
-  zero-or-two b true true = inr refl
-  zero-or-two true true false = inr refl
-  zero-or-two false true false = inl refl
-
-  pub bad-note : pairFails octets places q ≡ false → bad (getD (pairNotes octets places codebook thresholds) q 0) ≡ true → getD (pairNotes octets places codebook thresholds) q 0 ≡ 2
-  bad-note e b =
-      let o = pairOdd octets places codebook thresholds q in
-      let n : getD (pairNotes octets places codebook thresholds) q 0 ≡ noteBy before false o after = note-is ∙ ap (λ (f : Bool). noteBy before f o after) e in
-      ⊎-elim (λ z. absurd (true-false (sym b ∙ ap bad (n ∙ z)))) (λ z. n ∙ z) (zero-or-two before o after)
 
 -- ---- the first k of m multiframes
 module _ (u : Utterance) (s : List ℕ) (d : Damage (multiframesOf u) (imageOf u) s) (k : ℕ) (within : k ≤ multiframesOf u) where

@@ -14,15 +14,15 @@ use Rattle.layout.specs.Layout.{multiframeFrames, indexOctets, reportOctets, pa
 use Rattle.cutting.specs.Laws.{every-length}
 use Rattle.pairs.specs.Pairs.{pairNotes}
 use Rattle.replacing.specs.Speech.{allZero, zeroFrame, lastNonzero, speechOf, endOf}
-use Rattle.reader.specs.Reading.{indexPart, Outcome, outcome, reading}
+use Rattle.reader.specs.Reading.{indexPart, summary, Outcome, outcome, reading}
 use Rattle.reader.specs.declared.Summary.{Summary}
-use Rattle.reader.specs.declared.Answer.{Answer}
-use Rattle.reader.specs.declared.Answer.the-variants.{Read, Refused}
+use Rattle.reader.specs.declared.Answer.the-variants.{Read}
 use Rattle.writer.specs.Writing.{frameCount}
 use Rattle.writer.specs.Made.{packetIn}
 use Rattle.writer.specs.Image.{image-packet, Utterance, multiframesOf, pairsOf, imageOf}
 use Rattle.demands.specs.Damage.{Fate, whole, hit, fate}
 use Rattle.demands.specs.Whole.{rowOf, pairNoteIn}
+use Rattle.demands.specs.Headers.{sentCommon}
 use Rattle.demands.specs.Received.{touched-note}
 use Rattle.demands.specs.NamesTheDamage as N
 use Rattle.demands.specs.ReadsBack.{spoken, padded, mendedReport, padded-frame, speech-is-n, end-is-1, reads-undamaged}
@@ -33,14 +33,6 @@ unfolding lastNonzero
 same-place l r i zero same = refl
 same-place l r i (suc n) same =
     ap₂ (λ (t : Bool) (x : ℕ). when t x (suc n)) (same n (omega arith)) (same-place l r i n (λ k h. same k (omega arith)))
-
-summaryIn : Summary → Answer → Summary
-summaryIn a (Read b) = b
-summaryIn a (Refused r) = a
-
-same-summary : (a b : Summary) → Read a ≡ Read b → a ≡ b
-unfolding summaryIn
-same-summary a b e = ap (summaryIn a) e
 
 module _ (u : Utterance) (s : List ℕ) (codebook thresholds : List ℤ) (index report : List ℕ) (p : N.Wider u s codebook thresholds index report) where
   abbrev result : Outcome
@@ -100,5 +92,7 @@ module _ (u : Utterance) (s : List ℕ) (codebook thresholds : List ℤ) (index 
   pub last-heard : LastUnnamed → (given : Summary) → reading s codebook thresholds index report .answer ≡ Read given
       → (given .speech ≡ frameCount (u .indices)) × (given .end ≡ 1)
   last-heard none given e =
-      let g = same-summary given _ (sym e ∙ ap (λ (o : Outcome). o .answer) (N.read-is u s codebook thresholds index report p)) in
+      let r : Read given ≡ Read (summary s (rowOf m) (pairNotes s (rowOf m) codebook thresholds) (sentCommon u)) =
+      sym e ∙ ap (λ (o : Outcome). o .answer) (N.read-is u s codebook thresholds index report p) in
+      let g : given ≡ summary s (rowOf m) (pairNotes s (rowOf m) codebook thresholds) (sentCommon u) = cc in
       (ap (λ (x : Summary). x .speech) g ∙ last-speech none, ap (λ (x : Summary). x .end) g ∙ last-end none)

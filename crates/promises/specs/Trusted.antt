@@ -32,8 +32,7 @@ use Rattle.pairs.specs.Pairs.{pairCount, pairNotes}
 use Rattle.pairs.specs.Laws.{length-notes}
 use Rattle.reader.specs.Reading.{Outcome, outcome, reading}
 use Rattle.reader.specs.declared.Summary.{Summary}
-use Rattle.reader.specs.declared.Answer.{Answer}
-use Rattle.reader.specs.declared.Answer.the-variants.{Read, Refused}
+use Rattle.reader.specs.declared.Answer.the-variants.{Read}
 use Rattle.writer.specs.Laws.{few-multiframes, length-image}
 use Rattle.writer.specs.Made.{syncIn, wordIn, packetIn}
 use Rattle.writer.specs.Image.{image-sync, Utterance, multiframesOf, imageOf, is-accepted, rate-small, kind-small}
@@ -184,17 +183,10 @@ module _ (u : Utterance) (s : List ℕ) (p : Premises u s) (codebook thresholds 
   proof : AsWritten u s codebook thresholds index report given
   proof = record {
     image = is-sent;
-    sent = same-answer given (spoken u) (sym (x .succeeds) ∙ ap (λ (o : Outcome). o .answer) read-is);
+    sent = let r : Read given ≡ Read (spoken u) = sym (x .succeeds) ∙ ap (λ (o : Outcome). o .answer) read-is in cc;
     frames = ap (λ (o : Outcome). o .index) read-is;
     notes = ap (λ (o : Outcome). o .report) read-is;
   }
-    where
-      summaryIn : Summary → Answer → Summary
-      summaryIn a (Read b) = b
-      summaryIn a (Refused b) = a
-
-      same-answer : (a b : Summary) → Read a ≡ Read b → a ≡ b
-      same-answer a b e = ap (summaryIn a) e
 
 -- TRUSTED BY ONE HEADER
 pub trusted-by-one : (u : Utterance) (s : List ℕ) → Premises u s → (codebook thresholds : List ℤ) (index report : List ℕ) (given : Summary)
