@@ -19,8 +19,8 @@ use Rattle.header.specs.Message.Laws.{rate-back, type-back, count-back, exp-bac
 use Rattle.header.specs.Reading as H
 use Rattle.header.specs.declared.Header.{Header}
 use Rattle.header.specs.declared.Header.the-variants.{Codeword, Lost}
-use Rattle.settling.specs.Settling.{readings, settling, headerNote}
-use Rattle.settling.specs.Laws.{Has, has-read, read-has, settled-same, two-settle, note-lost, only-clean, only-mended, only-lost}
+use Rattle.settling.specs.Settling.{among, readings, settling, headerNote}
+use Rattle.settling.specs.Laws.{Has, Earlier, First, settled-first, has-read, read-has, settled-same, two-settle, note-lost, only-clean, only-mended, only-lost}
 use Rattle.settling.specs.declared.Settings.the-variants.{Settled, Unsettled}
 use Rattle.writer.specs.Made.{wordIn}
 use Rattle.writer.specs.Image.{Utterance, multiframesOf, imageOf, rate-small, kind-small}
@@ -178,6 +178,42 @@ module _ (u : Utterance) (s : List ℕ) (most : (k : ℕ) → k < multiframesOf 
   settles (inr x) =
       ap settling headers-read ∙ ap (λ (n : ℕ). settling (each (λ k. heardAs (sentMessage u k) (flips k)) n)) (x .0)
       ∙ ap (λ (f : ℕ). settling (heardAs (sentMessage u 0) f ∷ [])) (x .1) ∙ only-clean (sentMessage u 0) ∙ ap Settled (common-sent u 0)
+
+  -- and nothing else settles anything: of two headers or more two are readable
+  pub settled-readable : (c : ℕ) → 2 ≤ multiframesOf u → settling (readings s (rowOf (multiframesOf u))) ≡ Settled c → TwoReadable u s
+  settled-readable c two e = by (f .agrees .with)
+    where
+      hs : List Header
+      hs = readings s (rowOf (multiframesOf u))
+
+      long : length (readings s (rowOf (multiframesOf u))) ≡ multiframesOf u
+      long = ap length headers-read ∙ length-each (λ k. heardAs (sentMessage u k) (flips k)) m
+
+      f : First [] (readings s (rowOf (multiframesOf u))) c
+      f = settled-first (readings s (rowOf (multiframesOf u))) c (omega (arith, long)) e
+
+      -- a header that is read is one of them, and has at most two flips
+      inside : (k : ℕ) → Has (readings s (rowOf (multiframesOf u))) k c → (k < multiframesOf u) × (headerFlips (imageOf u) s k ≤ 2)
+      inside k x = by (decLt k m) (decLt 2 (flips k))
+        where
+          r : (a : ℕ) × ((g : ℕ) × ((getD (readings s (rowOf (multiframesOf u))) k Lost ≡ Codeword a g) × (commonBits a ≡ c)))
+          r = has-read (readings s (rowOf (multiframesOf u))) k c x
+
+          by : Dec (k < m) → Dec (2 < flips k) → (k < multiframesOf u) × (headerFlips (imageOf u) s k ≤ 2)
+          by (no o) y = absurd (lost-not-read (r .0) (r .1 .0) (sym (List·getD-eq-default (readings s (rowOf m)) Lost (omega (arith, long))) ∙ r .1 .1 .0))
+          by (yes h) (yes y) = absurd (lost-not-read (r .0) (r .1 .0) (sym (header-is k h ∙ heard-lost (sentMessage u k) (flips k) y) ∙ r .1 .1 .0))
+          by (yes h) (no y) = (h, omega arith)
+
+      by : (among c [] ≡ true) ⊎ Earlier (readings s (rowOf (multiframesOf u))) (f .at) c → TwoReadable u s
+      by (inl t) = absurd (true-false (sym t))
+      by (inr x) = record {
+        one = x .at;
+        two = f .at;
+        order = x .less;
+        within = inside (f .at) (f .agrees .has) .0;
+        few-of-one = inside (x .at) (x .has) .1;
+        few-of-two = inside (f .at) (f .agrees .has) .1;
+      }
 
   -- an only header that is touched settles nothing
   pub touched-unsettles : m ≡ 1 → (flips 0 ≡ 0 → ⊥) → settling (readings s (rowOf m)) ≡ Unsettled

@@ -64,6 +64,16 @@ bitsAnswered a p i r (Refused x) = bitsReturned (numberOf x) i r a (placeOf x)
 unfoldable pub bitsReturning : List ℕ → ℕ → List ℕ → List ℕ → Outcome → BitsReturned
 bitsReturning a p i r o = when (ltb (length a) countedNumbers) (bitsReturned 99 i r a p) (bitsAnswered a p (o .index) (o .report) (o .answer))
 
+-- ---- what the entries give, for every input: their contracts are equations with these
+-- dsr_hunt: its number and the three lent numbers; found and place as they came
+abbrev pub dsrHunt : List ℕ → ℕ → ℕ → ℕ → ℕ → HuntReturned
+dsrHunt octets from least found place = huntReturning found place (H.hunted octets from least)
+
+-- dsr_read_bits: its number, both buffers, the lent numbers and the place
+abbrev pub dsrReadBits : List ℕ → ℕ → ℕ → List ℤ → List ℤ → List ℕ → List ℕ → List ℕ → ℕ → BitsReturned
+dsrReadBits octets from least codebook thresholds index report answer place =
+    bitsReturning answer place index report (huntingReading octets from least codebook thresholds index report)
+
 -- ---- the entries' ends
 pub hunt-found : (f p q n : ℕ) (h : Hunted) → HA.Found q n ≡ h → huntReturned 0 q n p ≡ huntReturning f p h
 hunt-found f p q n h e = ap (huntReturning f p) e

@@ -21,7 +21,7 @@ use Rattle.reader.specs.declared.Refusal.{Refusal}
 use Rattle.reader.specs.declared.Answer.{Answer}
 use Rattle.reader.specs.declared.Answer.the-variants.{Read, Refused}
 use Rattle.writer.specs.Writing.{Search, at, nowhere, firstWide}
-use Rattle.link.specs.Link.{Packing, packed, narrowPacking, packing, Unpacking, unpacked, unpacking, framesOf, noteOf, answerNumbers, summaryNumbers, returned, answered, returning}
+use Rattle.link.specs.Link.{Packing, packed, narrowPacking, packing, Unpacking, unpacked, unpacking, framesOf, noteOf, answerNumbers, summaryNumbers, returned, answered, returning, writeReturned}
 
 -- laid over all of a list, it is all of it
 over-all : {A : Type 0} (l f : List A) (w : ℕ) → length l ≡ w → over l 0 w f ≡ f
@@ -140,3 +140,7 @@ module _ (a i r : List ℕ) (o : Outcome) where
   returns-refusal h x q i′ r′ n p e ex en ep =
       ap₂ (λ (m k : ℕ). returned m i′ r′ (set a 0 k)) en ep ∙ ap (returned (numberOf q) i′ r′) (set-over a 0 (placeOf q) (omega arith))
       ∙ ap (answered a i′ r′) (sym ex) ∙ answer h x i′ r′ e
+
+-- ---- dsr_write's three, put together
+pub written-as : {n m p q : ℕ} {o w : List ℕ} → n ≡ m → o ≡ w → p ≡ q → writeReturned n o p ≡ writeReturned m w q
+written-as {n} {m} {p} {q} {o} {w} en eo ep = ap₂ (λ (x : ℕ) (y : List ℕ). writeReturned x y p) en eo ∙ ap (writeReturned m w) ep

@@ -4,6 +4,7 @@ use mathlib.Core.Bool.{Bool, true, false}
 use mathlib.Core.List.{List, [], _∷_}
 use Prim.Native.Nat.{ℕ}
 use lib.Dec.{eqb, ltb}
+use lib.IntN.{ℤ}
 use lib.ListN.{length}
 use Rattle.lists.specs.Tests.{when}
 use Rattle.lists.specs.Parts.{part, over}
@@ -14,11 +15,12 @@ use Rattle.crc.specs.Crc.{right}
 use Rattle.packet.specs.Packet.{apart, stream}
 use Rattle.header.specs.declared.Header.{Header}
 use Rattle.header.specs.declared.Header.the-variants.{Codeword, Lost}
-use Rattle.reader.specs.Reading.{Outcome, numberOf, placeOf}
+use Rattle.reader.specs.Reading.{Outcome, numberOf, placeOf, reading}
 use Rattle.reader.specs.declared.Summary.{Summary}
 use Rattle.reader.specs.declared.Answer.{Answer}
 use Rattle.reader.specs.declared.Answer.the-variants.{Read, Refused}
-use Rattle.writer.specs.Writing.{Search, at, nowhere, firstWide}
+use Rattle.writer.specs.Writing as W
+use Rattle.writer.specs.Writing.{Search, at, nowhere, firstWide, writing}
 
 -- a header's reading: the answer and the two lent numbers, as they are and as they came
 abbrev pub headerRead : ℕ → ℕ → ℕ → ℕ → ℕ → Header → Type 0
@@ -102,3 +104,21 @@ answered a i r (Refused x) = returned (numberOf x) i r (over a 0 1 (placeOf x �
 -- with no room for six numbers nothing is read, and all stays
 unfoldable pub returning : List ℕ → List ℕ → List ℕ → Outcome → Returned
 returning a i r o = when (ltb (length a) answerNumbers) (returned 99 i r a) (answered a (o .index) (o .report) (o .answer))
+
+-- ---- what the entries give, for every input: their contracts are equations with these
+-- dsr_write: its number, the output and the place
+pub record WriteReturned : Type 0 where
+  pub number : ℕ
+  pub output : List ℕ
+  pub place : ℕ
+
+abbrev pub writeReturned : ℕ → List ℕ → ℕ → WriteReturned
+writeReturned n o p = record { number = n; output = o; place = p }
+
+abbrev pub dsrWrite : ℕ → ℕ → List ℕ → List ℕ → WriteReturned
+dsrWrite rate kind indices out =
+    writeReturned (W.numberOf (writing rate kind indices out .answer)) (writing rate kind indices out .output) (W.placeOf (writing rate kind indices out .answer))
+
+-- dsr_read: its number, both buffers and the lent numbers
+abbrev pub dsrRead : List ℕ → List ℤ → List ℤ → List ℕ → List ℕ → List ℕ → Returned
+dsrRead octets codebook thresholds index report answer = returning answer index report (reading octets codebook thresholds index report)

@@ -18,12 +18,8 @@ ghost use Rattle.lists.specs.Rows.{each, joined};
 ghost use Rattle.layout.specs.Layout.{streamOctets, indexOctets, multiframePairs};
 ghost use Rattle.header_code.specs.Code.{codeword};
 ghost use Rattle.header.specs.Reading.{reading};
-ghost use Rattle.writer.specs.Writing.{writing, numberOf, placeOf};
-ghost use Rattle.reader.specs.Reading.{reading as readingOf};
-ghost use Rattle.hunt.specs.Hunt.{hunted};
-ghost use Rattle.hunting.specs.Hunting.{huntingReading};
-ghost use Rattle.link.specs.Bits.{huntReturned, huntReturning, countedNumbers, numbersOf, bitsReturned, bitsReturning};
-ghost use Rattle.link.specs.Link.{answerNumbers, summaryNumbers, returned, returning, headerRead, packed, packing, unpacked, unpacking, framesOf, noteOf, markOf};
+ghost use Rattle.link.specs.Bits.{huntReturned, dsrHunt, countedNumbers, numbersOf, bitsReturned, dsrReadBits};
+ghost use Rattle.link.specs.Link.{answerNumbers, summaryNumbers, writeReturned, dsrWrite, returned, dsrRead, headerRead, packed, packing, unpacked, unpacking, framesOf, noteOf, markOf};
 
 // The numbers of a reading's answer, those of a hunting reading's, and what is answered if there is no room for them.
 const ANSWER: usize = 6;
@@ -134,9 +130,7 @@ pub extern "C" fn dsr_write(
     out: &mut [u8],
     place: &mut u64,
 ) -> u32
-    ensures number { λ r. ⌜ r ≡ numberOf (writing rate kind (now (indices .entry)) (now (out .entry)) .answer) ⌝ }
-    ensures output { λ r. ⌜ now (out .exit) ≡ writing rate kind (now (indices .entry)) (now (out .entry)) .output ⌝ }
-    ensures place { λ r. ⌜ now (place .exit) ≡ placeOf (writing rate kind (now (indices .entry)) (now (out .entry)) .answer) ⌝ }
+    ensures { λ r. ⌜ writeReturned r (now (out .exit)) (now (place .exit)) ≡ dsrWrite rate kind (now (indices .entry)) (now (out .entry)) ⌝ }
 {
     let answer = writer::write(rate, kind, indices, out);
     *place = writer::place_of(answer) as u64;
@@ -167,7 +161,7 @@ pub extern "C" fn dsr_read(
     report: &mut [u8],
     answer: &mut [u64],
 ) -> u32
-    ensures { λ r. ⌜ returned r (now (index .exit)) (now (report .exit)) (now (answer .exit)) ≡ returning (now (answer .entry)) (now (index .entry)) (now (report .entry)) (readingOf (now (octets .entry)) (now (codebook .entry)) (now (thresholds .entry)) (now (index .entry)) (now (report .entry))) ⌝ }
+    ensures { λ r. ⌜ returned r (now (index .exit)) (now (report .exit)) (now (answer .exit)) ≡ dsrRead (now (octets .entry)) (now (codebook .entry)) (now (thresholds .entry)) (now (index .entry)) (now (report .entry)) (now (answer .entry)) ⌝ }
 {
     if answer.len() < ANSWER {
         return NO_ROOM;
@@ -195,7 +189,7 @@ pub extern "C" fn dsr_hunt(
     tested: &mut u64,
     place: &mut u64,
 ) -> u32
-    ensures { λ r. ⌜ huntReturned r (now (found .exit)) (now (tested .exit)) (now (place .exit)) ≡ huntReturning (now (found .entry)) (now (place .entry)) (hunted (now (octets .entry)) from least) ⌝ }
+    ensures { λ r. ⌜ huntReturned r (now (found .exit)) (now (tested .exit)) (now (place .exit)) ≡ dsrHunt (now (octets .entry)) from least (now (found .entry)) (now (place .entry)) ⌝ }
 {
     match hunt::hunt(octets, from as usize, least as usize) {
         Hunted::Found {
@@ -241,7 +235,7 @@ pub extern "C" fn dsr_read_bits(
     answer: &mut [u64],
     place: &mut u64,
 ) -> u32
-    ensures { λ r. ⌜ bitsReturned r (now (index .exit)) (now (report .exit)) (now (answer .exit)) (now (place .exit)) ≡ bitsReturning (now (answer .entry)) (now (place .entry)) (now (index .entry)) (now (report .entry)) (huntingReading (now (octets .entry)) from least (now (codebook .entry)) (now (thresholds .entry)) (now (index .entry)) (now (report .entry))) ⌝ }
+    ensures { λ r. ⌜ bitsReturned r (now (index .exit)) (now (report .exit)) (now (answer .exit)) (now (place .exit)) ≡ dsrReadBits (now (octets .entry)) from least (now (codebook .entry)) (now (thresholds .entry)) (now (index .entry)) (now (report .entry)) (now (answer .entry)) (now (place .entry)) ⌝ }
 {
     if answer.len() < COUNTED {
         return NO_ROOM;

@@ -10,9 +10,9 @@ use Rattle.layout.specs.Layout.{frameIndices, multiframePairs, multiframeOctets
 use Rattle.packet.specs.Packet.{frameAt}
 use Rattle.packet.specs.Laws.{getD-row}
 use Rattle.writer.specs.Image.{imageOf}
+use Rattle.link.specs.Link.{dsrWrite}
 use Rattle.demands.specs.Damage.{DamageUpTo, headerBits, headerFlips, Touched}
 use Rattle.demands.specs.ToldApart.{Alike, told-by-one}
-use Rattle.link_demands.specs.Calls.{dsrWrite}
 use Rattle.link_demands.specs.Called.{Call, octetsOf, countOf, called, place-is, octets-are}
 
 -- two calls, and octets that both outputs can be damaged into

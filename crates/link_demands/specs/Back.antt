@@ -16,13 +16,13 @@ use Rattle.writer.specs.Image.{Utterance, whole-frames}
 use Rattle.reader.specs.Reading.{Outcome, reading}
 use Rattle.reader.specs.declared.Summary.{Summary}
 use Rattle.reader.specs.declared.Answer.the-variants.{Read}
-use Rattle.link.specs.Link.{answerNumbers, summaryNumbers, Returned, returned}
+use Rattle.link.specs.Link.{answerNumbers, summaryNumbers, Returned, returned, WriteReturned, dsrWrite, dsrRead}
 use Rattle.demands.specs.Whole.{Lent, front-at}
 use Rattle.demands.specs.ReadsBack.{spoken, padded, no-more, length-padded, padded-at}
 use Rattle.demands.specs.ReadsBack as R
 use Rattle.demands.specs.WritesAgain as A
 use Rattle.link_demands.specs.Called.{Call, called, took, place-is, output-beyond-is}
-use Rattle.link_demands.specs.Calls.{beyond, WriteReturned, dsrWrite, write-zero, dsrRead, read-success, read-zero}
+use Rattle.link_demands.specs.Calls.{beyond, write-zero, read-success, read-zero}
 
 -- ---- READS BACK
 module _ (rate kind : ℕ) (indices out : List ℕ) (codebook thresholds : List ℤ) (index report answer : List ℕ) where

@@ -16,7 +16,8 @@ use Rattle.writer.specs.Image.{Utterance, imageOf, success}
 use Rattle.writer.specs.declared.Answer as WA
 use Rattle.writer.specs.declared.Answer.the-variants.{Written}
 use Rattle.writer.specs.declared.Answer.the-variants as WV
-use Rattle.link_demands.specs.Calls.{beyond, dsrWrite, write-zero}
+use Rattle.link.specs.Link.{dsrWrite}
+use Rattle.link_demands.specs.Calls.{beyond, write-zero}
 
 -- dsr_write's success is the writer's
 accepted : (rate kind : ℕ) (indices out : List ℕ) (n : ℕ) → writing rate kind indices out .answer ≡ Written n → verdict rate kind indices (length out) ≡ Written n

@@ -1,5 +1,5 @@
--- What a caller in C gets: the entries' contracts as definitions (their ensures are equations with these), when a number is 0, and what stays
--- when it is not (demand 1).
+-- What a caller in C gets of `dsrWrite`, `dsrRead` and `dsrReadBits`, with which the entries' contracts are equations: when a number is 0, and
+-- what stays when it is not (demand 1).
 -- Assumes nothing.
 use mathlib.Core.Path.{_≡_, refl, sym, ap, _∙_}
 use mathlib.Core.Bool.{Bool, true, false}
@@ -35,27 +35,14 @@ use Rattle.hunting.specs.declared.Refusal as GR
 use Rattle.hunting.specs.declared.Refusal.the-variants as GV
 use Rattle.hunting.specs.declared.Answer as GA
 use Rattle.hunting.specs.declared.Answer.the-variants as GW
-use Rattle.link.specs.Link.{answerNumbers, summaryNumbers, Returned, returned, answered, returning}
-use Rattle.link.specs.Bits.{countedNumbers, numbersOf, BitsReturned, bitsReturned, bitsAnswered, bitsReturning}
+use Rattle.link.specs.Link.{answerNumbers, summaryNumbers, Returned, returned, answered, returning, WriteReturned, dsrWrite, dsrRead}
+use Rattle.link.specs.Bits.{countedNumbers, numbersOf, BitsReturned, bitsReturned, bitsAnswered, bitsReturning, dsrReadBits}
 
 -- octets beyond what is laid over a buffer's front stay
 pub beyond : (l f : List ℕ) (w : ℕ) → w ≤ length l → length f ≡ w → drop w (over l 0 w f) ≡ drop w l
 beyond l f w room size = drop-over l f 0 w (omega arith) size w (omega arith)
 
--- ---- dsr_write: its number, the output and the place
-pub record WriteReturned : Type 0 where
-  pub number : ℕ
-  pub output : List ℕ
-  pub place : ℕ
-
-abbrev pub dsrWrite : ℕ → ℕ → List ℕ → List ℕ → WriteReturned
-dsrWrite rate kind indices out =
-    record {
-      number = W.numberOf (writing rate kind indices out .answer);
-      output = writing rate kind indices out .output;
-      place = W.placeOf (writing rate kind indices out .answer);
-    }
-
+-- ---- dsr_write
 module _ (rate kind : ℕ) (indices out : List ℕ) where
   refusal-numbered : (r : WriterRefusal) → W.numberOf (WV.Refused r) ≡ 0 → ⊥
   refusal-numbered WR.Settings e = omega arith
@@ -82,10 +69,7 @@ module _ (rate kind : ℕ) (indices out : List ℕ) where
       by (Written k) n = absurd (n refl)
       by (WV.Refused r) n = refl
 
--- ---- dsr_read: its number, both buffers and the six numbers
-abbrev pub dsrRead : List ℕ → List ℤ → List ℤ → List ℕ → List ℕ → List ℕ → Returned
-dsrRead octets codebook thresholds index report answer = returning answer index report (reading octets codebook thresholds index report)
-
+-- ---- dsr_read
 not-zero : (r : Refusal) → R.numberOf r ≡ 0 → ⊥
 not-zero WrongTables e = omega arith
 not-zero (Unknown p) e = omega arith
@@ -143,11 +127,7 @@ pub read-keeps : (octets : List ℕ) (codebook thresholds : List ℤ) (index rep
 read-keeps octets codebook thresholds index report answer =
     keeps answer index report (reading octets codebook thresholds index report) (refusal-stays octets codebook thresholds index report)
 
--- ---- dsr_read_bits: its number, both buffers, the eight numbers and the place
-abbrev pub dsrReadBits : List ℕ → ℕ → ℕ → List ℤ → List ℤ → List ℕ → List ℕ → List ℕ → ℕ → BitsReturned
-dsrReadBits octets from least codebook thresholds index report answer place =
-    bitsReturning answer place index report (huntingReading octets from least codebook thresholds index report)
-
+-- ---- dsr_read_bits
 not-zero-bits : (r : GR.Refusal) → G.numberOf r ≡ 0 → ⊥
 not-zero-bits (GV.Octets r) e = not-zero r e
 not-zero-bits (GV.MatchRange n) e = omega arith

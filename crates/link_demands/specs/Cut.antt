@@ -13,14 +13,14 @@ use Rattle.cutting.specs.Cutting.{cutting, whole, inverseFirst, inverseSecond}
 use Rattle.reader.specs.Reading.{Outcome, reading}
 use Rattle.reader.specs.declared.Summary.{Summary}
 use Rattle.writer.specs.Image.{Utterance, multiframesOf, imageOf}
-use Rattle.link.specs.Link.{answerNumbers, Returned, returned, answered, returning}
+use Rattle.link.specs.Link.{answerNumbers, Returned, returned, answered, returning, dsrRead}
 use Rattle.demands.specs.Damage.{Damage}
 use Rattle.demands.specs.Whole.{pairNoteIn}
 use Rattle.promises.specs.Chunks.{Refuses, Tables}
 use Rattle.promises.specs.Inverse.{found, one-inverse, spaced, spaced-image}
 use Rattle.promises.specs.CutOff.{cut-off-answer, cut-inside-damaged}
 use Rattle.promises.specs.CutDamaged.{cut-off-told-damaged}
-use Rattle.link_demands.specs.Calls.{dsrRead, read-zero}
+use Rattle.link_demands.specs.Calls.{read-zero}
 use Rattle.link_demands.specs.Named.{pairNoteAt, got-is, at}
 
 -- a refusal, with room for six numbers, is its number, both buffers as they came, and its place in the answer's first number

@@ -17,14 +17,14 @@ use Rattle.writer.specs.Writing.{needed, writing}
 use Rattle.writer.specs.declared.Answer.the-variants.{Written}
 use Rattle.writer.specs.Laws.{length-image}
 use Rattle.writer.specs.Image.{Utterance, multiframesOf, imageOf, writes}
-use Rattle.link.specs.Link.{answerNumbers, summaryNumbers, Returned, returned}
+use Rattle.link.specs.Link.{answerNumbers, summaryNumbers, Returned, returned, dsrWrite, dsrRead}
 use Rattle.demands.specs.Damage.{DamageUpTo, headerBits, loosened, headerFlips}
 use Rattle.demands.specs.Instances.{says1, says2, hurt1, equal-images}
 use Rattle.demands.specs.Met.{zeroBook, zeroThresholds, indexFor, reportFor, lent-zeros, writes-again-met, says24, hurtImage, names-says24}
 use Rattle.demands.specs.ReadsBack.{spoken}
 use Rattle.hunting_demands.specs.Aired.{aired, aired-on-air, names-aired-24}
 use Rattle.hunting_demands.specs.Radio.{together}
-use Rattle.link_demands.specs.Calls.{dsrWrite, dsrRead, read-success, dsrReadBits}
+use Rattle.link_demands.specs.Calls.{read-success}
 use Rattle.link_demands.specs.Back.{BackPremises, AgainPremises}
 use Rattle.link_demands.specs.Named.{Tells, c-names-the-damage}
 use Rattle.link_demands.specs.OnAir.{c-names-on-air}

@@ -22,7 +22,7 @@ use Rattle.reader.specs.declared.Answer.{Answer}
 use Rattle.reader.specs.declared.Answer.the-variants.{Read}
 use Rattle.writer.specs.Writing.{frameCount}
 use Rattle.writer.specs.Image.{Utterance, multiframesOf, pairsOf, imageOf, whole-frames}
-use Rattle.link.specs.Link.{answerNumbers, summaryNumbers, Returned, returned}
+use Rattle.link.specs.Link.{answerNumbers, summaryNumbers, Returned, returned, dsrRead}
 use Rattle.demands.specs.Damage.{Touched, headerFlips}
 use Rattle.demands.specs.Whole.{front-at, pairNoteIn}
 use Rattle.demands.specs.Received.{ByRule, BadPair, Count}
@@ -32,7 +32,7 @@ use Rattle.demands.specs.WritesAgain as A
 use Rattle.promises.specs.Misled as M
 use Rattle.promises.specs.Trusted as T
 use Rattle.promises.specs.Heard as H
-use Rattle.link_demands.specs.Calls.{beyond, dsrRead, read-success, read-zero}
+use Rattle.link_demands.specs.Calls.{beyond, read-success, read-zero}
 
 -- ---- where a caller finds what
 -- the header note of multiframe k, the note of pair j of it, and the note of the pair that frame f is in

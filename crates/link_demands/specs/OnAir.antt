@@ -24,7 +24,7 @@ use Rattle.hunting.specs.declared.Counted.{Counted}
 use Rattle.hunting.specs.declared.Answer.the-variants.{Read}
 use Rattle.writer.specs.Writing.{frameCount}
 use Rattle.writer.specs.Image.{Utterance, multiframesOf, imageOf, whole-frames}
-use Rattle.link.specs.Bits.{countedNumbers, numbersOf, BitsReturned}
+use Rattle.link.specs.Bits.{countedNumbers, numbersOf, BitsReturned, dsrReadBits}
 use Rattle.demands.specs.Damage.{headerFlips}
 use Rattle.demands.specs.Whole.{front-at}
 use Rattle.demands.specs.NamesTheDamage as N
@@ -35,7 +35,7 @@ use Rattle.hunting_demands.specs.Standing.{testedInRow}
 use Rattle.hunting_demands.specs.HuntsBack as B
 use Rattle.hunting_demands.specs.Radio.{together, Caught, OnAir, on-air, found-on-air, flips-few, together-size, together-syncs}
 use Rattle.hunting_demands.specs.Radio as Radio
-use Rattle.link_demands.specs.Calls.{dsrReadBits, bits-success, bits-zero}
+use Rattle.link_demands.specs.Calls.{bits-success, bits-zero}
 use Rattle.link_demands.specs.Named.{Tells, tells}
 
 module _ (u : Utterance) (s : List ℕ) (from at least : ℕ) (codebook thresholds : List ℤ) (index report answer : List ℕ) (place : ℕ) where

@@ -1,6 +1,7 @@
 pub mod Misled
 pub mod Trusted
 pub mod Heard
+pub mod IfRead
 pub mod Chunks
 pub mod Same
 pub mod First

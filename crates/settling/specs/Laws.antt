@@ -1,7 +1,7 @@
 -- What a reader of 01 would ask of the settings and of the header notes.
 -- Assumes nothing.
 use Prim.Native.Nat.{ℕ, zero, suc, _+_, _/_, _%_, _≤_, _<_}
-use mathlib.Core.Path.{_≡_, refl, ap, sym, _∙_}
+use mathlib.Core.Path.{_≡_, refl, ap, sym, _∙_, subst}
 use mathlib.Core.Logic.{_⊎_, inl, inr, ⊎-elim}
 use mathlib.Core.List.{List, [], _∷_}
 use mathlib.Core.Bool.{Bool, true, false}
@@ -251,6 +251,15 @@ more-than-one (Lost ∷ hs) h = refl
 more-than-one (Codeword m f ∷ []) h = absurd (omega arith)
 more-than-one (Codeword m f ∷ x ∷ hs) h = refl
 
+-- what two headers or more settle comes from the first of them that agrees with an earlier one
+pub settled-first : (hs : List Header) (c : ℕ) → 2 ≤ length hs → settling hs ≡ Settled c → First [] hs c
+unfolding settling
+settled-first hs c two e = by (firstAgreeing [] hs) (first-agreeing [] hs) e
+  where
+    by : (s : Settings) → Says [] hs s → orElse s (onlyOne hs) ≡ Settled c → First [] hs c
+    by Unsettled x e = absurd (not-settled c (sym (more-than-one hs two) ∙ e))
+    by (Settled x) f e = subst (First [] hs) (settled-bits x c e) f
+
 -- ---- all readable headers but perhaps one, number j, have the common bits c
 module _ (hs : List Header) (c j : ℕ) (same : (k d : ℕ) → (k ≡ j → ⊥) → Has hs k d → d ≡ c) where
   -- so two that agree have them
@@ -266,12 +275,7 @@ module _ (hs : List Header) (c j : ℕ) (same : (k d : ℕ) → (k ≡ j → ⊥
 
   -- of two headers or more nothing else is settled
   pub settled-same : (d : ℕ) → 2 ≤ length hs → settling hs ≡ Settled d → d ≡ c
-  unfolding settling
-  settled-same d two e = by (firstAgreeing [] hs) (first-agreeing [] hs) e
-    where
-      by : (s : Settings) → Says [] hs s → orElse s (onlyOne hs) ≡ Settled d → d ≡ c
-      by Unsettled x e = absurd (not-settled d (sym (more-than-one hs two) ∙ e))
-      by (Settled x) f e = sym (settled-bits x d e) ∙ agreed x f
+  settled-same d two e = agreed d (settled-first hs d two e)
 
   -- and two headers that are read with them settle them
   pub two-settle : (a b : ℕ) → a < b → Has hs a c → Has hs b c → settling hs ≡ Settled c

@@ -1,0 +1,132 @@
+-- IF IT IS READ: with at most three flips in each header and demand 3's damage to packets, a reading that succeeds says all that names-the-damage
+-- says. The premises on headers and on a good pair, which no caller can see, follow from the success: 16 and 20 would have come else.
+-- Assumes nothing.
+use mathlib.Core.Path.{_≡_, sym, ap, _∙_, subst}
+use mathlib.Core.List.{List, [], _∷_}
+use mathlib.Core.Logic.{inl, inr}
+use Prim.Native.Nat.{ℕ, _*_, _≤_, _<_}
+use native.Mathlib.Decide.{ℕ-discrete, decLt}
+use native.Mathlib.Omega.{arith}
+use lib.IntN.{ℤ}
+use lib.ListN.{length, getD}
+use Rattle.lists.specs.Tests.{true-false}
+use Rattle.lists.specs.Parts.{over}
+use Rattle.layout.specs.Layout.{indexOctets, reportOctets}
+use Rattle.cutting.specs.Cutting.{Cutting, cutting, syncFirst, syncSecond}
+use Rattle.cutting.specs.Laws.{every-length}
+use Rattle.settling.specs.Settling.{readings, settling}
+use Rattle.settling.specs.declared.Settings.the-variants.{Settled}
+use Rattle.pairs.specs.Pairs.{pairCount, pairNotes}
+use Rattle.pairs.specs.Laws.{length-notes}
+use Rattle.judging.specs.Judging.{bad, badPairs}
+use Rattle.judging.specs.Laws.{few-bad, Good, some-good}
+use Rattle.reader.specs.Reading.{Outcome, outcome, reading}
+use Rattle.reader.specs.declared.Summary.{Summary}
+use Rattle.reader.specs.declared.Answer.the-variants.{Read}
+use Rattle.writer.specs.Writing.{frameCount}
+use Rattle.writer.specs.Laws.{few-multiframes, length-image}
+use Rattle.writer.specs.Made.{syncIn}
+use Rattle.writer.specs.Image.{image-sync, Utterance, multiframesOf, pairsOf, imageOf, is-accepted}
+use Rattle.demands.specs.Damage.{DamageUpTo, headerFlips}
+use Rattle.demands.specs.Headers.{Settling, settled-readable, touched-unsettles}
+use Rattle.demands.specs.Received.{BadPair, Tells, is-so, not-so, tells-bad}
+use Rattle.demands.specs.Whole.{rowOf, cut-is, pairNoteIn}
+use Rattle.demands.specs.NamesTheDamage as N
+use Rattle.demands.specs.ReadsBack.{spoken, padded, mendedReport}
+use Rattle.demands.specs.WritesAgain as A
+use Rattle.promises.specs.Heard as H
+
+module _ (u : Utterance) (s : List ℕ) (d : DamageUpTo 3 (multiframesOf u) (imageOf u) s) (codebook thresholds : List ℤ) (index report : List ℕ) (given : Summary)
+    (e : reading s codebook thresholds index report .answer ≡ Read given) where
+  abbrev m : ℕ
+  m = multiframesOf u
+
+  w : A.WasRead s codebook thresholds index report [] given
+  w = A.was-read s codebook thresholds index report [] given e
+
+  syncs : (k : ℕ) → k < m → syncIn s k ≡ syncFirst ∷ syncSecond ∷ []
+  syncs k h = d .syncs k h ∙ image-sync (u .rate) (u .kind) (u .indices) m k h
+
+  cut : cutting s .places ≡ rowOf m
+  cut =
+      ap (λ (x : Cutting). x .places)
+      (cut-is s m (few-multiframes (u .rate) (u .kind) (u .indices) (is-accepted u .sizes)) (d .size ∙ length-image (u .rate) (u .kind) (u .indices) m) syncs)
+
+  rows : length (cutting s .places) ≡ m
+  rows = ap length cut ∙ every-length 0 m
+
+  settled : settling (readings s (rowOf m)) ≡ Settled (w .common)
+  settled = sym (ap (λ (ps : List ℕ). settling (readings s ps)) cut) ∙ w .reader-accepts .fitting .settles
+
+  -- what settled them
+  heads : Settling u s
+  heads =
+      elim (decLt m 2) [
+        | no n ↦ inl (settled-readable u s (d .headers) (w .common) (omega arith) settled)
+        | yes l ↦
+            elim (ℕ-discrete (headerFlips (imageOf u) s 0) 0) [
+              | yes z ↦ inr (omega arith, z)
+              | no n ↦ let x = sym (touched-unsettles u s (d .headers) (omega arith) n) ∙ settled in let z : _≡_ {A = ℕ} 0 1 = cc in absurd (omega arith)
+            ]
+      ]
+
+  abbrev ns : List ℕ
+  ns = pairNotes s (rowOf m) codebook thresholds
+
+  -- a pair that is not bad
+  good : Good ns
+  good =
+      some-good ns
+      (below (badPairs ns) (length ns) (few-bad ns)
+      (λ x. subst (λ (ps : List ℕ). badPairs (pairNotes s ps codebook thresholds) ≡ pairCount ps → ⊥) cut (w .reader-accepts .fitting .roomy .not-all)
+      (x ∙ length-notes s (rowOf m) codebook thresholds)))
+    where
+      below : (a b : ℕ) → a ≤ b → (a ≡ b → ⊥) → a < b
+      below a b h n = omega arith
+
+  inside : good .pair < pairsOf u
+  inside = let l = good .within in omega (arith, length-notes s (rowOf m) codebook thresholds, every-length 0 m)
+
+  not-bad : BadPair u s codebook thresholds (good .pair) → ⊥
+  not-bad b = by (tells-bad u s d codebook thresholds (good .pair) inside)
+    where
+      by : Tells (BadPair u s codebook thresholds (good .pair)) (bad (getD ns (good .pair) 0)) → ⊥
+      by (is-so x t) = true-false (sym t ∙ ap bad (good .good))
+      by (not-so n t) = n b
+
+  -- so the premises hold
+  pub wider-if-read : N.Wider u s codebook thresholds index report
+  wider-if-read = record {
+    damage = d;
+    headers = heads;
+    pair = good .pair;
+    within = inside;
+    not-bad = not-bad;
+    lent = record {
+      codebook-size = w .reader-accepts .codebook-size;
+      thresholds-size = w .reader-accepts .thresholds-size;
+      index-room = subst (λ (n : ℕ). indexOctets * n ≤ length index) rows (w .reader-accepts .fitting .roomy .index-room);
+      report-room = subst (λ (n : ℕ). reportOctets * n ≤ length report) rows (w .reader-accepts .fitting .roomy .report-room);
+    };
+  }
+
+  abbrev result : Outcome
+  result = reading s codebook thresholds index report
+
+  -- NAMES THE DAMAGE, IF IT IS READ
+  pub names-if-read : N.Names u s codebook thresholds given (reading s codebook thresholds index report .index) (reading s codebook thresholds index report .report)
+  names-if-read =
+      let n = N.names-wider u s codebook thresholds index report wider-if-read in
+      let r : Read (n .given) ≡ Read given = sym (n .succeeds) ∙ e in
+      let g : n .given ≡ given = cc in
+      subst (λ (x : Summary). N.Names u s codebook thresholds x (result .index) (result .report)) g (n .names)
+
+  -- HEARD WHOLE, IF IT IS READ: no pair named
+  pub heard-if-read : ((q : ℕ) → q < pairsOf u → pairNoteIn (reading s codebook thresholds index report .report) q ≡ 0)
+      → reading s codebook thresholds index report
+      ≡ outcome (Read (spoken u)) (over index 0 (indexOctets * multiframesOf u) (padded u)) (over report 0 (reportOctets * multiframesOf u) (mendedReport u s))
+  heard-if-read = H.heard-whole u s codebook thresholds index report wider-if-read
+
+  -- LAST HEARD, IF IT IS READ: no pair of the last multiframe named
+  pub last-if-read : H.LastUnnamed u s codebook thresholds index report wider-if-read → (given .speech ≡ frameCount (u .indices)) × (given .end ≡ 1)
+  last-if-read none = H.last-heard u s codebook thresholds index report wider-if-read none given e
