@@ -1,15 +1,15 @@
 -- What a caller in C gets of `dsrWrite`, `dsrRead` and `dsrReadBits`, with which the entries' contracts are equations: when a number is 0, and
 -- what stays when it is not (demand 1).
 -- Assumes nothing.
-use mathlib.Core.Path.{_≡_, refl, sym, ap, _∙_}
+use mathlib.Core.Path.{_≡_, refl, sym, ap, ap₂, _∙_}
 use mathlib.Core.Bool.{Bool, true, false}
-use mathlib.Core.List.{List}
-use Prim.Native.Nat.{ℕ, _≤_}
+use mathlib.Core.List.{List, [], _∷_}
+use Prim.Native.Nat.{ℕ, _≤_, _<_}
 use native.Mathlib.Omega.{arith}
 use lib.Dec.{ltb}
 use lib.IntN.{ℤ}
 use lib.ListN.{length, drop}
-use borrow.Author.Tests.{le-ltb, ltb-false}
+use borrow.Author.Tests.{le-ltb, lt-ltb, ltb-false}
 use Rattle.lists.specs.Tests.{when}
 use Rattle.lists.specs.Parts.{over, drop-over}
 use Rattle.writer.specs.Writing as W
@@ -127,6 +127,20 @@ pub read-keeps : (octets : List ℕ) (codebook thresholds : List ℤ) (index rep
 read-keeps octets codebook thresholds index report answer =
     keeps answer index report (reading octets codebook thresholds index report) (refusal-stays octets codebook thresholds index report)
 
+-- a refusal gives 01's number, and its place in the answer's first number; with no room for six numbers it is 99, and all stays
+pub read-refused : (octets : List ℕ) (codebook thresholds : List ℤ) (index report answer : List ℕ) (x : Refusal) → answerNumbers ≤ length answer
+    → reading octets codebook thresholds index report .answer ≡ Refused x
+    → dsrRead octets codebook thresholds index report answer ≡ returned (R.numberOf x) index report (over answer 0 1 (R.placeOf x ∷ []))
+unfolding returning
+read-refused octets codebook thresholds index report answer x room e =
+    rw (le-ltb (length answer) answerNumbers room)
+    (ap (λ (o : R.Outcome). answered answer (o .index) (o .report) (o .answer)) (refusal-keeps octets codebook thresholds index report x e))
+
+pub read-no-room : (octets : List ℕ) (codebook thresholds : List ℤ) (index report answer : List ℕ) → length answer < answerNumbers
+    → dsrRead octets codebook thresholds index report answer ≡ returned 99 index report answer
+unfolding returning
+read-no-room octets codebook thresholds index report answer h = rw (lt-ltb (length answer) answerNumbers h)
+
 -- ---- dsr_read_bits
 not-zero-bits : (r : GR.Refusal) → G.numberOf r ≡ 0 → ⊥
 not-zero-bits (GV.Octets r) e = not-zero r e
@@ -197,3 +211,17 @@ module _ (s : List ℕ) (from least : ℕ) (codebook thresholds : List ℤ) (ind
       → (dsrReadBits s from least codebook thresholds index report answer place .index ≡ index)
       × ((dsrReadBits s from least codebook thresholds index report answer place .report ≡ report) × (dsrReadBits s from least codebook thresholds index report answer place .answer ≡ answer))
   bits-kept answer place = bits-keep answer place index report found bits-stay
+
+  -- a refusal gives its number and its place; with no room for eight numbers it is 99, and all stays
+  pub bits-refused : (answer : List ℕ) (place : ℕ) (x : GR.Refusal) → countedNumbers ≤ length answer → found .answer ≡ GW.Refused x
+      → dsrReadBits s from least codebook thresholds index report answer place ≡ bitsReturned (G.numberOf x) index report answer (G.placeOf x)
+  unfolding bitsReturning
+  bits-refused answer place x room e =
+      let k = bits-stay x e in
+      rw (le-ltb (length answer) countedNumbers room)
+      (ap (bitsAnswered answer place (found .index) (found .report)) e ∙ ap₂ (λ (i r : List ℕ). bitsReturned (G.numberOf x) i r answer (G.placeOf x)) (k .0) (k .1))
+
+  pub bits-no-room : (answer : List ℕ) (place : ℕ) → length answer < countedNumbers
+      → dsrReadBits s from least codebook thresholds index report answer place ≡ bitsReturned 99 index report answer place
+  unfolding bitsReturning
+  bits-no-room answer place h = rw (lt-ltb (length answer) countedNumbers h)

@@ -6,3 +6,5 @@ pub mod OnAir
 pub mod Apart
 pub mod Met
 pub mod Cut
+pub mod Hunted
+pub mod Linked

@@ -18,6 +18,7 @@ use Rattle.writer.specs.declared.Answer.the-variants.{Written}
 use Rattle.writer.specs.Laws.{length-image}
 use Rattle.writer.specs.Image.{Utterance, multiframesOf, imageOf, writes}
 use Rattle.link.specs.Link.{answerNumbers, summaryNumbers, Returned, returned, dsrWrite, dsrRead}
+use Rattle.link.specs.Bits.{dsrReadBits}
 use Rattle.demands.specs.Damage.{DamageUpTo, headerBits, loosened, headerFlips}
 use Rattle.demands.specs.Instances.{says1, says2, hurt1, equal-images}
 use Rattle.demands.specs.Met.{zeroBook, zeroThresholds, indexFor, reportFor, lent-zeros, writes-again-met, says24, hurtImage, names-says24}

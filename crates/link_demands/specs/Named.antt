@@ -23,7 +23,7 @@ use Rattle.reader.specs.declared.Answer.the-variants.{Read}
 use Rattle.writer.specs.Writing.{frameCount}
 use Rattle.writer.specs.Image.{Utterance, multiframesOf, pairsOf, imageOf, whole-frames}
 use Rattle.link.specs.Link.{answerNumbers, summaryNumbers, Returned, returned, dsrRead}
-use Rattle.demands.specs.Damage.{Touched, headerFlips}
+use Rattle.demands.specs.Damage.{DamageUpTo, Touched, headerFlips}
 use Rattle.demands.specs.Whole.{front-at, pairNoteIn}
 use Rattle.demands.specs.Received.{ByRule, BadPair, Count}
 use Rattle.demands.specs.NamesTheDamage as N
@@ -31,7 +31,7 @@ use Rattle.demands.specs.ReadsBack.{spoken, padded, mendedReport, length-padded
 use Rattle.demands.specs.WritesAgain as A
 use Rattle.promises.specs.Misled as M
 use Rattle.promises.specs.Trusted as T
-use Rattle.promises.specs.Heard as H
+use Rattle.promises.specs.IfRead as I
 use Rattle.link_demands.specs.Calls.{beyond, read-success, read-zero}
 
 -- ---- where a caller finds what
@@ -206,16 +206,22 @@ module _ (u : Utterance) (s : List ℕ) (codebook thresholds : List ℤ) (index 
       parts : (x : Outcome) {b : Answer} {i : List ℕ} → x .answer ≡ b → x .index ≡ i → x ≡ outcome b i (x .report)
       parts x e f = ap₂ (λ (a : Answer) (j : List ℕ). outcome a j (x .report)) e f
 
+  -- IF IT IS READ: at most three flips in each header and demand 3's damage to packets; 0 tells all of it
+  pub c-names-if-read : DamageUpTo 3 (multiframesOf u) (imageOf u) s → c .number ≡ 0 → Tells u s codebook thresholds (c .number) (c .answer) (c .index) (c .report)
+  c-names-if-read d zero =
+      let z = read-zero answer index report (reading s codebook thresholds index report) zero in
+      named (record { given = z .1 .0; succeeds = z .1 .1; names = I.names-if-read u s d codebook thresholds index report (z .1 .0) (z .1 .1) }) (z .0) .0
+
   -- NO PAIR NAMED at dsr_read: all of it is heard, and each header note is the number of flips, three for a lost one
-  pub c-heard-whole : N.Wider u s codebook thresholds index report → answerNumbers ≤ length answer
+  pub c-heard-whole : DamageUpTo 3 (multiframesOf u) (imageOf u) s → c .number ≡ 0
       → ((k j : ℕ) → k < multiframesOf u → j < multiframePairs → pairNoteAt (c .report) k j ≡ 0)
       → HearsAll × ((k : ℕ) → k < multiframesOf u → headerNoteAt (c .report) k ≡ headerFlips (imageOf u) s k)
-  c-heard-whole p room none =
-      let n = N.names-wider u s codebook thresholds index report p in
-      let q = got-is s codebook thresholds index report answer room (n .given) (n .succeeds) in
-      let e = H.heard-whole u s codebook thresholds index report p (λ i h.
+  c-heard-whole d zero none =
+      let z = read-zero answer index report (reading s codebook thresholds index report) zero in
+      let q = got-is s codebook thresholds index report answer (z .0) (z .1 .0) (z .1 .1) in
+      let e = I.heard-if-read u s d codebook thresholds index report (z .1 .0) (z .1 .1) (λ i h.
       ap (λ (x : Returned). pairNoteIn (x .report) i) (sym q) ∙ none (i / 12) (i % 12) (omega arith) (omega arith)) in (
-        hears (over report 0 (reportOctets * multiframesOf u) (mendedReport u s)) room e,
+        hears (over report 0 (reportOctets * multiframesOf u) (mendedReport u s)) (z .0) e,
         (λ k h. ap (λ (x : Returned). headerNoteAt (x .report) k) q ∙ ap (λ (x : Outcome). headerNoteAt (x .report) k) e ∙ header-octet k h),
       )
     where
@@ -232,13 +238,20 @@ module _ (u : Utterance) (s : List ℕ) (codebook thresholds : List ℤ) (index 
           ∙ ap (λ (x : List ℕ). getD x 0 0) (joined-part (λ k. headerFlips (imageOf u) s k ∷ replicate multiframePairs 0) reportOctets (multiframesOf u) k sizes h)
 
   -- THE LAST MULTIFRAME WHOLLY UNNAMED at dsr_read: speech and end are those sent
-  pub c-last-heard : N.Wider u s codebook thresholds index report → answerNumbers ≤ length answer
+  pub c-last-heard : DamageUpTo 3 (multiframesOf u) (imageOf u) s → c .number ≡ 0
       → ((j : ℕ) → j < multiframePairs → pairNoteAt (c .report) (multiframesOf u - 1) j ≡ 0) → (getD (c .answer) 3 0 ≡ frameCount (u .indices)) × (getD (c .answer) 5 0 ≡ 1)
-  c-last-heard p room none =
-      let n = N.names-wider u s codebook thresholds index report p in
-      let q = got-is s codebook thresholds index report answer room (n .given) (n .succeeds) in
-      let f = at s codebook thresholds index report answer room (n .given) (n .succeeds) in
-      let l = H.last-heard u s codebook thresholds index report p (λ i b h.
+  c-last-heard d zero none =
+      let z = read-zero answer index report (reading s codebook thresholds index report) zero in
+      let q = got-is s codebook thresholds index report answer (z .0) (z .1 .0) (z .1 .1) in
+      let f = at s codebook thresholds index report answer (z .0) (z .1 .0) (z .1 .1) in
+      let l = I.last-if-read u s d codebook thresholds index report (z .1 .0) (z .1 .1) (λ i b h.
       let k : i / 12 ≡ multiframesOf u - 1 = omega arith in
-      ap (λ (x : Returned). pairNoteIn (x .report) i) (sym q) ∙ ap (λ (x : ℕ). pairNoteAt (c .report) x (i % 12)) k ∙ none (i % 12) (omega arith)) (n .given) (n .succeeds) in
+      ap (λ (x : Returned). pairNoteIn (x .report) i) (sym q) ∙ ap (λ (x : ℕ). pairNoteAt (c .report) x (i % 12)) k ∙ none (i % 12) (omega arith)) in
       (f 3 ∙ l .0, f 5 ∙ l .1)
+
+-- WHAT STAYS of any input that dsr_read answers with 0
+pub c-stays : (s : List ℕ) (codebook thresholds : List ℤ) (index report answer : List ℕ) → dsrRead s codebook thresholds index report answer .number ≡ 0
+    → Stays s codebook thresholds index report answer
+c-stays s codebook thresholds index report answer zero =
+    let z = read-zero answer index report (reading s codebook thresholds index report) zero in
+    stays s codebook thresholds index report answer (z .0) (z .1 .0) (z .1 .1)

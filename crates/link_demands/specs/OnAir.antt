@@ -1,18 +1,23 @@
--- AT ANY BIT: what holds at dsr_read for an image holds at dsr_read_bits for an utterance received at any bit, with up to 16 - T flips in each
--- sync besides, if no place before it and none behind it passes the test. Reading back, names-the-damage and trusted, in the numbers, octets and
--- buffers that a caller in C has.
+-- AT ANY BIT: reading back, names-the-damage, trusted and never-misled at dsr_read_bits, for an utterance received at any bit with at most two flips in
+-- EVERY header and up to 16 - T in each sync, if no place before it and none behind it passes the test: a multiframe whose header is lost is not
+-- found there, so the wider limits of the octet reader do not hold (`Missed` in hunting_demands). In the numbers, octets and buffers that a caller
+-- in C has.
 -- Assumes nothing.
 use mathlib.Core.Path.{_≡_, refl, sym, ap, _∙_, subst}
-use mathlib.Core.List.{List}
+use mathlib.Core.List.{List, _∷_}
 use mathlib.Core.Logic.{inl, inr}
-use Prim.Native.Nat.{ℕ, _*_, _≤_, _<_}
+use Prim.Native.Nat.{ℕ, suc, _+_, _*_, _≤_, _<_}
 use native.Mathlib.Decide.{decLt}
 use native.Mathlib.Omega.{arith}
 use lib.Dec.{lit≤}
 use lib.IntN.{ℤ}
-use lib.ListN.{length, getD, List·getD-eq-default}
+use lib.ListN.{length, getD, List·getD-eq-default, drop, replicate}
+use lib.Seq.{getD-take, getD-drop}
+use Rattle.hunting_demands.specs.HuntsBack.{receivedFlips}
+use Rattle.writer.specs.Made.{packetIn}
+use Rattle.lists.specs.Rows.{joined, length-joined, joined-part}
 use Rattle.lists.specs.Parts.{over}
-use Rattle.layout.specs.Layout.{indexOctets, reportOctets}
+use Rattle.layout.specs.Layout.{indexOctets, reportOctets, multiframePairs}
 use Rattle.bits.specs.Bits.{bits}
 use Rattle.reader.specs.Reading as R
 use Rattle.reader.specs.declared.Summary.{Summary}
@@ -23,20 +28,20 @@ use Rattle.hunting.specs.Says as F
 use Rattle.hunting.specs.declared.Counted.{Counted}
 use Rattle.hunting.specs.declared.Answer.the-variants.{Read}
 use Rattle.writer.specs.Writing.{frameCount}
-use Rattle.writer.specs.Image.{Utterance, multiframesOf, imageOf, whole-frames}
+use Rattle.writer.specs.Image.{Utterance, multiframesOf, imageOf, whole-frames, pairsOf}
 use Rattle.link.specs.Bits.{countedNumbers, numbersOf, BitsReturned, dsrReadBits}
 use Rattle.demands.specs.Damage.{headerFlips}
 use Rattle.demands.specs.Whole.{front-at}
 use Rattle.demands.specs.NamesTheDamage as N
-use Rattle.demands.specs.ReadsBack.{spoken, padded, length-padded, padded-at}
+use Rattle.demands.specs.ReadsBack.{spoken, padded, length-padded, padded-at, no-more}
 use Rattle.promises.specs.Misled as M
 use Rattle.promises.specs.Trusted as T
 use Rattle.hunting_demands.specs.Standing.{testedInRow}
 use Rattle.hunting_demands.specs.HuntsBack as B
-use Rattle.hunting_demands.specs.Radio.{together, Caught, OnAir, on-air, found-on-air, flips-few, together-size, together-syncs}
+use Rattle.hunting_demands.specs.Radio.{together, Caught, OnAir, on-air, found-on-air, flips-few, together-size, together-syncs, receivedPacket, packet-there, flips-there}
 use Rattle.hunting_demands.specs.Radio as Radio
 use Rattle.link_demands.specs.Calls.{bits-success, bits-zero}
-use Rattle.link_demands.specs.Named.{Tells, tells}
+use Rattle.link_demands.specs.Named.{Tells, tells, headerNoteAt, pairNoteAt}
 
 module _ (u : Utterance) (s : List ℕ) (from at least : ℕ) (codebook thresholds : List ℤ) (index report answer : List ℕ) (place : ℕ) where
   abbrev c : BitsReturned
@@ -51,9 +56,17 @@ module _ (u : Utterance) (s : List ℕ) (from at least : ℕ) (codebook threshol
     pub tested : getD (c .answer) 7 0 ≡ testedInRow (bits s) from at (multiframesOf u)
     pub place-stays : c .place ≡ place
 
+  -- what was put together is what stood there: each packet and each header's flips are those of the bits received
+  pub record Stood : Type 0 where
+    pub packets : (q : ℕ) → q < pairsOf u → packetIn (together u s at) q ≡ receivedPacket s at q
+    pub headers : (k : ℕ) → k < multiframesOf u → headerFlips (imageOf u) (together u s at) k ≡ receivedFlips u s at k
+
+  stood : Caught u s from at least → Stood
+  stood a = record { packets = packet-there u s from at least a; headers = flips-there u s from at least a }
+
   -- NAMES THE DAMAGE at dsr_read_bits
   pub c-names-on-air : (a : OnAir u s from at least) → Radio.Premises u s from at least a codebook thresholds index report → countedNumbers ≤ length answer
-      → Tells u (together u s at) codebook thresholds (c .number) (c .answer) (c .index) (c .report) × Counts
+      → Tells u (together u s at) codebook thresholds (c .number) (c .answer) (c .index) (c .report) × (Stood × Counts)
   c-names-on-air a p room =
       let n = Radio.names-on-air u s from at least a codebook thresholds index report p in
       let e = bits-success answer place index report o room (n .given) (n .succeeds) in
@@ -61,7 +74,7 @@ module _ (u : Utterance) (s : List ℕ) (from at least : ℕ) (codebook threshol
         tells u (together u s at) codebook thresholds (n .given .summary) (c .answer) (c .index) (c .report)
             (subst (λ (x : BitsReturned). N.Names u (together u s at) codebook thresholds (n .given .summary) (x .index) (x .report)) (sym e) (n .names)) (c .number)
             (ap (λ (x : BitsReturned). x .number) e) (f 0) (f 1) (f 2) (f 4),
-        record { outside = f 6 ∙ n .outside; tested = f 7 ∙ n .tested; place-stays = ap (λ (x : BitsReturned). x .place) e },
+        (stood (a .caught), record { outside = f 6 ∙ n .outside; tested = f 7 ∙ n .tested; place-stays = ap (λ (x : BitsReturned). x .place) e }),
       )
 
   -- what a caller hears of all of an utterance
@@ -95,20 +108,46 @@ module _ (u : Utterance) (s : List ℕ) (from at least : ℕ) (codebook threshol
         padding = λ i l h. octet i h ∙ List·getD-eq-default (u .indices) 0 l;
       }
 
-  -- READING BACK at dsr_read_bits
-  pub c-hunts-back : B.Premises u s from at least codebook thresholds index report → countedNumbers ≤ length answer → HearsAll × Counts
+  -- READING BACK at dsr_read_bits: each header note is the number of flips there, and no pair has one
+  pub c-hunts-back : B.Premises u s from at least codebook thresholds index report → countedNumbers ≤ length answer
+      → HearsAll × (((k : ℕ) → k < multiframesOf u → headerNoteAt (c .report) k ≡ receivedFlips u s at k)
+      × (((k j : ℕ) → k < multiframesOf u → j < multiframePairs → pairNoteAt (c .report) k j ≡ 0) × Counts))
   c-hunts-back p room =
       let q = B.hunts-back u s from at least codebook thresholds index report p in
       let g : Counted = record { summary = spoken u; outside = outsideOf (bits s) from (multiframesOf u); tested = testedInRow (bits s) from at (multiframesOf u) } in
       let r : o .answer ≡ Read g = ap (λ (x : G.Outcome). x .answer) q in
       let e = bits-success answer place index report o room g r in (
         hears room g r refl (ap (λ (x : G.Outcome). x .index) q),
-        record {
-          outside = ap (λ (x : BitsReturned). getD (x .answer) 6 0) e;
-          tested = ap (λ (x : BitsReturned). getD (x .answer) 7 0) e;
-          place-stays = ap (λ (x : BitsReturned). x .place) e;
-        },
+        (
+          (λ k h.
+              let z : 13 * k ≡ 13 * k + 0 = omega arith in
+              ap (λ (x : BitsReturned). getD (x .report) (13 * k) 0) e ∙ ap (λ (x : G.Outcome). getD (x .report) (13 * k) 0) q ∙ ap (λ (i : ℕ). getD noted i 0) z ∙ note-octet k 0 h (omega arith)),
+          (
+            (λ k j h l.
+                let z : 13 * k + 1 + j ≡ 13 * k + suc j = omega arith in
+                ap (λ (x : BitsReturned). getD (x .report) (13 * k + 1 + j) 0) e ∙ ap (λ (x : G.Outcome). getD (x .report) (13 * k + 1 + j) 0) q ∙ ap (λ (i : ℕ). getD noted i 0) z
+                ∙ note-octet k (suc j) h (omega arith) ∙ no-more 12 j),
+            record {
+              outside = ap (λ (x : BitsReturned). getD (x .answer) 6 0) e;
+              tested = ap (λ (x : BitsReturned). getD (x .answer) 7 0) e;
+              place-stays = ap (λ (x : BitsReturned). x .place) e;
+            },
+          ),
+        ),
       )
+    where
+      noted : List ℕ
+      noted = over report 0 (reportOctets * multiframesOf u) (joined (λ k. receivedFlips u s at k ∷ replicate multiframePairs 0) (multiframesOf u))
+
+      note-octet : (k j : ℕ) → k < multiframesOf u → j < reportOctets
+          → getD (over report 0 (reportOctets * multiframesOf u) (joined (λ k. receivedFlips u s at k ∷ replicate multiframePairs 0) (multiframesOf u))) (reportOctets * k + j) 0
+          ≡ getD (receivedFlips u s at k ∷ replicate multiframePairs 0) j 0
+      note-octet k j h l =
+          let r = joined (λ k. receivedFlips u s at k ∷ replicate multiframePairs 0) (multiframesOf u) in
+          let n = length-joined (λ k. receivedFlips u s at k ∷ replicate multiframePairs 0) reportOctets (multiframesOf u) (λ k h. refl) in
+          front-at report r (reportOctets * multiframesOf u) (13 * k + j) (omega arith)
+          ∙ sym (getD-take 13 (drop (13 * k) r) j 0 l ∙ getD-drop (13 * k) r j 0)
+          ∙ ap (λ (x : List ℕ). getD x j 0) (joined-part (λ k. receivedFlips u s at k ∷ replicate multiframePairs 0) reportOctets (multiframesOf u) k (λ k h. refl) h)
 
   -- A LIST WITHOUT A WARNING CAN BE TRUSTED at dsr_read_bits: 0 and all notes 0, and what stands there is the utterance as written
   pub c-trusted-on-air : OnAir u s from at least → c .number ≡ 0 → ((i : ℕ) → i < reportOctets * getD (c .answer) 2 0 → getD (c .report) i 0 ≡ 0)
@@ -129,7 +168,8 @@ module _ (u : Utterance) (s : List ℕ) (from at least : ℕ) (codebook threshol
       }) in
       (w .image, hears (z .0) g (z .1 .1) (w .sent) (ap (λ (x : R.Outcome). x .index) (sym y) ∙ w .frames))
 
-  -- NEVER MISLED at dsr_read_bits: whatever happened to the packets, if it answers 0, rate, type and multiframes are those sent
+  -- NEVER MISLED at dsr_read_bits: with at most two flips in every header, whatever happened to the packets, if it answers 0, rate, type and
+  -- multiframes are those sent
   pub c-never-misled-on-air : Caught u s from at least → c .number ≡ 0
       → (getD (c .answer) 0 0 ≡ u .rate) × ((getD (c .answer) 1 0 ≡ u .kind) × (getD (c .answer) 2 0 ≡ multiframesOf u))
   c-never-misled-on-air a zero =
