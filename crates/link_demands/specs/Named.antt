@@ -94,6 +94,24 @@ module _ (u : Utterance) (s : List ℕ) (codebook thresholds : List ℤ) (g : Su
     padding = λ f i p h l z. frame-octet index (replicate 7 0) f i l (n .padding f p h (frame-there f ∙ z)) ∙ no-more 7 i;
   }
 
+-- octets beyond both parts of a reading are as they came
+pub beyond-both : (s : List ℕ) (codebook thresholds : List ℤ) (index report : List ℕ) (g : Summary) → reading s codebook thresholds index report .answer ≡ Read g
+    → (drop (indexOctets * g .multiframes) (reading s codebook thresholds index report .index) ≡ drop (indexOctets * g .multiframes) index)
+    × (drop (reportOctets * g .multiframes) (reading s codebook thresholds index report .report) ≡ drop (reportOctets * g .multiframes) report)
+beyond-both s codebook thresholds index report g e =
+    let w = A.was-read s codebook thresholds index report [] g e in
+    let places = cutting s .places in
+    let ns = pairNotes s places codebook thresholds in
+    let count : length places ≡ g .multiframes = sym (ap (λ (x : Summary). x .multiframes) (w .given-is)) in
+    let size = length-notes s places codebook thresholds in (
+      subst (λ (n : ℕ). drop (indexOctets * n) (reading s codebook thresholds index report .index) ≡ drop (indexOctets * n) index) count
+          (ap (λ (x : Outcome). drop (indexOctets * length places) (x .index)) (w .result-is)
+          ∙ beyond index (indexPart s places ns) (indexOctets * length places) (w .reader-accepts .fitting .roomy .index-room) (length-index s places ns size)),
+      subst (λ (n : ℕ). drop (reportOctets * n) (reading s codebook thresholds index report .report) ≡ drop (reportOctets * n) report) count
+          (ap (λ (x : Outcome). drop (reportOctets * length places) (x .report)) (w .result-is)
+          ∙ beyond report (reportPart s places ns (w .common)) (reportOctets * length places) (w .reader-accepts .fitting .roomy .report-room) (length-report s places ns (w .common) size)),
+    )
+
 -- ---- dsr_read
 module _ (s : List ℕ) (codebook thresholds : List ℤ) (index report answer : List ℕ) where
   abbrev pub got : Returned
@@ -118,19 +136,12 @@ module _ (s : List ℕ) (codebook thresholds : List ℤ) (index report answer : 
 
     pub stays : Stays
     stays =
-        let w = A.was-read s codebook thresholds index report [] g e in
-        let places = cutting s .places in
-        let ns = pairNotes s places codebook thresholds in
-        let count : getD (got .answer) 2 0 ≡ length places = at 2 ∙ ap (λ (x : Summary). x .multiframes) (w .given-is) in
-        let i : drop (indexOctets * length places) (got .index) ≡ drop (indexOctets * length places) index =
-        ap (λ (x : Returned). drop (indexOctets * length places) (x .index)) got-is ∙ ap (λ (x : Outcome). drop (indexOctets * length places) (x .index)) (w .result-is)
-        ∙ beyond index (indexPart s places ns) (indexOctets * length places) (w .reader-accepts .fitting .roomy .index-room) (length-index s places ns (length-notes s places codebook thresholds)) in
-        let r : drop (reportOctets * length places) (got .report) ≡ drop (reportOctets * length places) report =
-        ap (λ (x : Returned). drop (reportOctets * length places) (x .report)) got-is ∙ ap (λ (x : Outcome). drop (reportOctets * length places) (x .report)) (w .result-is)
-        ∙ beyond report (reportPart s places ns (w .common)) (reportOctets * length places) (w .reader-accepts .fitting .roomy .report-room) (length-report s places ns (w .common) (length-notes s places codebook thresholds)) in
+        let b = beyond-both s codebook thresholds index report g e in
         record {
-          index-beyond = subst (λ (n : ℕ). drop (indexOctets * n) (got .index) ≡ drop (indexOctets * n) index) (sym count) i;
-          report-beyond = subst (λ (n : ℕ). drop (reportOctets * n) (got .report) ≡ drop (reportOctets * n) report) (sym count) r;
+          index-beyond = subst (λ (n : ℕ). drop (indexOctets * n) (got .index) ≡ drop (indexOctets * n) index) (sym (at 2))
+              (ap (λ (x : Returned). drop (indexOctets * g .multiframes) (x .index)) got-is ∙ b .0);
+          report-beyond = subst (λ (n : ℕ). drop (reportOctets * n) (got .report) ≡ drop (reportOctets * n) report) (sym (at 2))
+              (ap (λ (x : Returned). drop (reportOctets * g .multiframes) (x .report)) got-is ∙ b .1);
           answer-beyond = ap (λ (x : Returned). drop answerNumbers (x .answer)) got-is ∙ beyond answer (summaryNumbers g) answerNumbers room refl;
         }
 

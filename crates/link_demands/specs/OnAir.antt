@@ -40,8 +40,8 @@ use Rattle.hunting_demands.specs.Standing.{testedInRow}
 use Rattle.hunting_demands.specs.HuntsBack as B
 use Rattle.hunting_demands.specs.Radio.{together, Caught, OnAir, on-air, found-on-air, flips-few, together-size, together-syncs, receivedPacket, packet-there, flips-there}
 use Rattle.hunting_demands.specs.Radio as Radio
-use Rattle.link_demands.specs.Calls.{bits-success, bits-zero}
-use Rattle.link_demands.specs.Named.{Tells, tells, headerNoteAt, pairNoteAt}
+use Rattle.link_demands.specs.Calls.{bits-success, bits-zero, beyond}
+use Rattle.link_demands.specs.Named.{Tells, tells, headerNoteAt, pairNoteAt, beyond-both}
 
 module _ (u : Utterance) (s : List ℕ) (from at least : ℕ) (codebook thresholds : List ℤ) (index report answer : List ℕ) (place : ℕ) where
   abbrev c : BitsReturned
@@ -195,3 +195,33 @@ module _ (u : Utterance) (s : List ℕ) (from at least : ℕ) (codebook threshol
           | no n ↦ inl (record { two = omega arith; but = 0; others = λ k h d. most k 3 h (lit≤ tt) })
         ];
       }
+
+-- WHAT STAYS of any input that dsr_read_bits answers with 0: octets beyond both parts, numbers beyond the eight, and the place
+module _ (s : List ℕ) (from least : ℕ) (codebook thresholds : List ℤ) (index report answer : List ℕ) (place : ℕ) where
+  abbrev gives : BitsReturned
+  gives = dsrReadBits s from least codebook thresholds index report answer place
+
+  pub record BitsStay : Type 0 where
+    pub index-beyond : drop (indexOctets * getD (gives .answer) 2 0) (gives .index) ≡ drop (indexOctets * getD (gives .answer) 2 0) index
+    pub report-beyond : drop (reportOctets * getD (gives .answer) 2 0) (gives .report) ≡ drop (reportOctets * getD (gives .answer) 2 0) report
+    pub answer-beyond : drop countedNumbers (gives .answer) ≡ drop countedNumbers answer
+    pub place-stays : gives .place ≡ place
+
+pub c-bits-stay : (s : List ℕ) (from least : ℕ) (codebook thresholds : List ℤ) (index report answer : List ℕ) (place : ℕ)
+    → dsrReadBits s from least codebook thresholds index report answer place .number ≡ 0 → BitsStay s from least codebook thresholds index report answer place
+c-bits-stay s from least codebook thresholds index report answer place zero =
+    let o = huntingReading s from least codebook thresholds index report in
+    let z = bits-zero answer place index report o zero in
+    let g = z .1 .0 in
+    let e = bits-success answer place index report o (z .0) g (z .1 .1) in
+    let y = F.success s from least codebook thresholds index report g (z .1 .1) .as-01-says in
+    let b = beyond-both (G.imageOf s (G.all s from least codebook thresholds index report .places)) codebook thresholds index report (g .summary) (ap (λ (x : R.Outcome). x .answer) y) in
+    let m : getD (dsrReadBits s from least codebook thresholds index report answer place .answer) 2 0 ≡ g .summary .multiframes = ap (λ (x : BitsReturned). getD (x .answer) 2 0) e in
+    record {
+      index-beyond = subst (λ (n : ℕ). drop (indexOctets * n) (dsrReadBits s from least codebook thresholds index report answer place .index) ≡ drop (indexOctets * n) index) (sym m)
+          (ap (λ (x : BitsReturned). drop (indexOctets * g .summary .multiframes) (x .index)) e ∙ sym (ap (λ (x : R.Outcome). drop (indexOctets * g .summary .multiframes) (x .index)) y) ∙ b .0);
+      report-beyond = subst (λ (n : ℕ). drop (reportOctets * n) (dsrReadBits s from least codebook thresholds index report answer place .report) ≡ drop (reportOctets * n) report) (sym m)
+          (ap (λ (x : BitsReturned). drop (reportOctets * g .summary .multiframes) (x .report)) e ∙ sym (ap (λ (x : R.Outcome). drop (reportOctets * g .summary .multiframes) (x .report)) y) ∙ b .1);
+      answer-beyond = ap (λ (x : BitsReturned). drop countedNumbers (x .answer)) e ∙ beyond answer (numbersOf g) countedNumbers (z .0) refl;
+      place-stays = ap (λ (x : BitsReturned). x .place) e;
+    }
