@@ -95,6 +95,9 @@ pub record Table : Type 0 where
   pub zero-2 : told 0 0 (ones 1 ++ (zeros 1 ++ ones 1)) (lent 144) ≡ (0, 144)
   pub zero-23 : told 0 0 (ones 22 ++ (zeros 1 ++ ones 2)) (lent 288) ≡ (0, 288)
   pub zero-25 : told 0 0 (ones 24 ++ (zeros 1 ++ ones 1)) (lent 288) ≡ (0, 288)
+  -- a frame speaks by any of its seven indices, and of the first 24 frames the 24th alone has to
+  pub last-seventh : told 0 0 (replicate 6 0 ++ (1 ∷ [])) (lent 144) ≡ (0, 144)
+  pub zeros-then-24 : told 0 0 (zeros 23 ++ ones 1) (lent 288) ≡ (0, 288)
 
 -- ---- no frame, of any settings
 no-stream : octets streamOctets (stream [] (firstPair 0) multiframePairs) ≡ replicate 138 0
@@ -145,4 +148,6 @@ table = record {
   zero-2 = refl;
   zero-23 = refl;
   zero-25 = refl;
+  last-seventh = refl;
+  zeros-then-24 = refl;
 }
