@@ -226,7 +226,7 @@ module _ (u : Utterance) where
   names-met two = record { damage = hurts; headers = inl two; pair = 2; within = omega arith; not-bad = third-good; lent = lent-zeros (multiframesOf u) }
 
 -- ---- and there is one: 24 frames of ones, which take two multiframes
-small-ones : (n : ℕ) → Small (replicate n 1)
+pub small-ones : (n : ℕ) → Small (replicate n 1)
 small-ones zero i = lit< tt
 small-ones (suc n) zero = lit< tt
 small-ones (suc n) (suc i) = small-ones n i
@@ -241,6 +241,14 @@ says24 = record { rate = 0; kind = 0; indices = replicate 168 1; small = small-o
 pub two-multiframes : multiframesOf says24 ≡ 2
 unfolding says24
 two-multiframes = refl
+
+pub rate-24 : says24 .rate ≡ 0
+unfolding says24
+rate-24 = refl
+
+pub frames-24 : frameCount (says24 .indices) ≡ 24
+unfolding says24
+frames-24 = refl
 
 pub names-says24 : N.Premises says24 (hurtImage says24) zeroBook zeroThresholds (indexFor (multiframesOf says24)) (reportFor (multiframesOf says24))
 names-says24 = names-met says24 (le-of-eq (sym two-multiframes))

@@ -1,3 +1,4 @@
 pub mod Misled
 pub mod Trusted
 pub mod Heard
+pub mod Flipped
