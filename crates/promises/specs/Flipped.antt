@@ -3,9 +3,10 @@
 use mathlib.Core.Path.{_≡_, refl, sym, ap, ap₂, _∙_, subst}
 use mathlib.Core.Bool.{Bool, true, false, not}
 use mathlib.Core.List.{List, [], _∷_}
-use mathlib.Core.Logic.{_⊎_, inl}
+use mathlib.Core.Logic.{_⊎_, inl, ⊎-elim}
 use Prim.Native.Nat.{ℕ, suc, _+_, _*_, _/_, _%_, _^_, _≤_, _<_}
 use native.Mathlib.Nat.{mod-eq-of-lt, div-add-mod', div-div-eq-div-mul}
+use native.Mathlib.Decide.{ℕ-discrete}
 use native.Mathlib.Omega.{arith}
 use lib.Bits.{bitAnd, bitXor, xor-lt, xor-mod, xor-self, xor-zero-r, xor-block, and-mask}
 use lib.Count.{ones, onesIn}
@@ -15,21 +16,25 @@ use lib.ListN.{length, getD, take, drop}
 use borrow.Author.Tests.{eq-eqb, ne-eqb, le-ltb}
 use Rattle.gf2.specs.Light.{ones-in}
 use Rattle.gf2.specs.Xor.{xor-swap}
-use Rattle.lists.specs.Tests.{when, by-test}
+use Rattle.lists.specs.Tests.{when, by-test, true-false}
 use Rattle.lists.specs.Parts.{part, over}
 use Rattle.lists.specs.Rows.{each, length-each, each-at, joined, length-joined, joined-part, same-joined}
-use Rattle.layout.specs.Layout.{frameIndices, dataBits, packetBits, multiframePairs, streamOctets, indexOctets, reportOctets, multiframeOf, firstPair, packetStart}
+use Rattle.layout.specs.Layout.{frameIndices, dataBits, packetBits, multiframePairs, streamOctets, indexOctets, reportOctets, multiframeOf, firstPair, packetStart, firstFrame, secondFrame}
 use Rattle.crc.specs.Crc.{right, Damaged}
-use Rattle.packet.specs.Packet.{packetOf}
+use Rattle.packet.specs.Packet.{packetOf, frameAt}
 use Rattle.packet.specs.Laws.{length-packetOf}
 use Rattle.header_code.specs.Code.{codeword, flipsTo, syndrome}
 use Rattle.header_code.specs.Code.Distance.{codeword-lt, codeword-low}
 use Rattle.header_code.specs.Code.Syndrome.{syndrome-xor, syndrome-codeword, codeword-of}
 use Rattle.header_code.specs.Code.Examples.{octets, rate-1}
-use Rattle.header.specs.Message.{message, rateOf, typeOf, countOf, expOf}
+use Rattle.header.specs.Message.{message, rateOf, typeOf, countOf, expOf, commonBits}
 use Rattle.header.specs.Message.Laws.{message-lt, message-back, rate-back, type-back, count-back, exp-back, rate-masked, type-masked, count-masked, exp-shifted, count-mod}
 use Rattle.header.specs.Reading.Laws.{flips-of}
-use Rattle.settling.specs.Settling.{readings, settling}
+use Rattle.header.specs.Reading as H
+use Rattle.header.specs.declared.Header.{Header}
+use Rattle.header.specs.declared.Header.the-variants.{Codeword, Lost}
+use Rattle.settling.specs.Settling.{readings, settling, headerNote}
+use Rattle.settling.specs.Laws.{Has, read-has}
 use Rattle.settling.specs.declared.Settings.the-variants.{Settled}
 use Rattle.cutting.specs.Laws.{every-length}
 use Rattle.pairs.specs.Pairs.{pairCount, pairFails, pairOdd, framesOf, pairNotes}
@@ -43,11 +48,39 @@ use Rattle.writer.specs.Writing.{settingsRight, verdict, needed}
 use Rattle.writer.specs.declared.Answer.the-variants.{Written}
 use Rattle.writer.specs.Laws.{few-multiframes, length-image, accepts}
 use Rattle.writer.specs.Made.{syncIn, wordIn, packetIn, made, framed, length-made, made-sync, made-word, made-packet}
-use Rattle.writer.specs.Image.{image-sync, image-packet, Utterance, multiframesOf, pairsOf, imageOf, is-accepted, kind-small}
-use Rattle.demands.specs.Damage.{DamageUpTo, headerFlips, sentMessage, header-near}
+use Rattle.writer.specs.Image.{image-sync, image-packet, Utterance, multiframesOf, pairsOf, imageOf, is-accepted, kind-small, rate-not-2}
+use Rattle.demands.specs.Damage.{DamageUpTo, headerFlips, sentMessage, header-near, header-read}
 use Rattle.demands.specs.Damages.{damage-up-to}
-use Rattle.demands.specs.Whole.{rowOf, Lent, packet-at, reads-as}
-use Rattle.demands.specs.Met.{zeroBook, zeroThresholds, zero-consistent}
+use Rattle.demands.specs.Whole.{rowOf, Lent, pairNoteIn, packet-at, readings-are, reads-as}
+use Rattle.demands.specs.Headers.{sentCommon, common-sent, rate-sent, exp-sent}
+use Rattle.demands.specs.Received.{ByRule, BadPair}
+use Rattle.demands.specs.NamesTheDamage as N
+use Rattle.demands.specs.Met.{zeroBook, zeroThresholds, indexFor, reportFor, zero-consistent}
+
+-- ---- how many bits these numbers flip
+pub none-flipped : ones 0 ≡ 0
+unfolding onesIn
+none-flipped = sym (ones-in 1 0 (lit< tt))
+
+pub one-flipped : ones 1 ≡ 1
+unfolding onesIn
+one-flipped = sym (ones-in 1 1 (lit< tt))
+
+pub two-flipped : ones 3 ≡ 2
+unfolding onesIn
+two-flipped = sym (ones-in 2 3 (lit< tt))
+
+pub three-flipped : ones 7 ≡ 3
+unfolding onesIn
+three-flipped = sym (ones-in 3 7 (lit< tt))
+
+pub five-flipped : ones 31 ≡ 5
+unfolding onesIn
+five-flipped = sym (ones-in 5 31 (lit< tt))
+
+pub seven-flipped : ones 127 ≡ 7
+unfolding onesIn
+seven-flipped = sym (ones-in 7 127 (lit< tt))
 
 -- ---- any packets, twelve behind each header
 module _ (f : ℕ → List Bool) where
@@ -188,6 +221,10 @@ message-11 t c l =
 abbrev pub rateBits : ℕ
 rateBits = 0xD1010001
 
+pub six-flipped : ones rateBits ≡ 6
+unfolding onesIn
+six-flipped = sym (ones-in 32 rateBits (lit< tt))
+
 pub rate-codeword : codeword 1 ≡ rateBits
 rate-codeword = by (codeword 1) rate-1
   where
@@ -222,6 +259,35 @@ module _ (u : Utterance) (eight : u .rate ≡ 0) where
           sym (ap (λ (w : ℕ). bitXor w (bitXor (e k) rateBits)) (word-11 k) ∙ xor-swap a rateBits (e k) rateBits ∙ ap (bitXor (bitXor a (e k))) (xor-self rateBits)
           ∙ xor-zero-r (bitXor a (e k)))
 
+  pub flips-at-11 : (e : ℕ → ℕ) (f : ℕ → List Bool) → ((k : ℕ) → e k < 2 ^ 32) → (k : ℕ) → k < multiframesOf u
+      → headerFlips (imageOf (at11 u)) (flipped u e f) k ≡ ones (bitXor (e k) rateBits)
+  flips-at-11 e f small k h =
+      ap (λ (s : List ℕ). headerFlips (imageOf (at11 u)) s k) (seen-at-11 e f)
+      ∙ flips-are (at11 u) (λ k. bitXor (e k) rateBits) f (λ k. xor-lt 32 (e k) rateBits (small k) (lit< tt)) k h
+
+  -- a header that is read as that of 11 kHz is noted for it
+  pub noted-11 : (k n : ℕ) → headerNote (sentCommon u) k (Codeword (sentMessage (at11 u) k) n) ≡ n + 8
+  unfolding headerNote
+  noted-11 k n =
+      let z : n + 0 + 8 ≡ n + 8 = omega arith in
+      rw (
+        eq-eqb (countOf (sentMessage (at11 u) k)) ((k + 1) % 16) (count-back 1 (u .kind) (k + 1) 0),
+        ne-eqb (commonBits (sentMessage (at11 u) k)) (sentCommon u) (λ q.
+        let y : _≡_ {A = ℕ} 0 1 = sym (rate-sent u ∙ eight) ∙ ap rateOf (sym q) ∙ ap rateOf (common-sent (at11 u) k) ∙ rate-sent (at11 u) in omega arith),
+      ) z
+
+-- ---- the headers as they are read
+pub header-at : (s : List ℕ) (m k : ℕ) → k < m → getD (readings s (rowOf m)) k Lost ≡ H.reading (wordIn s k)
+header-at s m k h = ap (λ (l : List Header). getD l k Lost) (readings-are s m) ∙ each-at (λ k. H.reading (wordIn s k)) m k Lost h
+
+pub has-common : (u : Utterance) (s : List ℕ) (k : ℕ) → k < multiframesOf u → headerFlips (imageOf u) s k ≤ 2 → Has (readings s (rowOf (multiframesOf u))) k (sentCommon u)
+has-common u s k h few =
+    subst (Has (readings s (rowOf (multiframesOf u))) k) (common-sent u k)
+    (read-has (readings s (rowOf (multiframesOf u))) k (sentMessage u k) (headerFlips (imageOf u) s k) (header-at s (multiframesOf u) k h ∙ header-read u s k h few))
+
+pub usable : (u : Utterance) → Usable (sentCommon u)
+usable u = record { rate = λ e. rate-not-2 u (sym (rate-sent u) ∙ e); exp = exp-sent u }
+
 -- ---- a reading with any headers that settle settings, and a good pair
 module _ (u : Utterance) (s : List ℕ) (size : length s ≡ length (imageOf u)) (syncs : (k : ℕ) → k < multiframesOf u → syncIn s k ≡ syncIn (imageOf u) k)
     (codebook thresholds : List ℤ) (index report : List ℕ) (lent : Lent (multiframesOf u) codebook thresholds index report) (c : ℕ) where
@@ -250,7 +316,14 @@ module _ (u : Utterance) (s : List ℕ) (size : length s ≡ length (imageOf u))
         };
       }
 
--- with tables of zeros a pair whose CRC is right is good, whatever stands around it
+-- ---- tables of zeros, and just enough room
+abbrev pub zeroRead : Utterance → List ℕ → Outcome
+zeroRead u s = reading s zeroBook zeroThresholds (indexFor (multiframesOf u)) (reportFor (multiframesOf u))
+
+abbrev pub zeroNotes : Utterance → List ℕ → List ℕ
+zeroNotes u s = pairNotes s (rowOf (multiframesOf u)) zeroBook zeroThresholds
+
+-- a pair whose CRC is right is good, whatever stands around it
 module _ (s : List ℕ) (m q : ℕ) (h : q < multiframePairs * m) (whole : right dataBits (packetIn s q) ≡ true) where
   never-fails : pairFails s (rowOf m) q ≡ false
   unfolding pairFails
@@ -274,3 +347,19 @@ module _ (s : List ℕ) (m q : ℕ) (h : q < multiframePairs * m) (whole : right
 
   pub good-pair : Good (pairNotes s (rowOf m) zeroBook zeroThresholds)
   good-pair = record { pair = q; within = omega (arith, length-notes s (rowOf m) zeroBook zeroThresholds, every-length 0 m); good = right-good }
+
+-- so a pair that is as it was sent is not bad, and is not named
+module _ (u : Utterance) (s : List ℕ) (q : ℕ) (whole : packetIn s q ≡ packetIn (imageOf u) q) where
+  never-ruled : ByRule u s zeroBook zeroThresholds q → ⊥
+  never-ruled r = true-false (sym (r .0) ∙ zero-consistent (frameAt (u .indices) (firstFrame q)) (frameAt (u .indices) (secondFrame q)))
+
+  pub zero-not-bad : BadPair u s zeroBook zeroThresholds q → ⊥
+  zero-not-bad b = ⊎-elim (λ t. t whole) never-ruled b
+
+  pub zero-unnamed : q < pairsOf u → N.Wider u s zeroBook zeroThresholds (indexFor (multiframesOf u)) (reportFor (multiframesOf u)) → pairNoteIn (zeroRead u s .report) q ≡ 0
+  zero-unnamed h p =
+      let x = N.names-wider u s zeroBook zeroThresholds (indexFor (multiframesOf u)) (reportFor (multiframesOf u)) p in
+      elim (ℕ-discrete (pairNoteIn (zeroRead u s .report) q) 0) [
+        | yes y ↦ y
+        | no n ↦ absurd (never-ruled (x .names .others q h (λ t. t whole) .0 n))
+      ]

@@ -2,3 +2,4 @@ pub mod Misled
 pub mod Trusted
 pub mod Heard
 pub mod Flipped
+pub mod Met

@@ -1,0 +1,408 @@
+-- The premises of what the yards are told are met, and not only by images as they were written.
+-- Assumes nothing.
+use mathlib.Core.Path.{_≡_, refl, sym, ap, ap₂, _∙_, subst}
+use mathlib.Core.Bool.{Bool, true, false}
+use mathlib.Core.List.{List, [], _∷_, _++_}
+use mathlib.Core.Logic.{_⊎_, inl, inr, ⊎-elim}
+use Prim.Native.Nat.{ℕ, zero, suc, _+_, _-_, _*_, _/_, _%_, _^_, _≤_, _<_}
+use native.Mathlib.Nat.{le-of-eq}
+use native.Mathlib.Decide.{ℕ-discrete}
+use native.Mathlib.Omega.{arith}
+use lib.Bits.{bitXor, xor-self}
+use lib.Count.{ones}
+use lib.Dec.{eqb, lit<}
+use lib.IntN.{ℤ}
+use lib.ListN.{length, getD, replicate, length-replicate}
+use borrow.Author.Tests.{eq-eqb, ne-eqb}
+use Rattle.lists.specs.Tests.{when, by-test}
+use Rattle.lists.specs.Parts.{part, over}
+use Rattle.layout.specs.Layout.{dataBits, packetBits, multiframePairs, indexOctets, reportOctets}
+use Rattle.crc.specs.Crc.{right, flip, Damaged}
+use Rattle.crc.specs.Damage.{length-flip, flip-burst, flips-burst, flips-double}
+use Rattle.packet.specs.Packet.{packetOf}
+use Rattle.packet.specs.Laws.{length-packetOf, packetOf-good}
+use Rattle.cutting.specs.Laws.{every-length}
+use Rattle.header.specs.declared.Header.{Header}
+use Rattle.header.specs.declared.Header.the-variants.{Codeword, Lost}
+use Rattle.settling.specs.Settling.{readings, settling, headerNote}
+use Rattle.settling.specs.Laws.{two-settle}
+use Rattle.settling.specs.declared.Settings.the-variants.{Settled}
+use Rattle.pairs.specs.Pairs.{pairNotes}
+use Rattle.pairs.specs.Laws.{length-notes}
+use Rattle.reader.specs.Reading.{indexPart, reportPart, summary, Outcome, outcome, reading}
+use Rattle.reader.specs.declared.Summary.{Summary}
+use Rattle.reader.specs.declared.Answer.the-variants.{Read}
+use Rattle.writer.specs.Writing.{verdict, roomAnswer, firstFrom, frameCount, needed}
+use Rattle.writer.specs.Made.{wordIn, packetIn}
+use Rattle.writer.specs.Image.{image-packet, Utterance, multiframesOf, pairsOf, imageOf}
+use Rattle.writer.specs.declared.Answer.the-variants.{Written}
+use Rattle.demands.specs.Damage.{DamageUpTo, Damage, Touched, differs, headerFlips, sentMessage, header-read}
+use Rattle.demands.specs.Damages.{unharmed}
+use Rattle.demands.specs.Headers.{sentCommon, others-sent, TwoReadable}
+use Rattle.demands.specs.Received.{BadPair}
+use Rattle.demands.specs.ReadsBack.{spoken, padded, no-more, never-bad, reads-image}
+use Rattle.demands.specs.NamesTheDamage as N
+use Rattle.demands.specs.Whole.{rowOf, Lent, front-at, headerNoteIn, pairNoteIn, header-note-is}
+use Rattle.demands.specs.Instances.{says1}
+use Rattle.demands.specs.Met.{zeroBook, zeroThresholds, indexFor, reportFor, lent-zeros, distance, small-ones, says24, two-multiframes}
+use Rattle.promises.specs.Misled as M
+use Rattle.promises.specs.Trusted as T
+use Rattle.promises.specs.Heard as S
+use Rattle.promises.specs.Flipped.{flipped, flipped-size, flipped-syncs, flips-are, packets-are, flipped-damage, zero-not-bad, zero-unnamed, sent-whole, sent-damage, butOne, there, elsewhere, length-but-one, at11, rateBits, none-flipped, one-flipped, two-flipped, three-flipped, five-flipped, six-flipped, flips-at-11, noted-11, header-at, has-common, usable, reads-settled, good-pair, zeroRead}
+
+-- ---- 48 frames of ones, which take three multiframes
+written-48 : verdict 0 0 (replicate 336 1) (needed (replicate 336 1)) ≡ Written (needed (replicate 336 1))
+unfolding verdict roomAnswer firstFrom
+written-48 = refl
+
+pub says48 : Utterance
+says48 = record { rate = 0; kind = 0; indices = replicate 336 1; small = small-ones 336; written = written-48 }
+
+pub three-multiframes : multiframesOf says48 ≡ 3
+unfolding says48
+three-multiframes = refl
+
+pub rate-48 : says48 .rate ≡ 0
+unfolding says48
+rate-48 = refl
+
+-- ---- NEVER MISLED: the second header is replaced by the codeword of 11 kHz, as in the incident, and the packets by any bits whatsoever
+abbrev pub wrongSecond : ℕ → ℕ
+wrongSecond k = when (eqb k 1) rateBits 0
+
+wrong-lt : (k : ℕ) → wrongSecond k < 2 ^ 32
+wrong-lt k = by-test (λ (n : ℕ). n < 2 ^ 32) (eqb k 1) (λ t. lit< tt) (λ t. lit< tt)
+
+module _ (u : Utterance) (f : ℕ → List Bool) where
+  abbrev pub incident : List ℕ
+  incident = flipped u wrongSecond f
+
+  pub six-flips : 1 < multiframesOf u → headerFlips (imageOf u) incident 1 ≡ 6
+  six-flips h = flips-are u wrongSecond f wrong-lt 1 h ∙ six-flipped
+
+  others : (k : ℕ) → k < multiframesOf u → (k ≡ 1 → ⊥) → headerFlips (imageOf u) incident k ≡ 0
+  others k h n =
+      let e : wrongSecond k ≡ 0 = rw (ne-eqb k 1 n) in
+      flips-are u wrongSecond f wrong-lt k h ∙ ap ones e ∙ none-flipped
+
+  pub misled-met : 2 ≤ multiframesOf u → M.Premises u incident
+  misled-met two = record {
+    size = flipped-size u wrongSecond f;
+    syncs = flipped-syncs u wrongSecond f;
+    headers = inl (record { two = two; but = 1; others = λ k h n. omega (arith, others k h n) });
+  }
+
+  -- and alone it is harmless: of three multiframes or more, with tables of zeros and one packet that is right, the reading succeeds with what was
+  -- sent, and the header is noted for its settings
+  pub record Harmless : Type 0 where
+    pub given : Summary
+    pub succeeds : zeroRead u incident .answer ≡ Read given
+    pub sent : M.AsSent u incident given
+    pub noted : headerNoteIn (zeroRead u incident .report) 1 ≡ 8
+
+  module _ (eight : u .rate ≡ 0) (three : 3 ≤ multiframesOf u) (q : ℕ) (within : q < pairsOf u) (whole : right dataBits (packetIn incident q) ≡ true) where
+    abbrev m : ℕ
+    m = multiframesOf u
+
+    abbrev ns : List ℕ
+    ns = pairNotes incident (rowOf m) zeroBook zeroThresholds
+
+    -- the first header and the third settle the settings
+    settled : settling (readings incident (rowOf m)) ≡ Settled (sentCommon u)
+    settled =
+        two-settle (readings incident (rowOf m)) (sentCommon u) 1 (others-sent u incident 1 (λ k h n. omega (arith, others k h n))) 0 2 (lit< tt)
+        (has-common u incident 0 (omega arith) (omega (arith, others 0 (omega arith) (λ e. omega arith))))
+        (has-common u incident 2 (omega arith) (omega (arith, others 2 (omega arith) (λ e. omega arith))))
+
+    -- the second is read as that of 11 kHz
+    second : getD (readings incident (rowOf m)) 1 Lost ≡ Codeword (sentMessage (at11 u) 1) 0
+    second =
+        let none : headerFlips (imageOf (at11 u)) incident 1 ≡ 0 = flips-at-11 u eight wrongSecond f wrong-lt 1 (omega arith) ∙ ap ones (xor-self rateBits) ∙ none-flipped in
+        header-at incident m 1 (omega arith) ∙ header-read (at11 u) incident 1 (omega arith) (omega arith) ∙ ap (Codeword (sentMessage (at11 u) 1)) none
+
+    pub harmless : Harmless
+    harmless = record {
+      given = summary incident (rowOf m) ns (sentCommon u);
+      succeeds = ap (λ (o : Outcome). o .answer) read-is;
+      sent = M.never-misled u incident (misled-met (omega arith)) zeroBook zeroThresholds (indexFor m) (reportFor m) (summary incident (rowOf m) ns (sentCommon u))
+          (ap (λ (o : Outcome). o .answer) read-is);
+      noted = ap (λ (o : Outcome). headerNoteIn (o .report) 1) read-is
+          ∙ header-note-is incident (rowOf m) ns (reportFor m) (sentCommon u) (reportOctets * length (rowOf m)) (length-notes incident (rowOf m) zeroBook zeroThresholds) 1 (omega (arith, every-length 0 m))
+          ∙ ap (headerNote (sentCommon u) 1) second ∙ noted-11 u eight 1 0;
+    }
+      where
+        read-is : reading incident zeroBook zeroThresholds (indexFor m) (reportFor m)
+            ≡ outcome (Read (summary incident (rowOf m) ns (sentCommon u))) (over (indexFor m) 0 (indexOctets * length (rowOf m)) (indexPart incident (rowOf m) ns))
+            (over (reportFor m) 0 (reportOctets * length (rowOf m)) (reportPart incident (rowOf m) ns (sentCommon u)))
+        read-is =
+            reads-settled u incident (flipped-size u wrongSecond f) (flipped-syncs u wrongSecond f) zeroBook zeroThresholds (indexFor m) (reportFor m) (lent-zeros m) (sentCommon u)
+            settled (usable u) (good-pair incident m q within whole)
+
+-- so with any bits for the first packet of 48 frames, and all others as they were sent
+pub incident-48 : (p : List Bool) → length p ≡ packetBits → Harmless says48 (butOne says48 0 p)
+incident-48 p size =
+    let f = butOne says48 0 p in
+    let h : 1 < pairsOf says48 = omega (arith, three-multiframes) in
+    harmless says48 f rate-48 (omega (arith, three-multiframes)) 1 h
+    (ap (right dataBits) (packets-are says48 wrongSecond f wrong-lt (length-but-one says48 0 p size) 1 h ∙ elsewhere says48 0 p 1 (λ e. omega arith)) ∙ packetOf-good (says48 .indices) 1)
+
+-- an only header with up to five flips, and any packets
+module _ (u : Utterance) (single : multiframesOf u ≡ 1) (e : ℕ) (small : e < 2 ^ 32) (f : ℕ → List Bool) where
+  pub only-met : ones e ≤ 5 → M.Premises u (flipped u (λ k. e) f)
+  only-met five = record {
+    size = flipped-size u (λ k. e) f;
+    syncs = flipped-syncs u (λ k. e) f;
+    headers = inr (record { single = single; five = subst (λ (n : ℕ). n ≤ 5) (sym (flips-are u (λ k. e) f (λ k. small) 0 (omega arith))) five });
+  }
+
+pub only-five : (f : ℕ → List Bool) → M.Premises says1 (flipped says1 (λ k. 31) f) × (headerFlips (imageOf says1) (flipped says1 (λ k. 31) f) 0 ≡ 5)
+only-five f = (only-met says1 refl 31 (lit< tt) f (le-of-eq five-flipped), flips-are says1 (λ k. 31) f (λ k. lit< tt) 0 (lit< tt) ∙ five-flipped)
+
+-- ---- TRUSTED: every image as it was written is read without a warning, whatever the tables; the theorem says that no other damaged image is
+module _ (u : Utterance) (codebook thresholds : List ℤ) (index report : List ℕ) (lent : Lent (multiframesOf u) codebook thresholds index report) where
+  pub without-warning : T.WithoutWarning (imageOf u) codebook thresholds index report (spoken u)
+  without-warning =
+      let n = reportOctets * multiframesOf u in
+      let r = reads-image u codebook thresholds index report lent in
+      record {
+        succeeds = ap (λ (o : Outcome). o .answer) r;
+        notes-0 = λ i h.
+            ap (λ (o : Outcome). getD (o .report) i 0) r ∙ front-at report (replicate n 0) n i (subst (λ (k : ℕ). i < k) (sym (length-replicate n 0)) h) ∙ no-more n i;
+      }
+
+pub trusted-met : (u : Utterance) → Damage (multiframesOf u) (imageOf u) (imageOf u)
+    × T.WithoutWarning (imageOf u) zeroBook zeroThresholds (indexFor (multiframesOf u)) (reportFor (multiframesOf u)) (spoken u)
+trusted-met u = (unharmed u, without-warning u zeroBook zeroThresholds (indexFor (multiframesOf u)) (reportFor (multiframesOf u)) (lent-zeros (multiframesOf u)))
+
+-- ---- HEARD WHOLE, and names-the-damage wider: the first header has two flips, the second three and is lost, the others have one
+abbrev pub lostSecond : ℕ → ℕ
+lostSecond k = when (eqb k 0) 3 (when (eqb k 1) 7 1)
+
+lost-lt : (k : ℕ) → lostSecond k < 2 ^ 32
+lost-lt k = by-test (λ (n : ℕ). n < 2 ^ 32) (eqb k 0) (λ t. lit< tt) (λ t. by-test (λ (n : ℕ). n < 2 ^ 32) (eqb k 1) (λ t. lit< tt) (λ t. lit< tt))
+
+lost-three : (k : ℕ) → ones (lostSecond k) ≤ 3
+lost-three k =
+    by-test (λ (n : ℕ). ones n ≤ 3) (eqb k 0) (λ t. omega (arith, two-flipped)) (λ t.
+    by-test (λ (n : ℕ). ones n ≤ 3) (eqb k 1) (λ t. omega (arith, three-flipped)) (λ t. omega (arith, one-flipped)))
+
+module _ (u : Utterance) (three : 3 ≤ multiframesOf u) (f : ℕ → List Bool) where
+  lost-flips : (k : ℕ) → k < multiframesOf u → headerFlips (imageOf u) (flipped u lostSecond f) k ≡ ones (lostSecond k)
+  lost-flips k h = flips-are u lostSecond f lost-lt k h
+
+  -- the first and the third settle the settings
+  two-readable : TwoReadable u (flipped u lostSecond f)
+  two-readable = record {
+    one = 0;
+    two = 2;
+    order = lit< tt;
+    within = omega arith;
+    few-of-one = omega (arith, lost-flips 0 (omega arith), two-flipped);
+    few-of-two = omega (arith, lost-flips 2 (omega arith), one-flipped);
+  }
+
+-- no pair is damaged
+abbrev pub lostOne : Utterance → List ℕ
+lostOne u = flipped u lostSecond (packetOf (u .indices))
+
+-- so it is heard whole: the frames, then zeros, speech n, end 1; and the notes of the headers are 2, 3 and 1
+pub record Heard (u : Utterance) (codebook thresholds : List ℤ) (index report : List ℕ) : Type 0 where
+  pub succeeds : reading (lostOne u) codebook thresholds index report .answer ≡ Read (spoken u)
+  pub frames : reading (lostOne u) codebook thresholds index report .index ≡ over index 0 (indexOctets * multiframesOf u) (padded u)
+  pub first : headerNoteIn (reading (lostOne u) codebook thresholds index report .report) 0 ≡ 2
+  pub second : headerNoteIn (reading (lostOne u) codebook thresholds index report .report) 1 ≡ 3
+  pub third : headerNoteIn (reading (lostOne u) codebook thresholds index report .report) 2 ≡ 1
+
+-- whatever the tables
+module _ (u : Utterance) (three : 3 ≤ multiframesOf u) (codebook thresholds : List ℤ) (index report : List ℕ) (lent : Lent (multiframesOf u) codebook thresholds index report) where
+  damage-3 : DamageUpTo 3 (multiframesOf u) (imageOf u) (lostOne u)
+  damage-3 = sent-damage u lostSecond lost-lt 3 (λ k h. lost-three k)
+
+  not-one-bad : (q : ℕ) → q < pairsOf u → BadPair u (lostOne u) codebook thresholds q → ⊥
+  not-one-bad = never-bad u (lostOne u) damage-3 (sent-whole u lostSecond lost-lt) (inl (two-readable u three (packetOf (u .indices)))) codebook thresholds index report lent
+
+  pub heard-met : N.Wider u (lostOne u) codebook thresholds index report
+  heard-met = record {
+    damage = damage-3;
+    headers = inl (two-readable u three (packetOf (u .indices)));
+    pair = 0;
+    within = omega arith;
+    not-bad = not-one-bad 0 (omega arith);
+    lent = lent;
+  }
+
+  named : N.Named u (lostOne u) codebook thresholds index report
+  named = N.names-wider u (lostOne u) codebook thresholds index report heard-met
+
+  pub none-named : (q : ℕ) → q < pairsOf u → pairNoteIn (reading (lostOne u) codebook thresholds index report .report) q ≡ 0
+  none-named q h =
+      elim (ℕ-discrete (pairNoteIn (reading (lostOne u) codebook thresholds index report .report) q) 0) [
+        | yes y ↦ y
+        | no n ↦ absurd (not-one-bad q h (inr (named .names .others q h (λ t. t (sent-whole u lostSecond lost-lt q h)) .0 n)))
+      ]
+
+  pub heard : Heard u codebook thresholds index report
+  heard =
+      let r = S.heard-whole u (lostOne u) codebook thresholds index report heard-met none-named in
+      let note = named .names .flips in
+      let flips = lost-flips u three (packetOf (u .indices)) in
+      record {
+        succeeds = ap (λ (o : Outcome). o .answer) r;
+        frames = ap (λ (o : Outcome). o .index) r;
+        first = note 0 (omega arith) ∙ flips 0 (omega arith) ∙ two-flipped;
+        second = note 1 (omega arith) ∙ flips 1 (omega arith) ∙ three-flipped;
+        third = note 2 (omega arith) ∙ flips 2 (omega arith) ∙ one-flipped;
+      }
+
+pub heard-48 : Heard says48 zeroBook zeroThresholds (indexFor (multiframesOf says48)) (reportFor (multiframesOf says48))
+heard-48 = heard says48 (le-of-eq (sym three-multiframes)) zeroBook zeroThresholds (indexFor (multiframesOf says48)) (reportFor (multiframesOf says48)) (lent-zeros (multiframesOf says48))
+
+-- ---- NAMES THE DAMAGE WIDER, with the same headers, a burst in the first packet of every multiframe, and two flips at demand 3's example of a
+-- distance in the second
+module _ (u : Utterance) (q : ℕ) where
+  abbrev burst : List Bool
+  burst = flip (flip (packetOf (u .indices) q) 0) 2
+
+  abbrev double : List Bool
+  double = flip (flip (packetOf (u .indices) q) 0) distance
+
+  abbrev pub hurtPacket : List Bool
+  hurtPacket = when (eqb (q % multiframePairs) 0) burst (when (eqb (q % multiframePairs) 1) double (packetOf (u .indices) q))
+
+  length-flips : (i j : ℕ) → length (flip (flip (packetOf (u .indices) q) i) j) ≡ packetBits
+  length-flips i j =
+      length-flip (flip (packetOf (u .indices) q) i) j ∙ length-flip (packetOf (u .indices) q) i ∙ length-packetOf (u .indices) q
+
+  length-hurt : length hurtPacket ≡ packetBits
+  length-hurt =
+      by-test (λ (l : List Bool). length l ≡ packetBits) (eqb (q % multiframePairs) 0) (λ t. length-flips 0 2) (λ t.
+      by-test (λ (l : List Bool). length l ≡ packetBits) (eqb (q % multiframePairs) 1) (λ t. length-flips 0 distance) (λ t. length-packetOf (u .indices) q))
+
+  burst-hurts : Damaged (packetOf (u .indices) q) burst
+  burst-hurts = inl (flips-burst (packetOf (u .indices) q) 0 2 (lit< tt) (lit< tt) (omega (arith, length-packetOf (u .indices) q)))
+
+  double-hurts : Damaged (packetOf (u .indices) q) double
+  double-hurts = inr (flips-double (packetOf (u .indices) q) 0 distance (lit< tt) (omega (arith, length-packetOf (u .indices) q)) (λ e. omega arith))
+
+  abbrev SentOr : List Bool → Type 0
+  SentOr l = (l ≡ packetOf (u .indices) q) ⊎ Damaged (packetOf (u .indices) q) l
+
+  fates : (hurtPacket ≡ packetOf (u .indices) q) ⊎ Damaged (packetOf (u .indices) q) hurtPacket
+  fates =
+      by-test SentOr (eqb (q % multiframePairs) 0) (λ t. inr burst-hurts) (λ t.
+      by-test SentOr (eqb (q % multiframePairs) 1) (λ t. inr double-hurts) (λ t. inl refl))
+
+abbrev pub allHurt : Utterance → List ℕ
+allHurt u = flipped u lostSecond (hurtPacket u)
+
+-- so its damage is named: the lost header by 3, the first two pairs by 1; the third is good
+pub record Hurt (u : Utterance) : Type 0 where
+  pub lost : headerNoteIn (zeroRead u (allHurt u) .report) 1 ≡ 3
+  pub first : pairNoteIn (zeroRead u (allHurt u) .report) 0 ≡ 1
+  pub second : pairNoteIn (zeroRead u (allHurt u) .report) 1 ≡ 1
+  pub third : pairNoteIn (zeroRead u (allHurt u) .report) 2 ≡ 0
+
+module _ (u : Utterance) (three : 3 ≤ multiframesOf u) where
+  packet-is : (q : ℕ) → q < pairsOf u → packetIn (allHurt u) q ≡ hurtPacket u q
+  packet-is q h = packets-are u lostSecond (hurtPacket u) lost-lt (length-hurt u) q h
+
+  sent : (q : ℕ) → q < pairsOf u → packetIn (imageOf u) q ≡ packetOf (u .indices) q
+  sent q h = image-packet (u .rate) (u .kind) (u .indices) (multiframesOf u) q h
+
+  third-whole : packetIn (allHurt u) 2 ≡ packetIn (imageOf u) 2
+  third-whole = packet-is 2 (omega arith) ∙ sym (sent 2 (omega arith))
+
+  touched : (q : ℕ) → q < pairsOf u → Damaged (packetOf (u .indices) q) (hurtPacket u q) → Touched (imageOf u) (allHurt u) q
+  touched q h d e = differs (packetOf (u .indices) q) (hurtPacket u q) d (sym (packet-is q h) ∙ e ∙ sent q h)
+
+  pub wider-met : N.Wider u (allHurt u) zeroBook zeroThresholds (indexFor (multiframesOf u)) (reportFor (multiframesOf u))
+  wider-met = record {
+    damage = flipped-damage u lostSecond (hurtPacket u) lost-lt (length-hurt u) 3 (λ k h. lost-three k) (λ q h. fates u q);
+    headers = inl (two-readable u three (hurtPacket u));
+    pair = 2;
+    within = omega arith;
+    not-bad = zero-not-bad u (allHurt u) 2 third-whole;
+    lent = lent-zeros (multiframesOf u);
+  }
+
+  pub hurt : Hurt u
+  hurt =
+      let names = N.names-wider u (allHurt u) zeroBook zeroThresholds (indexFor (multiframesOf u)) (reportFor (multiframesOf u)) wider-met .names in
+      record {
+        lost = names .flips 1 (omega arith) ∙ lost-flips u three (hurtPacket u) 1 (omega arith) ∙ three-flipped;
+        first = names .damaged 0 (omega arith) .1 (touched 0 (omega arith) (burst-hurts u 0));
+        second = names .damaged 1 (omega arith) .1 (touched 1 (omega arith) (double-hurts u 1));
+        third = zero-unnamed u (allHurt u) 2 third-whole (omega arith) wider-met;
+      }
+
+pub hurt-48 : Hurt says48
+hurt-48 = hurt says48 (le-of-eq (sym three-multiframes))
+
+-- ---- LAST HEARD: of two multiframes or more, the first pair is damaged and every header has two flips
+abbrev pub firstHurt : Utterance → List ℕ
+firstHurt u = flipped u (λ k. 3) (butOne u 0 (flip (packetOf (u .indices) 0) 0))
+
+-- the pair is named, and yet speech and end are as sent
+pub record LastHeard (u : Utterance) : Type 0 where
+  pub named : pairNoteIn (zeroRead u (firstHurt u) .report) 0 ≡ 1
+  pub given : Summary
+  pub succeeds : zeroRead u (firstHurt u) .answer ≡ Read given
+  pub speech : given .speech ≡ frameCount (u .indices)
+  pub end : given .end ≡ 1
+
+module _ (u : Utterance) (two : 2 ≤ multiframesOf u) where
+  abbrev hit : List Bool
+  hit = flip (packetOf (u .indices) 0) 0
+
+  hit-size : length hit ≡ packetBits
+  hit-size = length-flip (packetOf (u .indices) 0) 0 ∙ length-packetOf (u .indices) 0
+
+  hit-hurts : Damaged (packetOf (u .indices) 0) hit
+  hit-hurts = inl (flip-burst (packetOf (u .indices) 0) 0 (omega (arith, length-packetOf (u .indices) 0)))
+
+  got : (q : ℕ) → q < pairsOf u → packetIn (firstHurt u) q ≡ butOne u 0 hit q
+  got q h = packets-are u (λ k. 3) (butOne u 0 hit) (λ k. lit< tt) (length-but-one u 0 hit hit-size) q h
+
+  others-whole : (q : ℕ) → q < pairsOf u → (q ≡ 0 → ⊥) → packetIn (firstHurt u) q ≡ packetIn (imageOf u) q
+  others-whole q h n = got q h ∙ elsewhere u 0 hit q n ∙ sym (image-packet (u .rate) (u .kind) (u .indices) (multiframesOf u) q h)
+
+  first-touched : Touched (imageOf u) (firstHurt u) 0
+  first-touched e =
+      differs (packetOf (u .indices) 0) hit hit-hurts
+      (sym (got 0 (omega arith) ∙ there u 0 hit) ∙ e ∙ image-packet (u .rate) (u .kind) (u .indices) (multiframesOf u) 0 (omega arith))
+
+  flips : (k : ℕ) → k < multiframesOf u → headerFlips (imageOf u) (firstHurt u) k ≡ 2
+  flips k h = flips-are u (λ k. 3) (butOne u 0 hit) (λ k. lit< tt) k h ∙ two-flipped
+
+  pub last-met : N.Wider u (firstHurt u) zeroBook zeroThresholds (indexFor (multiframesOf u)) (reportFor (multiframesOf u))
+  last-met = record {
+    damage = flipped-damage u (λ k. 3) (butOne u 0 hit) (λ k. lit< tt) (length-but-one u 0 hit hit-size) 3 (λ k h. omega (arith, two-flipped)) (λ q h. by-one q);
+    headers = inl (record {
+      one = 0;
+      two = 1;
+      order = lit< tt;
+      within = omega arith;
+      few-of-one = le-of-eq (flips 0 (omega arith));
+      few-of-two = le-of-eq (flips 1 (omega arith));
+    });
+    pair = 1;
+    within = omega arith;
+    not-bad = zero-not-bad u (firstHurt u) 1 (others-whole 1 (omega arith) (λ e. omega arith));
+    lent = lent-zeros (multiframesOf u);
+  }
+    where
+      by-one : (q : ℕ) → (butOne u 0 hit q ≡ packetOf (u .indices) q) ⊎ Damaged (packetOf (u .indices) q) (butOne u 0 hit q)
+      by-one zero = inr (subst (Damaged (packetOf (u .indices) 0)) (sym (there u 0 hit)) hit-hurts)
+      by-one (suc q) = inl (elsewhere u 0 hit (suc q) (λ e. omega arith))
+
+  pub last-unnamed : S.LastUnnamed u (firstHurt u) zeroBook zeroThresholds (indexFor (multiframesOf u)) (reportFor (multiframesOf u)) last-met
+  last-unnamed q l h = zero-unnamed u (firstHurt u) q (others-whole q h (λ e. omega arith)) h last-met
+
+  pub last-is-heard : LastHeard u
+  last-is-heard =
+      let x = N.names-wider u (firstHurt u) zeroBook zeroThresholds (indexFor (multiframesOf u)) (reportFor (multiframesOf u)) last-met in
+      let s = S.last-heard u (firstHurt u) zeroBook zeroThresholds (indexFor (multiframesOf u)) (reportFor (multiframesOf u)) last-met last-unnamed (x .given) (x .succeeds) in
+      record { named = x .names .damaged 0 (omega arith) .1 first-touched; given = x .given; succeeds = x .succeeds; speech = s .0; end = s .1 }
+
+pub last-24 : LastHeard says24
+last-24 = last-is-heard says24 (le-of-eq (sym two-multiframes))
