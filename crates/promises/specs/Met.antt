@@ -1,7 +1,7 @@
 -- The premises of what the yards are told are met, and not only by images as they were written.
 -- Assumes nothing.
 use mathlib.Core.Path.{_≡_, refl, sym, ap, ap₂, _∙_, subst}
-use mathlib.Core.Bool.{Bool, true, false}
+use mathlib.Core.Bool.{Bool, true, false, xor}
 use mathlib.Core.List.{List, [], _∷_, _++_}
 use mathlib.Core.Logic.{_⊎_, inl, inr, ⊎-elim}
 use Prim.Native.Nat.{ℕ, zero, suc, _+_, _-_, _*_, _/_, _%_, _^_, _≤_, _<_}
@@ -16,12 +16,16 @@ use lib.ListN.{length, getD, replicate, length-replicate}
 use borrow.Author.Tests.{eq-eqb, ne-eqb}
 use Rattle.lists.specs.Tests.{when, by-test}
 use Rattle.lists.specs.Parts.{part, over}
-use Rattle.layout.specs.Layout.{dataBits, packetBits, multiframePairs, indexOctets, reportOctets}
-use Rattle.crc.specs.Crc.{right, flip, Damaged}
+use Rattle.lists.specs.Rows.{same-joined}
+use Rattle.layout.specs.Layout.{widths, frameIndices, dataBits, packetBits, multiframePairs, indexOctets, reportOctets, firstFrame, secondFrame, firstPair}
+use Rattle.bits.specs.Bits.{field, laid}
+use Rattle.crc.specs.Crc.{crc, after, right, flip, Damaged}
 use Rattle.crc.specs.Damage.{length-flip, flip-burst, flips-burst, flips-double}
-use Rattle.packet.specs.Packet.{packetOf}
+use Rattle.packet.specs.Packet.{guarded, packet, row, packetOf}
 use Rattle.packet.specs.Laws.{length-packetOf, packetOf-good}
 use Rattle.cutting.specs.Laws.{every-length}
+use Rattle.header_code.specs.Code.{codeword}
+use Rattle.header.specs.Message.{message}
 use Rattle.header.specs.declared.Header.{Header}
 use Rattle.header.specs.declared.Header.the-variants.{Codeword, Lost}
 use Rattle.settling.specs.Settling.{readings, settling, headerNote}
@@ -33,22 +37,23 @@ use Rattle.reader.specs.Reading.{indexPart, reportPart, summary, Outcome, outco
 use Rattle.reader.specs.declared.Summary.{Summary}
 use Rattle.reader.specs.declared.Answer.the-variants.{Read}
 use Rattle.writer.specs.Writing.{verdict, roomAnswer, firstFrom, frameCount, needed}
-use Rattle.writer.specs.Made.{wordIn, packetIn}
+use Rattle.writer.specs.Made.{Small, packetIn, framed, made}
 use Rattle.writer.specs.Image.{image-packet, Utterance, multiframesOf, pairsOf, imageOf}
 use Rattle.writer.specs.declared.Answer.the-variants.{Written}
-use Rattle.demands.specs.Damage.{DamageUpTo, Damage, Touched, differs, headerFlips, sentMessage, header-read}
+use Rattle.demands.specs.Damage.{DamageUpTo, Damage, headerBits, Touched, differs, headerFlips, sentMessage, header-read}
 use Rattle.demands.specs.Damages.{unharmed}
 use Rattle.demands.specs.Headers.{sentCommon, others-sent, TwoReadable}
 use Rattle.demands.specs.Received.{BadPair}
 use Rattle.demands.specs.ReadsBack.{spoken, padded, no-more, never-bad, reads-image}
 use Rattle.demands.specs.NamesTheDamage as N
 use Rattle.demands.specs.Whole.{rowOf, Lent, front-at, headerNoteIn, pairNoteIn, header-note-is}
+use Rattle.demands.specs.ToldApart.{Near}
 use Rattle.demands.specs.Instances.{says1}
 use Rattle.demands.specs.Met.{zeroBook, zeroThresholds, indexFor, reportFor, lent-zeros, distance, small-ones, says24, two-multiframes}
 use Rattle.promises.specs.Misled as M
 use Rattle.promises.specs.Trusted as T
 use Rattle.promises.specs.Heard as S
-use Rattle.promises.specs.Flipped.{flipped, flipped-size, flipped-syncs, flips-are, packets-are, flipped-damage, zero-not-bad, zero-unnamed, sent-whole, sent-damage, butOne, there, elsewhere, length-but-one, at11, rateBits, none-flipped, one-flipped, two-flipped, three-flipped, five-flipped, six-flipped, flips-at-11, noted-11, header-at, has-common, usable, reads-settled, good-pair, zeroRead}
+use Rattle.promises.specs.Flipped.{packed, flippedWord, flipped, flipped-size, flipped-syncs, flips-are, packets-are, flipped-damage, zero-not-bad, zero-unnamed, sent-whole, sent-damage, butOne, there, elsewhere, length-but-one, at11, rateBits, none-flipped, one-flipped, two-flipped, three-flipped, five-flipped, six-flipped, seven-flipped, flips-at-11, noted-11, header-at, has-common, usable, reads-settled, good-pair, zeroRead}
 
 -- ---- 48 frames of ones, which take three multiframes
 written-48 : verdict 0 0 (replicate 336 1) (needed (replicate 336 1)) ≡ Written (needed (replicate 336 1))
@@ -406,3 +411,146 @@ module _ (u : Utterance) (two : 2 ≤ multiframesOf u) where
 
 pub last-24 : LastHeard says24
 last-24 = last-is-heard says24 (le-of-eq (sym two-multiframes))
+
+-- ---- TOLD APART BY ONE HEADER: two utterances with the same settings that differ in their first pair alone, and a packet that is a damaged one
+-- of either. The first header has two flips, and every other seven
+abbrev pub farOthers : ℕ → ℕ
+farOthers k = when (eqb k 0) 3 127
+
+far-lt : (k : ℕ) → farOthers k < 2 ^ 32
+far-lt k = by-test (λ (n : ℕ). n < 2 ^ 32) (eqb k 0) (λ t. lit< tt) (λ t. lit< tt)
+
+far-bits : (k : ℕ) → ones (farOthers k) ≤ headerBits
+far-bits k = by-test (λ (n : ℕ). ones n ≤ 32) (eqb k 0) (λ t. omega (arith, two-flipped)) (λ t. omega (arith, seven-flipped))
+
+abbrev pub firstAs : Utterance → List Bool → List ℕ
+firstAs u p = flipped u farOthers (butOne u 0 p)
+
+module _ (u : Utterance) (p : List Bool) (size : length p ≡ packetBits) where
+  far-damage : Damaged (packetOf (u .indices) 0) p → DamageUpTo headerBits (multiframesOf u) (imageOf u) (firstAs u p)
+  far-damage d = flipped-damage u farOthers (butOne u 0 p) far-lt (length-but-one u 0 p size) headerBits (λ k h. far-bits k) (λ q h. by-one q)
+    where
+      by-one : (q : ℕ) → (butOne u 0 p q ≡ packetOf (u .indices) q) ⊎ Damaged (packetOf (u .indices) q) (butOne u 0 p q)
+      by-one zero = inr (subst (Damaged (packetOf (u .indices) 0)) (sym (there u 0 p)) d)
+      by-one (suc q) = inl (elsewhere u 0 p (suc q) (λ e. omega arith))
+
+  two-of-first : headerFlips (imageOf u) (firstAs u p) 0 ≡ 2
+  two-of-first = flips-are u farOthers (butOne u 0 p) far-lt 0 (omega arith) ∙ two-flipped
+
+  pub seven-of-others : (k : ℕ) → 0 < k → k < multiframesOf u → headerFlips (imageOf u) (firstAs u p) k ≡ 7
+  seven-of-others k n h =
+      let e : farOthers k ≡ 127 = rw (ne-eqb k 0 (λ z. omega arith)) in
+      flips-are u farOthers (butOne u 0 p) far-lt k h ∙ ap ones e ∙ seven-flipped
+
+module _ (u v : Utterance) (rates : u .rate ≡ v .rate) (kinds : u .kind ≡ v .kind) (counts : multiframesOf u ≡ multiframesOf v)
+    (rest : (q : ℕ) → (q ≡ 0 → ⊥) → packetOf (u .indices) q ≡ packetOf (v .indices) q) (p : List Bool) (size : length p ≡ packetBits) where
+  same-packets : (q : ℕ) → butOne u 0 p q ≡ butOne v 0 p q
+  same-packets zero = there u 0 p ∙ sym (there v 0 p)
+  same-packets (suc q) = elsewhere u 0 p (suc q) (λ e. omega arith) ∙ rest (suc q) (λ e. omega arith) ∙ sym (elsewhere v 0 p (suc q) (λ e. omega arith))
+
+  same-image : firstAs u p ≡ firstAs v p
+  same-image =
+      same-joined (λ k. framed (flippedWord u farOthers (butOne u 0 p) k) (packed (butOne u 0 p) k)) (λ k. framed (flippedWord v farOthers (butOne v 0 p) k) (packed (butOne v 0 p) k))
+      (multiframesOf u) (λ k h.
+      ap₂ framed (ap₂ (λ (a b : ℕ). bitXor (codeword (message a b (k + 1) 0)) (farOthers k)) rates kinds)
+      (same-joined (λ r. butOne u 0 p (firstPair k + r)) (λ r. butOne v 0 p (firstPair k + r)) multiframePairs (λ r i. same-packets (firstPair k + r))))
+      ∙ ap (λ (m : ℕ). made (flippedWord v farOthers (butOne v 0 p)) (packed (butOne v 0 p)) m) counts
+
+  pub near-met : Damaged (packetOf (u .indices) 0) p → Damaged (packetOf (v .indices) 0) p → Near u v (firstAs u p) (firstAs v p)
+  near-met du dv = record {
+    one = far-damage u p size du;
+    other = far-damage v p size dv;
+    equal = same-image;
+    header = 0;
+    within = omega arith;
+    flips = omega (arith, two-of-first u p size, two-of-first v p size);
+  }
+
+-- 24 frames of ones, and the same with 2 for the first index
+abbrev headed : ℕ → List ℕ
+headed x = x ∷ replicate 167 1
+
+written-one : verdict 0 0 (headed 1) (needed (headed 1)) ≡ Written (needed (headed 1))
+unfolding verdict roomAnswer firstFrom
+written-one = refl
+
+written-two : verdict 0 0 (headed 2) (needed (headed 2)) ≡ Written (needed (headed 2))
+unfolding verdict roomAnswer firstFrom
+written-two = refl
+
+small-headed : (x : ℕ) → x < 2 ^ 8 → Small (headed x)
+small-headed x h zero = h
+small-headed x h (suc i) = small-ones 167 i
+
+pub one24 : Utterance
+one24 = record { rate = 0; kind = 0; indices = headed 1; small = small-headed 1 (lit< tt); written = written-one }
+
+pub two24 : Utterance
+two24 = record { rate = 0; kind = 0; indices = headed 2; small = small-headed 2 (lit< tt); written = written-two }
+
+-- both first packets, bit by bit: all but the first index and the CRC are the same
+abbrev one6 : List Bool
+one6 = true ∷ replicate 5 false
+
+abbrev one8 : List Bool
+one8 = true ∷ replicate 7 false
+
+abbrev onwards : List Bool
+onwards = replicate 4 false ++ (one6 ++ (one6 ++ (one6 ++ (one6 ++ (one6 ++ (one8 ++ (one6 ++ (one6 ++ (one6 ++ (one6 ++ (one6 ++ (one6 ++ one8))))))))))))
+
+first-one : packetOf (headed 1) 0 ≡ true ∷ false ∷ (onwards ++ (true ∷ true ∷ true ∷ true ∷ []))
+unfolding packetOf packet guarded crc after row laid field xor
+first-one = refl
+
+first-two : packetOf (headed 2) 0 ≡ false ∷ true ∷ (onwards ++ (true ∷ true ∷ false ∷ false ∷ []))
+unfolding packetOf packet guarded crc after row laid field xor
+first-two = refl
+
+-- the one with its bits 0 and 1 flipped is the other with its CRC's bits 90 and 91 flipped
+same-hurt : flip (flip (packetOf (headed 1) 0) 0) 1 ≡ flip (flip (packetOf (headed 2) 0) 90) 91
+same-hurt = ap (λ (p : List Bool). flip (flip p 0) 1) first-one ∙ sym (ap (λ (p : List Bool). flip (flip p 90) 91) first-two)
+
+-- behind the first index they are the same
+same-row : (a b : List ℕ) (at n : ℕ) → ((i : ℕ) → at ≤ i → getD a i 0 ≡ getD b i 0) → row a at n ≡ row b at n
+unfolding row
+same-row a b at zero h = refl
+same-row a b at (suc n) h = ap₂ (λ (l : List ℕ) (x : ℕ). l ++ (x ∷ [])) (same-row a b at n h) (h (at + n) (omega arith))
+
+same-behind : (x y i : ℕ) → 0 < i → getD (headed x) i 0 ≡ getD (headed y) i 0
+same-behind x y zero h = absurd (omega arith)
+same-behind x y (suc i) h = refl
+
+same-packet : (q : ℕ) → (q ≡ 0 → ⊥) → packetOf (headed 1) q ≡ packetOf (headed 2) q
+unfolding packetOf
+same-packet q n =
+    ap₂ (packet widths) (same-row (headed 1) (headed 2) (frameIndices * firstFrame q) frameIndices (λ i h. same-behind 1 2 i (omega arith)))
+    (same-row (headed 1) (headed 2) (frameIndices * secondFrame q) frameIndices (λ i h. same-behind 1 2 i (omega arith)))
+
+-- a packet that is a damaged one of either
+abbrev pub hurtFirst : List Bool
+hurtFirst = flip (flip (packetOf (headed 1) 0) 0) 1
+
+hurt-size : length hurtFirst ≡ packetBits
+hurt-size = length-flip (flip (packetOf (headed 1) 0) 0) 1 ∙ length-flip (packetOf (headed 1) 0) 0 ∙ length-packetOf (headed 1) 0
+
+hurt-of-one : Damaged (packetOf (headed 1) 0) hurtFirst
+hurt-of-one = inl (flips-burst (packetOf (headed 1) 0) 0 1 (lit< tt) (lit< tt) (omega (arith, length-packetOf (headed 1) 0)))
+
+hurt-of-two : Damaged (packetOf (headed 2) 0) hurtFirst
+hurt-of-two = subst (Damaged (packetOf (headed 2) 0)) (sym same-hurt) (inl (flips-burst (packetOf (headed 2) 0) 90 91 (lit< tt) (lit< tt) (omega (arith, length-packetOf (headed 2) 0))))
+
+-- one message is a damaged image of two utterances that are not the same
+pub record Near24 : Type 0 where
+  pub near : Near one24 two24 (firstAs one24 hurtFirst) (firstAs two24 hurtFirst)
+  pub first : headerFlips (imageOf one24) (firstAs one24 hurtFirst) 0 ≡ 2
+  pub second : headerFlips (imageOf one24) (firstAs one24 hurtFirst) 1 ≡ 7
+  pub different : one24 .indices ≡ two24 .indices → ⊥
+
+pub near-24 : Near24
+unfolding one24 two24
+near-24 = record {
+  near = near-met one24 two24 refl refl refl same-packet hurtFirst hurt-size hurt-of-one hurt-of-two;
+  first = two-of-first one24 hurtFirst hurt-size;
+  second = seven-of-others one24 hurtFirst hurt-size 1 (lit< tt) (lit< tt);
+  different = λ e. let z : _≡_ {A = ℕ} 1 2 = ap (λ (l : List ℕ). getD l 0 0) e in omega arith;
+}
