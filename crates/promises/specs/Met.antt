@@ -53,7 +53,7 @@ use Rattle.demands.specs.Met.{zeroBook, zeroThresholds, indexFor, reportFor, le
 use Rattle.promises.specs.Misled as M
 use Rattle.promises.specs.Trusted as T
 use Rattle.promises.specs.Heard as S
-use Rattle.promises.specs.Flipped.{packed, flippedWord, flipped, flipped-size, flipped-syncs, flips-are, packets-are, flipped-damage, zero-not-bad, zero-unnamed, sent-whole, sent-damage, butOne, there, elsewhere, length-but-one, at11, rateBits, none-flipped, one-flipped, two-flipped, three-flipped, five-flipped, six-flipped, seven-flipped, flips-at-11, noted-11, header-at, has-common, usable, reads-settled, good-pair, zeroRead}
+use Rattle.promises.specs.Flipped.{packed, flippedWord, flipped, flipped-size, flipped-syncs, flips-are, packets-are, flipped-damage, zero-not-bad, zero-unnamed, sent-whole, sent-damage, butOne, there, elsewhere, length-but-one, at11, rateBits, none-flipped, one-flipped, two-flipped, three-flipped, five-flipped, six-flipped, seven-flipped, flips-at-11, noted-11, header-at, has-common, usable, reads-settled, good-pair, zeroRead, zeroNotes}
 
 -- ---- 48 frames of ones, which take three multiframes
 written-48 : verdict 0 0 (replicate 336 1) (needed (replicate 336 1)) ≡ Written (needed (replicate 336 1))
@@ -71,85 +71,92 @@ pub rate-48 : says48 .rate ≡ 0
 unfolding says48
 rate-48 = refl
 
--- ---- NEVER MISLED: the second header is replaced by the codeword of 11 kHz, as in the incident, and the packets by any bits whatsoever
-abbrev pub wrongSecond : ℕ → ℕ
-wrongSecond k = when (eqb k 1) rateBits 0
+-- ---- NEVER MISLED: bits b are flipped in the second header, and the packets are any bits whatsoever
+abbrev pub inSecond : ℕ → ℕ → ℕ
+inSecond b k = when (eqb k 1) b 0
 
-wrong-lt : (k : ℕ) → wrongSecond k < 2 ^ 32
-wrong-lt k = by-test (λ (n : ℕ). n < 2 ^ 32) (eqb k 1) (λ t. lit< tt) (λ t. lit< tt)
+pub in-second-lt : (b : ℕ) → b < 2 ^ 32 → (k : ℕ) → inSecond b k < 2 ^ 32
+in-second-lt b h k = by-test (λ (n : ℕ). n < 2 ^ 32) (eqb k 1) (λ t. h) (λ t. lit< tt)
 
-module _ (u : Utterance) (f : ℕ → List Bool) where
-  abbrev pub incident : List ℕ
-  incident = flipped u wrongSecond f
+module _ (u : Utterance) (b : ℕ) (small : b < 2 ^ 32) (f : ℕ → List Bool) where
+  pub flips-in-second : 1 < multiframesOf u → headerFlips (imageOf u) (flipped u (inSecond b) f) 1 ≡ ones b
+  flips-in-second h = flips-are u (inSecond b) f (in-second-lt b small) 1 h
 
-  pub six-flips : 1 < multiframesOf u → headerFlips (imageOf u) incident 1 ≡ 6
-  six-flips h = flips-are u wrongSecond f wrong-lt 1 h ∙ six-flipped
+  pub none-in-others : (k : ℕ) → k < multiframesOf u → (k ≡ 1 → ⊥) → headerFlips (imageOf u) (flipped u (inSecond b) f) k ≡ 0
+  none-in-others k h n =
+      let e : inSecond b k ≡ 0 = rw (ne-eqb k 1 n) in
+      flips-are u (inSecond b) f (in-second-lt b small) k h ∙ ap ones e ∙ none-flipped
 
-  others : (k : ℕ) → k < multiframesOf u → (k ≡ 1 → ⊥) → headerFlips (imageOf u) incident k ≡ 0
-  others k h n =
-      let e : wrongSecond k ≡ 0 = rw (ne-eqb k 1 n) in
-      flips-are u wrongSecond f wrong-lt k h ∙ ap ones e ∙ none-flipped
-
-  pub misled-met : 2 ≤ multiframesOf u → M.Premises u incident
+  pub misled-met : 2 ≤ multiframesOf u → M.Premises u (flipped u (inSecond b) f)
   misled-met two = record {
-    size = flipped-size u wrongSecond f;
-    syncs = flipped-syncs u wrongSecond f;
-    headers = inl (record { two = two; but = 1; others = λ k h n. omega (arith, others k h n) });
+    size = flipped-size u (inSecond b) f;
+    syncs = flipped-syncs u (inSecond b) f;
+    headers = inl (record { two = two; but = 1; others = λ k h n. omega (arith, none-in-others k h n) });
   }
 
-  -- and alone it is harmless: of three multiframes or more, with tables of zeros and one packet that is right, the reading succeeds with what was
-  -- sent, and the header is noted for its settings
-  pub record Harmless : Type 0 where
-    pub given : Summary
-    pub succeeds : zeroRead u incident .answer ≡ Read given
-    pub sent : M.AsSent u incident given
-    pub noted : headerNoteIn (zeroRead u incident .report) 1 ≡ 8
+-- if that header is then read as one of 11 kHz, it is harmless alone: the reading succeeds with what was sent, and the header's note has 8 added
+pub record Harmless (u : Utterance) (s : List ℕ) (note : ℕ) : Type 0 where
+  pub given : Summary
+  pub succeeds : zeroRead u s .answer ≡ Read given
+  pub sent : M.AsSent u s given
+  pub noted : headerNoteIn (zeroRead u s .report) 1 ≡ note + 8
 
-  module _ (eight : u .rate ≡ 0) (three : 3 ≤ multiframesOf u) (q : ℕ) (within : q < pairsOf u) (whole : right dataBits (packetIn incident q) ≡ true) where
-    abbrev m : ℕ
-    m = multiframesOf u
+-- of three multiframes or more, with tables of zeros and one packet that is right
+module _ (u : Utterance) (b : ℕ) (small : b < 2 ^ 32) (f : ℕ → List Bool) (eight : u .rate ≡ 0) (three : 3 ≤ multiframesOf u)
+    (n : ℕ) (near : ones (bitXor b rateBits) ≡ n) (few : n ≤ 2) (q : ℕ) (within : q < pairsOf u) (whole : right dataBits (packetIn (flipped u (inSecond b) f) q) ≡ true) where
+  abbrev s : List ℕ
+  s = flipped u (inSecond b) f
 
-    abbrev ns : List ℕ
-    ns = pairNotes incident (rowOf m) zeroBook zeroThresholds
+  abbrev m : ℕ
+  m = multiframesOf u
 
-    -- the first header and the third settle the settings
-    settled : settling (readings incident (rowOf m)) ≡ Settled (sentCommon u)
-    settled =
-        two-settle (readings incident (rowOf m)) (sentCommon u) 1 (others-sent u incident 1 (λ k h n. omega (arith, others k h n))) 0 2 (lit< tt)
-        (has-common u incident 0 (omega arith) (omega (arith, others 0 (omega arith) (λ e. omega arith))))
-        (has-common u incident 2 (omega arith) (omega (arith, others 2 (omega arith) (λ e. omega arith))))
+  none : (k : ℕ) → k < m → (k ≡ 1 → ⊥) → headerFlips (imageOf u) s k ≡ 0
+  none = none-in-others u b small f
 
-    -- the second is read as that of 11 kHz
-    second : getD (readings incident (rowOf m)) 1 Lost ≡ Codeword (sentMessage (at11 u) 1) 0
-    second =
-        let none : headerFlips (imageOf (at11 u)) incident 1 ≡ 0 = flips-at-11 u eight wrongSecond f wrong-lt 1 (omega arith) ∙ ap ones (xor-self rateBits) ∙ none-flipped in
-        header-at incident m 1 (omega arith) ∙ header-read (at11 u) incident 1 (omega arith) (omega arith) ∙ ap (Codeword (sentMessage (at11 u) 1)) none
+  -- the first header and the third settle the settings
+  settled : settling (readings s (rowOf m)) ≡ Settled (sentCommon u)
+  settled =
+      two-settle (readings s (rowOf m)) (sentCommon u) 1 (others-sent u s 1 (λ k h n. omega (arith, none k h n))) 0 2 (lit< tt)
+      (has-common u s 0 (omega arith) (omega (arith, none 0 (omega arith) (λ e. omega arith))))
+      (has-common u s 2 (omega arith) (omega (arith, none 2 (omega arith) (λ e. omega arith))))
 
-    pub harmless : Harmless
-    harmless = record {
-      given = summary incident (rowOf m) ns (sentCommon u);
-      succeeds = ap (λ (o : Outcome). o .answer) read-is;
-      sent = M.never-misled u incident (misled-met (omega arith)) zeroBook zeroThresholds (indexFor m) (reportFor m) (summary incident (rowOf m) ns (sentCommon u))
-          (ap (λ (o : Outcome). o .answer) read-is);
-      noted = ap (λ (o : Outcome). headerNoteIn (o .report) 1) read-is
-          ∙ header-note-is incident (rowOf m) ns (reportFor m) (sentCommon u) (reportOctets * length (rowOf m)) (length-notes incident (rowOf m) zeroBook zeroThresholds) 1 (omega (arith, every-length 0 m))
-          ∙ ap (headerNote (sentCommon u) 1) second ∙ noted-11 u eight 1 0;
-    }
-      where
-        read-is : reading incident zeroBook zeroThresholds (indexFor m) (reportFor m)
-            ≡ outcome (Read (summary incident (rowOf m) ns (sentCommon u))) (over (indexFor m) 0 (indexOctets * length (rowOf m)) (indexPart incident (rowOf m) ns))
-            (over (reportFor m) 0 (reportOctets * length (rowOf m)) (reportPart incident (rowOf m) ns (sentCommon u)))
-        read-is =
-            reads-settled u incident (flipped-size u wrongSecond f) (flipped-syncs u wrongSecond f) zeroBook zeroThresholds (indexFor m) (reportFor m) (lent-zeros m) (sentCommon u)
-            settled (usable u) (good-pair incident m q within whole)
+  -- the second is read as one of 11 kHz
+  second : getD (readings s (rowOf m)) 1 Lost ≡ Codeword (sentMessage (at11 u) 1) n
+  second =
+      let e = flips-at-11 u eight (inSecond b) f (in-second-lt b small) 1 (omega arith) ∙ near in
+      header-at s m 1 (omega arith) ∙ header-read (at11 u) s 1 (omega arith) (omega arith) ∙ ap (Codeword (sentMessage (at11 u) 1)) e
 
--- so with any bits for the first packet of 48 frames, and all others as they were sent
-pub incident-48 : (p : List Bool) → length p ≡ packetBits → Harmless says48 (butOne says48 0 p)
+  read-is : zeroRead u s
+      ≡ outcome (Read (summary s (rowOf m) (zeroNotes u s) (sentCommon u))) (over (indexFor m) 0 (indexOctets * length (rowOf m)) (indexPart s (rowOf m) (zeroNotes u s)))
+      (over (reportFor m) 0 (reportOctets * length (rowOf m)) (reportPart s (rowOf m) (zeroNotes u s) (sentCommon u)))
+  read-is =
+      reads-settled u s (flipped-size u (inSecond b) f) (flipped-syncs u (inSecond b) f) zeroBook zeroThresholds (indexFor m) (reportFor m) (lent-zeros m) (sentCommon u)
+      settled (usable u) (good-pair s m q within whole)
+
+  pub harmless : Harmless u (flipped u (inSecond b) f) n
+  harmless = record {
+    given = summary s (rowOf m) (zeroNotes u s) (sentCommon u);
+    succeeds = ap (λ (o : Outcome). o .answer) read-is;
+    sent = M.never-misled u s (misled-met u b small f (omega arith)) zeroBook zeroThresholds (indexFor m) (reportFor m) (summary s (rowOf m) (zeroNotes u s) (sentCommon u))
+        (ap (λ (o : Outcome). o .answer) read-is);
+    noted = ap (λ (o : Outcome). headerNoteIn (o .report) 1) read-is
+        ∙ header-note-is s (rowOf m) (zeroNotes u s) (reportFor m) (sentCommon u) (reportOctets * length (rowOf m)) (length-notes s (rowOf m) zeroBook zeroThresholds) 1 (omega (arith, every-length 0 m))
+        ∙ ap (headerNote (sentCommon u) 1) second ∙ noted-11 u eight 1 n;
+  }
+
+-- the incident: the second header is that of 11 kHz, six flips from the one sent, and the packets are garbage
+pub incident : (u : Utterance) (f : ℕ → List Bool) → 2 ≤ multiframesOf u
+    → M.Premises u (flipped u (inSecond rateBits) f) × (headerFlips (imageOf u) (flipped u (inSecond rateBits) f) 1 ≡ 6)
+incident u f two = (misled-met u rateBits (lit< tt) f two, flips-in-second u rateBits (lit< tt) f (omega arith) ∙ six-flipped)
+
+-- and with any bits for the first packet of 48 frames, and all others as they were sent, it is read as it was sent
+pub incident-48 : (p : List Bool) → length p ≡ packetBits → Harmless says48 (flipped says48 (inSecond rateBits) (butOne says48 0 p)) 0
 incident-48 p size =
     let f = butOne says48 0 p in
     let h : 1 < pairsOf says48 = omega (arith, three-multiframes) in
-    harmless says48 f rate-48 (omega (arith, three-multiframes)) 1 h
-    (ap (right dataBits) (packets-are says48 wrongSecond f wrong-lt (length-but-one says48 0 p size) 1 h ∙ elsewhere says48 0 p 1 (λ e. omega arith)) ∙ packetOf-good (says48 .indices) 1)
+    harmless says48 rateBits (lit< tt) f rate-48 (omega (arith, three-multiframes)) 0 none-flipped (omega arith) 1 h
+    (ap (right dataBits) (packets-are says48 (inSecond rateBits) f (in-second-lt rateBits (lit< tt)) (length-but-one says48 0 p size) 1 h ∙ elsewhere says48 0 p 1 (λ e. omega arith))
+    ∙ packetOf-good (says48 .indices) 1)
 
 -- an only header with up to five flips, and any packets
 module _ (u : Utterance) (single : multiframesOf u ≡ 1) (e : ℕ) (small : e < 2 ^ 32) (f : ℕ → List Bool) where
@@ -467,7 +474,7 @@ module _ (u v : Utterance) (rates : u .rate ≡ v .rate) (kinds : u .kind ≡ v 
   }
 
 -- 24 frames of ones, and the same with 2 for the first index
-abbrev headed : ℕ → List ℕ
+abbrev pub headed : ℕ → List ℕ
 headed x = x ∷ replicate 167 1
 
 written-one : verdict 0 0 (headed 1) (needed (headed 1)) ≡ Written (needed (headed 1))
