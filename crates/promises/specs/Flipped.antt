@@ -241,7 +241,7 @@ rate-codeword = by (codeword 1) rate-1
         (ap (λ (n : ℕ). n % 256) y ∙ ap (λ (l : List ℕ). getD l 2 0) e) (z ∙ ap (λ (l : List ℕ). getD l 3 0) e)
 
 module _ (u : Utterance) (eight : u .rate ≡ 0) where
-  word-11 : (k : ℕ) → codeword (sentMessage (at11 u) k) ≡ bitXor (codeword (sentMessage u k)) rateBits
+  pub word-11 : (k : ℕ) → codeword (sentMessage (at11 u) k) ≡ bitXor (codeword (sentMessage u k)) rateBits
   word-11 k =
       ap codeword (message-11 (u .kind) (k + 1) (kind-small u))
       ∙ codeword-xor (message 0 (u .kind) (k + 1) 0) 1 (message-lt 0 (u .kind) (k + 1) 0) (lit< tt)

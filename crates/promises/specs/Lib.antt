@@ -3,3 +3,4 @@ pub mod Trusted
 pub mod Heard
 pub mod Flipped
 pub mod Met
+pub mod Needed
