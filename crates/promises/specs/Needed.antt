@@ -175,3 +175,147 @@ fifteen-mistrusted = (
         (sym (image-packet 0 0 eighth 1 0 (lit< tt)) ∙ ap (λ (s : List ℕ). packetIn s 0) (w .image) ∙ image-packet 0 0 (lone 1) 1 0 (lit< tt));
   },
 )
+
+-- ---- NAMES THE DAMAGE WIDER NEEDS TWO READABLE HEADERS: of two multiframes, one header has two flips and the other three, and no pair is
+-- damaged. All other premises hold, and the reading is refused with 16, both buffers as they came
+abbrev pub oneReadable : ℕ → ℕ
+oneReadable k = when (eqb k 0) 3 7
+
+one-lt : (k : ℕ) → oneReadable k < 2 ^ 32
+one-lt k = by-test (λ (n : ℕ). n < 2 ^ 32) (eqb k 0) (λ t. lit< tt) (λ t. lit< tt)
+
+one-three : (k : ℕ) → ones (oneReadable k) ≤ 3
+one-three k = by-test (λ (n : ℕ). ones n ≤ 3) (eqb k 0) (λ t. omega (arith, two-flipped)) (λ t. omega (arith, three-flipped))
+
+abbrev pub otherLost : Utterance → List ℕ
+otherLost u = flipped u oneReadable (packetOf (u .indices))
+
+pub record Unsettles (u : Utterance) (s : List ℕ) : Type 0 where
+  pub damage : DamageUpTo 3 (multiframesOf u) (imageOf u) s
+  pub first : headerFlips (imageOf u) s 0 ≡ 2
+  pub second : headerFlips (imageOf u) s 1 ≡ 3
+  pub none-bad : (q : ℕ) → q < pairsOf u → BadPair u s zeroBook zeroThresholds q → ⊥
+  pub refused : zeroRead u s ≡ outcome (Refused Unsettled) (indexFor (multiframesOf u)) (reportFor (multiframesOf u))
+
+one-settles-nothing : (m : ℕ) → settling (Codeword m 2 ∷ Lost ∷ []) ≡ Set.Unsettled
+unfolding settling firstAgreeing onlyOne
+one-settles-nothing m = refl
+
+module _ (u : Utterance) (two : multiframesOf u ≡ 2) where
+  abbrev s : List ℕ
+  s = otherLost u
+
+  abbrev m : ℕ
+  m = multiframesOf u
+
+  damaged : DamageUpTo 3 m (imageOf u) s
+  damaged = sent-damage u oneReadable one-lt 3 (λ k h. one-three k)
+
+  flips : (k : ℕ) → k < m → headerFlips (imageOf u) s k ≡ ones (oneReadable k)
+  flips k h = flips-are u oneReadable (packetOf (u .indices)) one-lt k h
+
+  two-heard : heardAs (sentMessage u 0) (headerFlips (imageOf u) s 0) ≡ Codeword (sentMessage u 0) 2
+  two-heard = ap (heardAs (sentMessage u 0)) (flips 0 (omega arith) ∙ two-flipped)
+
+  three-heard : heardAs (sentMessage u 1) (headerFlips (imageOf u) s 1) ≡ Lost
+  three-heard = ap (heardAs (sentMessage u 1)) (flips 1 (omega arith) ∙ three-flipped)
+
+  unsettled : settling (readings s (rowOf m)) ≡ Set.Unsettled
+  unsettled =
+      ap settling (headers-read u s (damaged .headers))
+      ∙ ap (λ (n : ℕ). settling (each (λ k. heardAs (sentMessage u k) (headerFlips (imageOf u) s k)) n)) two
+      ∙ ap₂ (λ (a b : Header). settling (a ∷ b ∷ [])) two-heard three-heard ∙ one-settles-nothing (sentMessage u 0)
+
+  pub one-readable-unsettles : Unsettles u (otherLost u)
+  one-readable-unsettles = record {
+    damage = damaged;
+    first = flips 0 (omega arith) ∙ two-flipped;
+    second = flips 1 (omega arith) ∙ three-flipped;
+    none-bad = λ q h. zero-not-bad u s q (sent-whole u oneReadable one-lt q h);
+    refused = refuses-16 s m (few-multiframes (u .rate) (u .kind) (u .indices) (is-accepted u .sizes)) (damaged .size ∙ length-image (u .rate) (u .kind) (u .indices) m)
+        (λ k h. damaged .syncs k h ∙ image-sync (u .rate) (u .kind) (u .indices) m k h) zeroBook zeroThresholds (indexFor m) (reportFor m) (omega arith) (lent-zeros m) unsettled;
+  }
+
+pub unsettled-24 : Unsettles says24 (otherLost says24)
+unsettled-24 = one-readable-unsettles says24 two-multiframes
+
+-- AND AT MOST THREE FLIPS IN A HEADER: of three multiframes or more the second header has four flips and is read as one of 11 kHz, and no pair is
+-- damaged. All is read as it was sent, and yet the header's note is 10 and not its number of flips
+pub record Misnotes (u : Utterance) (s : List ℕ) : Type 0 where
+  pub damage : DamageUpTo 4 (multiframesOf u) (imageOf u) s
+  pub headers : TwoReadable u s
+  pub none-bad : (q : ℕ) → q < pairsOf u → BadPair u s zeroBook zeroThresholds q → ⊥
+  pub four : headerFlips (imageOf u) s 1 ≡ 4
+  pub note-is-10 : headerNoteIn (zeroRead u s .report) 1 ≡ 10
+  pub given : Summary
+  pub succeeds : zeroRead u s .answer ≡ Read given
+  pub sent : M.AsSent u s given
+
+abbrev pub secondFour : Utterance → List ℕ
+secondFour u = flipped u (inSecond fourBits) (packetOf (u .indices))
+
+module _ (u : Utterance) (eight : u .rate ≡ 0) (three : 3 ≤ multiframesOf u) where
+  lt : (k : ℕ) → inSecond fourBits k < 2 ^ 32
+  lt = in-second-lt fourBits (lit< tt)
+
+  whole : (q : ℕ) → q < pairsOf u → packetIn (secondFour u) q ≡ packetIn (imageOf u) q
+  whole = sent-whole u (inSecond fourBits) lt
+
+  harmless-four : Harmless u (secondFour u) 2
+  harmless-four =
+      harmless u fourBits (lit< tt) (packetOf (u .indices)) eight three 2 four-to-11 (omega arith) 0 (omega arith)
+      (ap (right dataBits) (whole 0 (omega arith) ∙ image-packet (u .rate) (u .kind) (u .indices) (multiframesOf u) 0 (omega arith)) ∙ packetOf-good (u .indices) 0)
+
+  none : (k : ℕ) → k < multiframesOf u → (k ≡ 1 → ⊥) → headerFlips (imageOf u) (secondFour u) k ≡ 0
+  none = none-in-others u fourBits (lit< tt) (packetOf (u .indices))
+
+  pub four-misnotes : Misnotes u (secondFour u)
+  four-misnotes = record {
+    damage = sent-damage u (inSecond fourBits) lt 4 (λ k h. by-test (λ (n : ℕ). ones n ≤ 4) (eqb k 1) (λ t. le-of-eq four-flipped) (λ t. omega (arith, none-flipped)));
+    headers = record {
+      one = 0;
+      two = 2;
+      order = lit< tt;
+      within = omega arith;
+      few-of-one = omega (arith, none 0 (omega arith) (λ e. omega arith));
+      few-of-two = omega (arith, none 2 (omega arith) (λ e. omega arith));
+    };
+    none-bad = λ q h. zero-not-bad u (secondFour u) q (whole q h);
+    four = flips-in-second u fourBits (lit< tt) (packetOf (u .indices)) (omega arith) ∙ four-flipped;
+    note-is-10 = harmless-four .noted;
+    given = harmless-four .given;
+    succeeds = harmless-four .succeeds;
+    sent = harmless-four .sent;
+  }
+
+pub misnoted-48 : Misnotes says48 (secondFour says48)
+misnoted-48 = four-misnotes says48 rate-48 (le-of-eq (sym three-multiframes))
+
+-- ---- TOLD APART BY ONE HEADER NEEDS FIVE: the same frames at 8 and at 11 kHz, and octets whose headers are halfway between. All other premises
+-- hold, each header's flips add up to six, and the settings are not equal
+pub record Confused (u : Utterance) (s : List ℕ) : Type 0 where
+  pub one : DamageUpTo headerBits (multiframesOf u) (imageOf u) s
+  pub other : DamageUpTo headerBits (multiframesOf (at11 u)) (imageOf (at11 u)) s
+  pub six : (k : ℕ) → k < multiframesOf u → headerFlips (imageOf u) s k + headerFlips (imageOf (at11 u)) s k ≡ 6
+  pub not-alike : Alike u (at11 u) s s → ⊥
+
+half-8 : ones halfway ≡ 3
+unfolding onesIn
+half-8 = sym (ones-in 32 halfway (lit< tt))
+
+half-11 : ones (bitXor halfway rateBits) ≡ 3
+unfolding onesIn
+half-11 = sym (ones-in 32 0xD0000000 (lit< tt))
+
+pub six-confuse : (u : Utterance) → u .rate ≡ 0 → Confused u (flipped u (λ k. halfway) (packetOf (u .indices)))
+six-confuse u eight =
+    let f = packetOf (u .indices) in
+    let s = flipped u (λ k. halfway) f in
+    let e : ℕ → ℕ = λ k. bitXor halfway rateBits in
+    record {
+      one = sent-damage u (λ k. halfway) (λ k. lit< tt) headerBits (λ k h. omega (arith, half-8));
+      other = subst (DamageUpTo headerBits (multiframesOf u) (imageOf (at11 u))) (sym (seen-at-11 u eight (λ k. halfway) f))
+          (sent-damage (at11 u) e (λ k. lit< tt) headerBits (λ k h. omega (arith, half-11)));
+      six = λ k h. omega (arith, flips-are u (λ k. halfway) f (λ k. lit< tt) k h, half-8, flips-at-11 u eight (λ k. halfway) f (λ k. lit< tt) k h, half-11);
+      not-alike = λ a. let z : _≡_ {A = ℕ} 0 1 = sym eight ∙ a .rates in omega arith;
+    }
