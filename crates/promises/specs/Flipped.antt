@@ -3,7 +3,7 @@
 use mathlib.Core.Path.{_≡_, refl, sym, ap, ap₂, _∙_, subst}
 use mathlib.Core.Bool.{Bool, true, false, not}
 use mathlib.Core.List.{List, [], _∷_}
-use mathlib.Core.Logic.{_⊎_, inl, ⊎-elim}
+use mathlib.Core.Logic.{_⊎_, inl, inr, ⊎-elim}
 use Prim.Native.Nat.{ℕ, suc, _+_, _*_, _/_, _%_, _^_, _≤_, _<_}
 use native.Mathlib.Nat.{mod-eq-of-lt, div-add-mod', div-div-eq-div-mul}
 use native.Mathlib.Decide.{ℕ-discrete}
@@ -20,7 +20,8 @@ use Rattle.lists.specs.Tests.{when, by-test, true-false}
 use Rattle.lists.specs.Parts.{part, over}
 use Rattle.lists.specs.Rows.{each, length-each, each-at, joined, length-joined, joined-part, same-joined}
 use Rattle.layout.specs.Layout.{frameIndices, dataBits, packetBits, multiframePairs, streamOctets, indexOctets, reportOctets, multiframeOf, firstPair, packetStart, firstFrame, secondFrame}
-use Rattle.crc.specs.Crc.{right, Damaged}
+use Rattle.crc.specs.Crc.{right, flip, Damaged}
+use Rattle.crc.specs.Damage.{length-flip, flip-burst}
 use Rattle.packet.specs.Packet.{packetOf, frameAt}
 use Rattle.packet.specs.Laws.{length-packetOf}
 use Rattle.header_code.specs.Code.{codeword, flipsTo, syndrome}
@@ -49,7 +50,7 @@ use Rattle.writer.specs.declared.Answer.the-variants.{Written}
 use Rattle.writer.specs.Laws.{few-multiframes, length-image, accepts}
 use Rattle.writer.specs.Made.{syncIn, wordIn, packetIn, made, framed, length-made, made-sync, made-word, made-packet}
 use Rattle.writer.specs.Image.{image-sync, image-packet, Utterance, multiframesOf, pairsOf, imageOf, is-accepted, kind-small, rate-not-2}
-use Rattle.demands.specs.Damage.{DamageUpTo, headerFlips, sentMessage, header-near, header-read}
+use Rattle.demands.specs.Damage.{DamageUpTo, Touched, differs, headerFlips, sentMessage, header-near, header-read}
 use Rattle.demands.specs.Damages.{damage-up-to}
 use Rattle.demands.specs.Whole.{rowOf, Lent, pairNoteIn, packet-at, readings-are, reads-as}
 use Rattle.demands.specs.Headers.{sentCommon, common-sent, rate-sent, exp-sent}
@@ -163,6 +164,46 @@ module _ (u : Utterance) (r : ℕ) (p : List Bool) where
 
   pub length-but-one : length p ≡ packetBits → (q : ℕ) → length (butOne q) ≡ packetBits
   length-but-one size q = by-test (λ (l : List Bool). length l ≡ packetBits) (eqb q r) (λ t. size) (λ t. length-packetOf (u .indices) q)
+
+-- all of them, with the first bit flipped of those that t tells
+module _ (u : Utterance) (t : ℕ → Bool) where
+  abbrev pub hit : ℕ → List Bool
+  hit q = when (t q) (flip (packetOf (u .indices) q) 0) (packetOf (u .indices) q)
+
+  pub hit-there : (q : ℕ) → t q ≡ true → hit q ≡ flip (packetOf (u .indices) q) 0
+  hit-there q e = rw e
+
+  pub hit-elsewhere : (q : ℕ) → t q ≡ false → hit q ≡ packetOf (u .indices) q
+  hit-elsewhere q e = rw e
+
+  pub length-hit : (q : ℕ) → length (hit q) ≡ packetBits
+  length-hit q =
+      by-test (λ (l : List Bool). length l ≡ packetBits) (t q) (λ e. length-flip (packetOf (u .indices) q) 0 ∙ length-packetOf (u .indices) q)
+      (λ e. length-packetOf (u .indices) q)
+
+  flip-hurts : (q : ℕ) → Damaged (packetOf (u .indices) q) (flip (packetOf (u .indices) q) 0)
+  flip-hurts q = inl (flip-burst (packetOf (u .indices) q) 0 (omega (arith, length-packetOf (u .indices) q)))
+
+  abbrev SentOr : ℕ → List Bool → Type 0
+  SentOr q l = (l ≡ packetOf (u .indices) q) ⊎ Damaged (packetOf (u .indices) q) l
+
+  -- each is damaged or as it was sent
+  pub hit-fates : (q : ℕ) → (hit q ≡ packetOf (u .indices) q) ⊎ Damaged (packetOf (u .indices) q) (hit q)
+  hit-fates q = by-test (SentOr q) (t q) (λ e. inr (flip-hurts q)) (λ e. inl refl)
+
+  module _ (e : ℕ → ℕ) (small : (k : ℕ) → e k < 2 ^ 32) (q : ℕ) (h : q < pairsOf u) where
+    got : packetIn (flipped u e hit) q ≡ hit q
+    got = packets-are u e hit small length-hit q h
+
+    sent : packetIn (imageOf u) q ≡ packetOf (u .indices) q
+    sent = image-packet (u .rate) (u .kind) (u .indices) (multiframesOf u) q h
+
+    -- those that are told are damaged, and the others are not
+    pub told-touched : t q ≡ true → Touched (imageOf u) (flipped u e hit) q
+    told-touched x y = differs (packetOf (u .indices) q) (flip (packetOf (u .indices) q) 0) (flip-hurts q) (sym (got ∙ hit-there q x) ∙ y ∙ sent)
+
+    pub untold-whole : t q ≡ false → packetIn (flipped u e hit) q ≡ packetIn (imageOf u) q
+    untold-whole x = got ∙ hit-elsewhere q x ∙ sym sent
 
 -- ---- 11 kHz beside 8 kHz
 settings-11 : (u : Utterance) → settingsRight 1 (u .kind) ≡ true

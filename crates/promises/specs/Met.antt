@@ -53,7 +53,7 @@ use Rattle.demands.specs.Met.{zeroBook, zeroThresholds, indexFor, reportFor, le
 use Rattle.promises.specs.Misled as M
 use Rattle.promises.specs.Trusted as T
 use Rattle.promises.specs.Heard as S
-use Rattle.promises.specs.Flipped.{packed, flippedWord, flipped, flipped-size, flipped-syncs, flips-are, packets-are, flipped-damage, zero-not-bad, zero-unnamed, sent-whole, sent-damage, butOne, there, elsewhere, length-but-one, at11, rateBits, none-flipped, one-flipped, two-flipped, three-flipped, five-flipped, six-flipped, seven-flipped, flips-at-11, noted-11, header-at, has-common, usable, reads-settled, good-pair, zeroRead, zeroNotes}
+use Rattle.promises.specs.Flipped.{packed, flippedWord, flipped, flipped-size, flipped-syncs, flips-are, packets-are, flipped-damage, zero-not-bad, zero-unnamed, sent-whole, sent-damage, butOne, there, elsewhere, length-but-one, hit, length-hit, hit-fates, told-touched, untold-whole, at11, rateBits, none-flipped, one-flipped, two-flipped, three-flipped, five-flipped, six-flipped, seven-flipped, flips-at-11, noted-11, header-at, has-common, usable, reads-settled, good-pair, zeroRead, zeroNotes}
 
 -- ---- 48 frames of ones, which take three multiframes
 written-48 : verdict 0 0 (replicate 336 1) (needed (replicate 336 1)) ≡ Written (needed (replicate 336 1))
@@ -352,7 +352,7 @@ hurt-48 = hurt says48 (le-of-eq (sym three-multiframes))
 
 -- ---- LAST HEARD: of two multiframes or more, the first pair is damaged and every header has two flips
 abbrev pub firstHurt : Utterance → List ℕ
-firstHurt u = flipped u (λ k. 3) (butOne u 0 (flip (packetOf (u .indices) 0) 0))
+firstHurt u = flipped u (λ k. 3) (hit u (λ q. eqb q 0))
 
 -- the pair is named, and yet speech and end are as sent
 pub record LastHeard (u : Utterance) : Type 0 where
@@ -363,32 +363,15 @@ pub record LastHeard (u : Utterance) : Type 0 where
   pub end : given .end ≡ 1
 
 module _ (u : Utterance) (two : 2 ≤ multiframesOf u) where
-  abbrev hit : List Bool
-  hit = flip (packetOf (u .indices) 0) 0
-
-  hit-size : length hit ≡ packetBits
-  hit-size = length-flip (packetOf (u .indices) 0) 0 ∙ length-packetOf (u .indices) 0
-
-  hit-hurts : Damaged (packetOf (u .indices) 0) hit
-  hit-hurts = inl (flip-burst (packetOf (u .indices) 0) 0 (omega (arith, length-packetOf (u .indices) 0)))
-
-  got : (q : ℕ) → q < pairsOf u → packetIn (firstHurt u) q ≡ butOne u 0 hit q
-  got q h = packets-are u (λ k. 3) (butOne u 0 hit) (λ k. lit< tt) (length-but-one u 0 hit hit-size) q h
-
   others-whole : (q : ℕ) → q < pairsOf u → (q ≡ 0 → ⊥) → packetIn (firstHurt u) q ≡ packetIn (imageOf u) q
-  others-whole q h n = got q h ∙ elsewhere u 0 hit q n ∙ sym (image-packet (u .rate) (u .kind) (u .indices) (multiframesOf u) q h)
-
-  first-touched : Touched (imageOf u) (firstHurt u) 0
-  first-touched e =
-      differs (packetOf (u .indices) 0) hit hit-hurts
-      (sym (got 0 (omega arith) ∙ there u 0 hit) ∙ e ∙ image-packet (u .rate) (u .kind) (u .indices) (multiframesOf u) 0 (omega arith))
+  others-whole q h n = untold-whole u (λ q. eqb q 0) (λ k. 3) (λ k. lit< tt) q h (ne-eqb q 0 n)
 
   flips : (k : ℕ) → k < multiframesOf u → headerFlips (imageOf u) (firstHurt u) k ≡ 2
-  flips k h = flips-are u (λ k. 3) (butOne u 0 hit) (λ k. lit< tt) k h ∙ two-flipped
+  flips k h = flips-are u (λ k. 3) (hit u (λ q. eqb q 0)) (λ k. lit< tt) k h ∙ two-flipped
 
   pub last-met : N.Wider u (firstHurt u) zeroBook zeroThresholds (indexFor (multiframesOf u)) (reportFor (multiframesOf u))
   last-met = record {
-    damage = flipped-damage u (λ k. 3) (butOne u 0 hit) (λ k. lit< tt) (length-but-one u 0 hit hit-size) 3 (λ k h. omega (arith, two-flipped)) (λ q h. by-one q);
+    damage = flipped-damage u (λ k. 3) (hit u (λ q. eqb q 0)) (λ k. lit< tt) (length-hit u (λ q. eqb q 0)) 3 (λ k h. omega (arith, two-flipped)) (λ q h. hit-fates u (λ q. eqb q 0) q);
     headers = inl (record {
       one = 0;
       two = 1;
@@ -402,10 +385,6 @@ module _ (u : Utterance) (two : 2 ≤ multiframesOf u) where
     not-bad = zero-not-bad u (firstHurt u) 1 (others-whole 1 (omega arith) (λ e. omega arith));
     lent = lent-zeros (multiframesOf u);
   }
-    where
-      by-one : (q : ℕ) → (butOne u 0 hit q ≡ packetOf (u .indices) q) ⊎ Damaged (packetOf (u .indices) q) (butOne u 0 hit q)
-      by-one zero = inr (subst (Damaged (packetOf (u .indices) 0)) (sym (there u 0 hit)) hit-hurts)
-      by-one (suc q) = inl (elsewhere u 0 hit (suc q) (λ e. omega arith))
 
   pub last-unnamed : S.LastUnnamed u (firstHurt u) zeroBook zeroThresholds (indexFor (multiframesOf u)) (reportFor (multiframesOf u)) last-met
   last-unnamed q l h = zero-unnamed u (firstHurt u) q (others-whole q h (λ e. omega arith)) h last-met
@@ -414,7 +393,8 @@ module _ (u : Utterance) (two : 2 ≤ multiframesOf u) where
   last-is-heard =
       let x = N.names-wider u (firstHurt u) zeroBook zeroThresholds (indexFor (multiframesOf u)) (reportFor (multiframesOf u)) last-met in
       let s = S.last-heard u (firstHurt u) zeroBook zeroThresholds (indexFor (multiframesOf u)) (reportFor (multiframesOf u)) last-met last-unnamed (x .given) (x .succeeds) in
-      record { named = x .names .damaged 0 (omega arith) .1 first-touched; given = x .given; succeeds = x .succeeds; speech = s .0; end = s .1 }
+      let first = told-touched u (λ q. eqb q 0) (λ k. 3) (λ k. lit< tt) 0 (omega arith) refl in
+      record { named = x .names .damaged 0 (omega arith) .1 first; given = x .given; succeeds = x .succeeds; speech = s .0; end = s .1 }
 
 pub last-24 : LastHeard says24
 last-24 = last-is-heard says24 (le-of-eq (sym two-multiframes))

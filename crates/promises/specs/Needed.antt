@@ -6,44 +6,56 @@ use mathlib.Core.List.{List, [], _∷_, _++_}
 use mathlib.Core.Logic.{_⊎_, inl, inr, ⊎-elim}
 use Prim.Native.Nat.{ℕ, zero, suc, _+_, _-_, _*_, _/_, _%_, _^_, _≤_, _<_}
 use native.Mathlib.Nat.{le-of-eq}
+use native.Mathlib.Decide.{ℕ-discrete}
 use native.Mathlib.Omega.{arith}
 use lib.Bits.{bitXor, xor-comm}
 use lib.Count.{ones, onesIn}
-use lib.Dec.{eqb, lit<}
+use lib.Dec.{eqb, leb, lit<}
 use lib.IntN.{ℤ}
-use lib.ListN.{length, getD}
+use borrow.Author.Tests.{eq-eqb, ne-eqb, le-leb, lt-leb}
+use lib.ListN.{length, getD, replicate}
 use Rattle.gf2.specs.Light.{ones-in}
 use Rattle.gf2.specs.Xor.{xor-twice}
-use Rattle.lists.specs.Tests.{when, by-test}
+use Rattle.lists.specs.Tests.{when, by-test, true-false}
+use Rattle.lists.specs.Parts.{part}
 use Rattle.lists.specs.Rows.{each}
-use Rattle.layout.specs.Layout.{dataBits, multiframeOctets}
+use Rattle.layout.specs.Layout.{frameIndices, dataBits, multiframeFrames, multiframePairs, multiframeOctets, pairOf, firstFrame, secondFrame, firstPair}
 use Rattle.crc.specs.Crc.{right}
-use Rattle.packet.specs.Packet.{packetOf}
-use Rattle.packet.specs.Laws.{packetOf-good}
+use Rattle.packet.specs.Packet.{frameAt, packetOf}
+use Rattle.packet.specs.Laws.{getD-row, row-past, packetOf-good}
+use Rattle.cutting.specs.Laws.{every-length}
 use Rattle.header_code.specs.Code.{codeword}
 use Rattle.header.specs.declared.Header.{Header}
 use Rattle.header.specs.declared.Header.the-variants.{Codeword, Lost}
 use Rattle.settling.specs.Settling.{readings, settling, firstAgreeing, onlyOne}
 use Rattle.settling.specs.declared.Settings.the-variants as Set
-use Rattle.reader.specs.Reading.{Outcome, outcome, reading}
+use Rattle.pairs.specs.Pairs.{allFrames}
+use Rattle.pairs.specs.Laws.{length-notes, length-all}
+use Rattle.judging.specs.Laws.{Good}
+use Rattle.replacing.specs.Replacing.{frameBefore, frameAfter, source}
+use Rattle.replacing.specs.Laws.{Run, at-the-end, first-half, second-half, frame-replaced}
+use Rattle.replacing.specs.Speech.{allZero, zeroFrame, lastNonzero, speechOf, endOf, place-le, zero-behind, nonzero-at, place-stop}
+use Rattle.reader.specs.Reading.{indexPart, summary, Outcome, outcome, reading}
 use Rattle.reader.specs.declared.Summary.{Summary}
 use Rattle.reader.specs.declared.Refusal.the-variants.{Unsettled}
 use Rattle.reader.specs.declared.Answer.the-variants.{Read, Refused}
+use Rattle.writer.specs.Writing.{frameCount, needed}
 use Rattle.writer.specs.Laws.{few-multiframes, length-image}
 use Rattle.writer.specs.Made.{syncIn, wordIn, packetIn}
-use Rattle.writer.specs.Image.{image-sync, image-word, image-packet, image-small, Utterance, multiframesOf, pairsOf, imageOf, is-accepted}
+use Rattle.writer.specs.Image.{image-sync, image-word, image-packet, image-small, Nonzero, last-speaks, Utterance, multiframesOf, pairsOf, imageOf, is-accepted, whole-frames}
 use Rattle.demands.specs.Damage.{DamageUpTo, headerBits, headerFlips, sentMessage}
-use Rattle.demands.specs.Whole.{rowOf, Lent, headerNoteIn, refuses-16}
-use Rattle.demands.specs.Headers.{Settling, TwoReadable, heardAs, heard-read, heard-lost, headers-read}
-use Rattle.demands.specs.Received.{BadPair}
+use Rattle.demands.specs.Whole.{rowOf, Lent, headerNoteIn, pairNoteIn, all-zero-at, refuses-16}
+use Rattle.demands.specs.Headers.{sentCommon, TwoReadable, heardAs, heard-read, heard-lost, headers-read}
+use Rattle.demands.specs.Received.{BadPair, touched-note}
+use Rattle.demands.specs.NamesTheDamage as N
 use Rattle.demands.specs.ReadsBack.{spoken, reads-image, reads-mended}
 use Rattle.demands.specs.ToldApart.{Alike}
 use Rattle.demands.specs.Instances.{lone, says1}
-use Rattle.demands.specs.Met.{zeroBook, zeroThresholds, indexFor, reportFor, lent-zeros, says24, two-multiframes, rate-24}
+use Rattle.demands.specs.Met.{zeroBook, zeroThresholds, indexFor, reportFor, lent-zeros, says24, two-multiframes, rate-24, frames-24}
 use Rattle.demands.specs.Needed.{eighth, saysEighth, Passes15, passes-15, halfway}
 use Rattle.promises.specs.Misled as M
 use Rattle.promises.specs.Trusted as T
-use Rattle.promises.specs.Flipped.{flipped, flipped-size, flipped-syncs, flips-are, flipped-damage, sent-whole, sent-damage, at11, rateBits, none-flipped, two-flipped, three-flipped, six-flipped, word-11, seen-at-11, flips-at-11, zeroRead, zero-not-bad}
+use Rattle.promises.specs.Flipped.{flipped, flipped-size, flipped-syncs, flips-are, flipped-damage, sent-whole, sent-damage, at11, rateBits, none-flipped, two-flipped, three-flipped, six-flipped, word-11, seen-at-11, flips-at-11, hit, length-hit, hit-fates, told-touched, untold-whole, zeroRead, zeroNotes, right-good, zero-not-bad, zero-unnamed}
 use Rattle.promises.specs.Met.{says48, three-multiframes, rate-48, without-warning, inSecond, in-second-lt, flips-in-second, none-in-others, Harmless, harmless}
 
 -- ---- NEVER MISLED: all premises hold but that on the flips in headers, not even a packet is damaged, and 8 kHz is read as 11 kHz
@@ -319,3 +331,205 @@ six-confuse u eight =
       six = λ k h. omega (arith, flips-are u (λ k. halfway) f (λ k. lit< tt) k h, half-8, flips-at-11 u eight (λ k. halfway) f (λ k. lit< tt) k h, half-11);
       not-alike = λ a. let z : _≡_ {A = ℕ} 0 1 = sym eight ∙ a .rates in omega arith;
     }
+
+-- ---- LAST HEARD NEEDS THE LAST MULTIFRAME UNNAMED: the frames fill all multiframes but the last, which is padding, and of that the pairs up to b
+-- are damaged. All headers are whole, and tables of zeros make no other pair bad
+only-first : (l : List ℕ) (i n : ℕ) → 0 < n → zeroFrame l (i + 0) ≡ false → ((k : ℕ) → 0 < k → k < n → zeroFrame l (i + k) ≡ true) → lastNonzero l i n ≡ 1
+only-first l i n some first others = by (lastNonzero l i n) refl
+  where
+    by : (x : ℕ) → lastNonzero l i n ≡ x → lastNonzero l i n ≡ 1
+    by zero e = absurd (true-false (sym (zero-behind l i n 0 (omega arith) some) ∙ first))
+    by (suc zero) e = e
+    by (suc (suc k)) e =
+        let h = place-le l i n in
+        absurd (true-false (sym (others (suc k) (omega arith) (omega arith)) ∙ nonzero-at l i n (suc k) e))
+
+-- a frame that speaks is not zero
+speaks : (u : Utterance) (k : ℕ) → k + 1 ≡ frameCount (u .indices) → allZero (frameAt (u .indices) k) ≡ false
+speaks u k e = by (allZero (frameAt (u .indices) k)) refl
+  where
+    x : Nonzero (u .indices) k
+    x = last-speaks (u .rate) (u .kind) (u .indices) (needed (u .indices)) (needed (u .indices)) (is-accepted u) k e
+
+    by : (t : Bool) → allZero (frameAt (u .indices) k) ≡ t → allZero (frameAt (u .indices) k) ≡ false
+    by true z = absurd (x .nonzero (sym (getD-row (u .indices) (frameIndices * k) frameIndices (x .place) (x .within)) ∙ all-zero-at (frameAt (u .indices) k) (x .place) z))
+    by false z = z
+
+silent : (n : ℕ) → allZero (replicate n 0) ≡ true
+silent zero = refl
+silent (suc n) = silent n
+
+-- the first pair of the last multiframe
+abbrev pub lastFirst : Utterance → ℕ
+lastFirst u = firstPair (multiframesOf u - 1)
+
+module _ (u : Utterance) (two : 2 ≤ multiframesOf u) (full : frameCount (u .indices) ≡ multiframeFrames * (multiframesOf u - 1)) (t : ℕ → Bool) (b : ℕ)
+    (some : lastFirst u < b) (most : b ≤ pairsOf u) (inside : (q : ℕ) → lastFirst u ≤ q → q < b → t q ≡ true) (before : (q : ℕ) → q < lastFirst u → t q ≡ false)
+    (behind : (q : ℕ) → b ≤ q → t q ≡ false) where
+  abbrev got : List ℕ
+  got = flipped u (λ k. 0) (hit u t)
+
+  abbrev ms : ℕ
+  ms = multiframesOf u
+
+  abbrev r : ℕ
+  r = lastFirst u
+
+  abbrev ns : List ℕ
+  ns = zeroNotes u got
+
+  abbrev all : List ℕ
+  all = indexPart got (rowOf ms) ns
+
+  still : (k : ℕ) → k < ms → headerFlips (imageOf u) got k ≡ 0
+  still k h = flips-are u (λ k. 0) (hit u t) (λ k. lit< tt) k h ∙ none-flipped
+
+  as-sent : (q : ℕ) → q < pairsOf u → t q ≡ false → packetIn got q ≡ packetIn (imageOf u) q
+  as-sent = untold-whole u t (λ k. 0) (λ k. lit< tt)
+
+  pub wide : N.Wider u (flipped u (λ k. 0) (hit u t)) zeroBook zeroThresholds (indexFor (multiframesOf u)) (reportFor (multiframesOf u))
+  wide = record {
+    damage = flipped-damage u (λ k. 0) (hit u t) (λ k. lit< tt) (length-hit u t) 3 (λ k h. omega (arith, none-flipped)) (λ q h. hit-fates u t q);
+    headers = inl (record {
+      one = 0;
+      two = 1;
+      order = lit< tt;
+      within = omega arith;
+      few-of-one = omega (arith, still 0 (omega arith));
+      few-of-two = omega (arith, still 1 (omega arith));
+    });
+    pair = 0;
+    within = omega arith;
+    not-bad = zero-not-bad u got 0 (as-sent 0 (omega arith) (before 0 (omega arith)));
+    lent = lent-zeros (multiframesOf u);
+  }
+
+  notes-size : length ns ≡ pairsOf u
+  notes-size = length-notes got (rowOf ms) zeroBook zeroThresholds ∙ ap (λ (n : ℕ). multiframePairs * n) (every-length 0 ms)
+
+  good-at : (q : ℕ) → q < pairsOf u → t q ≡ false → getD ns q 0 ≡ 0
+  good-at q h e =
+      right-good got ms q h (ap (right dataBits) (as-sent q h e ∙ image-packet (u .rate) (u .kind) (u .indices) ms q h) ∙ packetOf-good (u .indices) q)
+
+  bad-at : (q : ℕ) → q < pairsOf u → t q ≡ true → getD ns q 0 ≡ 1
+  bad-at q h e = touched-note u got (wide .damage) zeroBook zeroThresholds q h (told-touched u t (λ k. 0) (λ k. lit< tt) q h e)
+
+  run : Run ns r b
+  run = record {
+    some = some;
+    within = omega (arith, notes-size);
+    bad = λ q h l z. let e : _≡_ {A = ℕ} 0 1 = sym z ∙ bad-at q (omega arith) (inside q h l) in omega arith;
+    start = inr (good-at (r - 1) (omega arith) (before (r - 1) (omega arith)));
+    stop = elim (ℕ-discrete b (pairsOf u)) [ yes e ↦ inl (e ∙ sym notes-size) | no n ↦ inr (good-at b (omega arith) (behind b (omega arith))) ];
+  }
+
+  some-good : Good ns
+  some-good = record { pair = 0; within = omega (arith, notes-size); good = good-at 0 (omega arith) (before 0 (omega arith)) }
+
+  -- each frame is the one that stands in for it
+  frame-is : (i : ℕ) → i < multiframeFrames * ms → part (frameIndices * i) frameIndices all ≡ part (frameIndices * source ns i) frameIndices (allFrames got (rowOf ms))
+  frame-is i h =
+      frame-replaced ns some-good (allFrames got (rowOf ms)) i (omega (arith, notes-size, length-all got (rowOf ms), every-length 0 ms)) (omega (arith, notes-size))
+
+  -- which is the last frame sent, where it is taken from before
+  from-before : (i : ℕ) → i < multiframeFrames * ms → source ns i ≡ frameBefore r → zeroFrame all i ≡ false
+  unfolding zeroFrame
+  from-before i h e =
+      let z : frameBefore r ≡ secondFrame (r - 1) = omega arith in
+      ap allZero
+      (frame-is i h ∙ ap (λ (k : ℕ). part (frameIndices * k) frameIndices (allFrames got (rowOf ms))) (e ∙ z)
+      ∙ N.frame-in-pair u got zeroBook zeroThresholds (indexFor ms) (reportFor ms) wide (r - 1) (omega arith) (good-at (r - 1) (omega arith) (before (r - 1) (omega arith))) .1)
+      ∙ speaks u (secondFrame (r - 1)) (omega arith)
+
+  -- and zero where it is taken from behind, or is a good pair's
+  from-behind : (i : ℕ) → i < multiframeFrames * ms → source ns i ≡ frameAfter b → b < pairsOf u → zeroFrame all i ≡ true
+  unfolding zeroFrame
+  from-behind i h e l =
+      ap allZero
+      (frame-is i h ∙ ap (λ (k : ℕ). part (frameIndices * k) frameIndices (allFrames got (rowOf ms))) e
+      ∙ N.frame-in-pair u got zeroBook zeroThresholds (indexFor ms) (reportFor ms) wide b l (good-at b l (behind b (omega arith))) .0
+      ∙ row-past (u .indices) (frameIndices * firstFrame b) frameIndices (omega (arith, whole-frames u)))
+
+  good-silent : (i : ℕ) → firstFrame b ≤ i → i < multiframeFrames * ms → zeroFrame all i ≡ true
+  unfolding zeroFrame
+  good-silent i l h =
+      ap allZero
+      (N.index-frame u got zeroBook zeroThresholds (indexFor ms) (reportFor ms) wide i h (good-at (pairOf i) (omega arith) (behind (pairOf i) (omega arith)))
+      ∙ row-past (u .indices) (frameIndices * i) frameIndices (omega (arith, whole-frames u)))
+
+  given-is : zeroRead u got .answer ≡ Read (summary got (rowOf ms) ns (sentCommon u))
+  given-is = ap (λ (o : Outcome). o .answer) (N.read-is u got zeroBook zeroThresholds (indexFor ms) (reportFor ms) wide)
+
+  speech-is : (n : ℕ) → lastNonzero all (multiframeFrames * (ms - 1)) multiframeFrames ≡ n → summary got (rowOf ms) ns (sentCommon u) .speech ≡ frameCount (u .indices) + n
+  speech-is n e =
+      ap (λ (k : ℕ). speechOf k all) (every-length 0 ms) ∙ ap₂ _+_ (sym full) e
+
+  end-is : (x : Bool) → zeroFrame all (multiframeFrames * ms - 1) ≡ x → summary got (rowOf ms) ns (sentCommon u) .end ≡ when x 1 0
+  end-is x e = ap (λ (k : ℕ). endOf k all) (every-length 0 ms) ∙ ap (λ (y : Bool). when {A = ℕ} y 1 0) e
+
+  -- a run of one pair: its first frame becomes the last one sent, its second stays silent
+  one-heard : b ≡ lastFirst u + 1 → lastNonzero all (multiframeFrames * (ms - 1)) multiframeFrames ≡ 1
+  one-heard e = only-first all (multiframeFrames * (ms - 1)) multiframeFrames (lit< tt) first (λ k l h. others k l h (ℕ-discrete k 1))
+    where
+      first : zeroFrame all (multiframeFrames * (ms - 1) + 0) ≡ false
+      first =
+          let i = multiframeFrames * (ms - 1) + 0 in
+          from-before i (omega arith) (first-half ns r b run i (omega arith) (omega (arith, notes-size)) (omega arith) (omega arith))
+
+      others : (k : ℕ) → 0 < k → k < multiframeFrames → Dec (k ≡ 1) → zeroFrame all (multiframeFrames * (ms - 1) + k) ≡ true
+      others k l h (yes z) =
+          let i = multiframeFrames * (ms - 1) + k in
+          from-behind i (omega arith) (second-half ns r b run i (omega arith) (omega (arith, notes-size)) (omega arith) (omega arith)) (omega arith)
+      others k l h (no n) = good-silent (multiframeFrames * (ms - 1) + k) (omega arith) (omega arith)
+
+  -- a run to the end: every frame becomes the last one sent
+  all-heard : b ≡ pairsOf u → (i : ℕ) → firstFrame (lastFirst u) ≤ i → i < multiframeFrames * multiframesOf u → zeroFrame all i ≡ false
+  all-heard e i l h = from-before i h (at-the-end ns r b run i (omega arith) (e ∙ sym notes-size) l (omega arith))
+
+-- one flip in the first packet of the last multiframe: it alone is named, and speech is one more than was sent
+abbrev pub endHurt : Utterance → List ℕ
+endHurt u = flipped u (λ k. 0) (hit u (λ q. eqb q (lastFirst u)))
+
+pub record OneMore (u : Utterance) : Type 0 where
+  pub wider : N.Wider u (endHurt u) zeroBook zeroThresholds (indexFor (multiframesOf u)) (reportFor (multiframesOf u))
+  pub named : pairNoteIn (zeroRead u (endHurt u) .report) (lastFirst u) ≡ 1
+  pub others : (q : ℕ) → q < pairsOf u → (q ≡ lastFirst u → ⊥) → pairNoteIn (zeroRead u (endHurt u) .report) q ≡ 0
+  pub given : Summary
+  pub succeeds : zeroRead u (endHurt u) .answer ≡ Read given
+  pub speech : given .speech ≡ frameCount (u .indices) + 1
+
+module _ (u : Utterance) (two : 2 ≤ multiframesOf u) (full : frameCount (u .indices) ≡ multiframeFrames * (multiframesOf u - 1)) where
+  pub one-more : OneMore u
+  one-more = record {
+    wider = w;
+    named = N.names-wider u (endHurt u) zeroBook zeroThresholds (indexFor (multiframesOf u)) (reportFor (multiframesOf u)) w .names .damaged (lastFirst u) (omega arith) .1
+        (told-touched u is (λ k. 0) (λ k. lit< tt) (lastFirst u) (omega arith) (eq-eqb (lastFirst u) (lastFirst u) refl));
+    others = λ q h n. zero-unnamed u (endHurt u) q (untold-whole u is (λ k. 0) (λ k. lit< tt) q h (ne-eqb q (lastFirst u) n)) h w;
+    given = summary (endHurt u) (rowOf (multiframesOf u)) (zeroNotes u (endHurt u)) (sentCommon u);
+    succeeds = given-is u two full is b some most inside before behind;
+    speech = speech-is u two full is b some most inside before behind 1 (one-heard u two full is b some most inside before behind refl);
+  }
+    where
+      is : ℕ → Bool
+      is q = eqb q (lastFirst u)
+
+      b : ℕ
+      b = lastFirst u + 1
+
+      some : lastFirst u < b
+      some = omega arith
+
+      most : b ≤ pairsOf u
+      most = omega arith
+
+      inside : (q : ℕ) → lastFirst u ≤ q → q < b → is q ≡ true
+      inside q h l = eq-eqb q (lastFirst u) (omega arith)
+
+      before : (q : ℕ) → q < lastFirst u → is q ≡ false
+      before q h = ne-eqb q (lastFirst u) (λ e. omega arith)
+
+      behind : (q : ℕ) → b ≤ q → is q ≡ false
+      behind q h = ne-eqb q (lastFirst u) (λ e. omega arith)
+
+      w : N.Wider u (endHurt u) zeroBook zeroThresholds (indexFor (multiframesOf u)) (reportFor (multiframesOf u))
+      w = wide u two full is b some most inside before behind
