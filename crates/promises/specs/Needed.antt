@@ -365,7 +365,7 @@ lastFirst u = firstPair (multiframesOf u - 1)
 
 module _ (u : Utterance) (two : 2 ≤ multiframesOf u) (full : frameCount (u .indices) ≡ multiframeFrames * (multiframesOf u - 1)) (t : ℕ → Bool) (b : ℕ)
     (some : lastFirst u < b) (most : b ≤ pairsOf u) (inside : (q : ℕ) → lastFirst u ≤ q → q < b → t q ≡ true) (before : (q : ℕ) → q < lastFirst u → t q ≡ false)
-    (behind : (q : ℕ) → b ≤ q → t q ≡ false) where
+    (behind : (q : ℕ) → b ≤ q → q < pairsOf u → t q ≡ false) where
   abbrev got : List ℕ
   got = flipped u (λ k. 0) (hit u t)
 
@@ -420,7 +420,7 @@ module _ (u : Utterance) (two : 2 ≤ multiframesOf u) (full : frameCount (u .in
     within = omega (arith, notes-size);
     bad = λ q h l z. let e : _≡_ {A = ℕ} 0 1 = sym z ∙ bad-at q (omega arith) (inside q h l) in omega arith;
     start = inr (good-at (r - 1) (omega arith) (before (r - 1) (omega arith)));
-    stop = elim (ℕ-discrete b (pairsOf u)) [ yes e ↦ inl (e ∙ sym notes-size) | no n ↦ inr (good-at b (omega arith) (behind b (omega arith))) ];
+    stop = elim (ℕ-discrete b (pairsOf u)) [ yes e ↦ inl (e ∙ sym notes-size) | no n ↦ inr (good-at b (omega arith) (behind b (omega arith) (omega arith))) ];
   }
 
   some-good : Good ns
@@ -447,14 +447,14 @@ module _ (u : Utterance) (two : 2 ≤ multiframesOf u) (full : frameCount (u .in
   from-behind i h e l =
       ap allZero
       (frame-is i h ∙ ap (λ (k : ℕ). part (frameIndices * k) frameIndices (allFrames got (rowOf ms))) e
-      ∙ N.frame-in-pair u got zeroBook zeroThresholds (indexFor ms) (reportFor ms) wide b l (good-at b l (behind b (omega arith))) .0
+      ∙ N.frame-in-pair u got zeroBook zeroThresholds (indexFor ms) (reportFor ms) wide b l (good-at b l (behind b (omega arith) l)) .0
       ∙ row-past (u .indices) (frameIndices * firstFrame b) frameIndices (omega (arith, whole-frames u)))
 
   good-silent : (i : ℕ) → firstFrame b ≤ i → i < multiframeFrames * ms → zeroFrame all i ≡ true
   unfolding zeroFrame
   good-silent i l h =
       ap allZero
-      (N.index-frame u got zeroBook zeroThresholds (indexFor ms) (reportFor ms) wide i h (good-at (pairOf i) (omega arith) (behind (pairOf i) (omega arith)))
+      (N.index-frame u got zeroBook zeroThresholds (indexFor ms) (reportFor ms) wide i h (good-at (pairOf i) (omega arith) (behind (pairOf i) (omega arith) (omega arith)))
       ∙ row-past (u .indices) (frameIndices * i) frameIndices (omega (arith, whole-frames u)))
 
   given-is : zeroRead u got .answer ≡ Read (summary got (rowOf ms) ns (sentCommon u))
@@ -528,8 +528,71 @@ module _ (u : Utterance) (two : 2 ≤ multiframesOf u) (full : frameCount (u .in
       before : (q : ℕ) → q < lastFirst u → is q ≡ false
       before q h = ne-eqb q (lastFirst u) (λ e. omega arith)
 
-      behind : (q : ℕ) → b ≤ q → is q ≡ false
-      behind q h = ne-eqb q (lastFirst u) (λ e. omega arith)
+      behind : (q : ℕ) → b ≤ q → q < pairsOf u → is q ≡ false
+      behind q h l = ne-eqb q (lastFirst u) (λ e. omega arith)
 
       w : N.Wider u (endHurt u) zeroBook zeroThresholds (indexFor (multiframesOf u)) (reportFor (multiframesOf u))
       w = wide u two full is b some most inside before behind
+
+-- of 24 frames 25 are heard
+pub heard-25 : (x : OneMore says24) → x .given .speech ≡ 25
+heard-25 x = x .speech ∙ ap (λ (n : ℕ). n + 1) frames-24
+
+pub more-24 : OneMore says24
+more-24 = one-more says24 (le-of-eq (sym two-multiframes)) (frames-24 ∙ ap (λ (m : ℕ). multiframeFrames * (m - 1)) (sym two-multiframes))
+
+-- one flip in each packet of the last multiframe: all of it is named, speech is a multiframe more than was sent, and the end is gone
+abbrev pub endGone : Utterance → List ℕ
+endGone u = flipped u (λ k. 0) (hit u (λ q. leb (lastFirst u) q))
+
+pub record NoEnd (u : Utterance) : Type 0 where
+  pub wider : N.Wider u (endGone u) zeroBook zeroThresholds (indexFor (multiframesOf u)) (reportFor (multiframesOf u))
+  pub others : (q : ℕ) → q < lastFirst u → pairNoteIn (zeroRead u (endGone u) .report) q ≡ 0
+  pub given : Summary
+  pub succeeds : zeroRead u (endGone u) .answer ≡ Read given
+  pub speech : given .speech ≡ frameCount (u .indices) + multiframeFrames
+  pub end : given .end ≡ 0
+
+module _ (u : Utterance) (two : 2 ≤ multiframesOf u) (full : frameCount (u .indices) ≡ multiframeFrames * (multiframesOf u - 1)) where
+  pub no-end : NoEnd u
+  no-end = record {
+    wider = w;
+    others = λ q h. zero-unnamed u (endGone u) q (untold-whole u is (λ k. 0) (λ k. lit< tt) q (omega arith) (before q h)) (omega arith) w;
+    given = summary (endGone u) (rowOf (multiframesOf u)) (zeroNotes u (endGone u)) (sentCommon u);
+    succeeds = given-is u two full is b some most inside before behind;
+    speech = speech-is u two full is b some most inside before behind multiframeFrames
+        (place-stop (indexPart (endGone u) (rowOf (multiframesOf u)) (zeroNotes u (endGone u))) (multiframeFrames * (multiframesOf u - 1)) multiframeFrames (lit< tt)
+        (last (multiframeFrames * (multiframesOf u - 1) + (multiframeFrames - 1)) (omega arith) (omega arith)));
+    end = end-is u two full is b some most inside before behind false (last (multiframeFrames * multiframesOf u - 1) (omega arith) (omega arith));
+  }
+    where
+      is : ℕ → Bool
+      is q = leb (lastFirst u) q
+
+      b : ℕ
+      b = pairsOf u
+
+      some : lastFirst u < b
+      some = omega arith
+
+      most : b ≤ pairsOf u
+      most = omega arith
+
+      inside : (q : ℕ) → lastFirst u ≤ q → q < b → is q ≡ true
+      inside q h l = le-leb (lastFirst u) q h
+
+      before : (q : ℕ) → q < lastFirst u → is q ≡ false
+      before q h = lt-leb (lastFirst u) q h
+
+      behind : (q : ℕ) → b ≤ q → q < pairsOf u → is q ≡ false
+      behind q h l = absurd (omega arith)
+
+      last : (i : ℕ) → firstFrame (lastFirst u) ≤ i → i < multiframeFrames * multiframesOf u
+          → zeroFrame (indexPart (endGone u) (rowOf (multiframesOf u)) (zeroNotes u (endGone u))) i ≡ false
+      last = all-heard u two full is b some most inside before behind refl
+
+      w : N.Wider u (endGone u) zeroBook zeroThresholds (indexFor (multiframesOf u)) (reportFor (multiframesOf u))
+      w = wide u two full is b some most inside before behind
+
+pub gone-24 : NoEnd says24
+gone-24 = no-end says24 (le-of-eq (sym two-multiframes)) (frames-24 ∙ ap (λ (m : ℕ). multiframeFrames * (m - 1)) (sym two-multiframes))
