@@ -8,44 +8,51 @@ use Prim.Native.Nat.{ℕ, zero, suc, _+_, _-_, _*_, _/_, _%_, _^_, _≤_, _<_}
 use native.Mathlib.Nat.{le-of-eq}
 use native.Mathlib.Decide.{ℕ-discrete}
 use native.Mathlib.Omega.{arith}
-use lib.Bits.{bitXor, xor-comm}
+use lib.Bits.{bitXor, xor-comm, xor-self}
 use lib.Count.{ones, onesIn}
 use lib.Dec.{eqb, leb, lit<}
 use lib.IntN.{ℤ}
 use borrow.Author.Tests.{eq-eqb, ne-eqb, le-leb, lt-leb}
-use lib.ListN.{length, getD, replicate}
+use lib.ListN.{length, getD, drop, replicate, length-append}
+use lib.Seq.{getD-take}
 use Rattle.gf2.specs.Light.{ones-in}
 use Rattle.gf2.specs.Xor.{xor-twice}
 use Rattle.lists.specs.Tests.{when, by-test, true-false}
-use Rattle.lists.specs.Parts.{part}
+use Rattle.lists.specs.Parts.{part, part-left, part-right}
 use Rattle.lists.specs.Rows.{each}
-use Rattle.layout.specs.Layout.{frameIndices, dataBits, multiframeFrames, multiframePairs, multiframeOctets, pairOf, firstFrame, secondFrame, firstPair}
+use Rattle.layout.specs.Layout.{frameIndices, dataBits, multiframeFrames, multiframePairs, multiframeOctets, syncOctets, headerOctets, streamOctets, packetBits, pairOf, firstFrame, secondFrame, firstPair}
+use Rattle.bits.specs.Bits.{value, bits}
 use Rattle.crc.specs.Crc.{right}
 use Rattle.packet.specs.Packet.{frameAt, packetOf}
 use Rattle.packet.specs.Laws.{getD-row, row-past, packetOf-good}
-use Rattle.cutting.specs.Laws.{every-length}
+use Rattle.cutting.specs.Cutting.{Cutting, whole, cutting, syncFirst, syncSecond, inverseFirst, inverseSecond}
+use Rattle.cutting.specs.Laws.{every-length, multiframe, inverse, octetsOf, placesOf, Proper, cut-chunks}
 use Rattle.header_code.specs.Code.{codeword}
 use Rattle.header.specs.declared.Header.{Header}
 use Rattle.header.specs.declared.Header.the-variants.{Codeword, Lost}
 use Rattle.settling.specs.Settling.{readings, settling, firstAgreeing, onlyOne}
+use Rattle.settling.specs.Laws.{only-clean}
 use Rattle.settling.specs.declared.Settings.the-variants as Set
-use Rattle.pairs.specs.Pairs.{allFrames}
+use Rattle.pairs.specs.Pairs.{pairCount, allFrames, pairNotes}
 use Rattle.pairs.specs.Laws.{length-notes, length-all}
-use Rattle.judging.specs.Laws.{Good}
+use Rattle.judging.specs.Judging.{badPairs}
+use Rattle.judging.specs.Laws.{Good, none-good}
 use Rattle.replacing.specs.Replacing.{frameBefore, frameAfter, source}
 use Rattle.replacing.specs.Laws.{Run, at-the-end, first-half, second-half, frame-replaced}
 use Rattle.replacing.specs.Speech.{allZero, zeroFrame, lastNonzero, speechOf, endOf, place-le, zero-behind, nonzero-at, place-stop}
-use Rattle.reader.specs.Reading.{indexPart, summary, Outcome, outcome, reading}
+use Rattle.reader.specs.Reading.{indexPart, summary, finished, Outcome, outcome, reading}
+use Rattle.reader.specs.ReadingLaws.{Fitting, accepting}
+use Rattle.reader.specs.declared.Verdict.{Verdict}
 use Rattle.reader.specs.declared.Summary.{Summary}
 use Rattle.reader.specs.declared.Refusal.the-variants.{Unsettled}
 use Rattle.reader.specs.declared.Answer.the-variants.{Read, Refused}
-use Rattle.writer.specs.Writing.{frameCount, needed}
+use Rattle.writer.specs.Writing.{frameCount, needed, image}
 use Rattle.writer.specs.Laws.{few-multiframes, length-image}
 use Rattle.writer.specs.Made.{syncIn, wordIn, packetIn}
 use Rattle.writer.specs.Image.{image-sync, image-word, image-packet, image-small, Nonzero, last-speaks, Utterance, multiframesOf, pairsOf, imageOf, is-accepted, whole-frames}
-use Rattle.demands.specs.Damage.{DamageUpTo, headerBits, headerFlips, sentMessage}
-use Rattle.demands.specs.Whole.{rowOf, Lent, headerNoteIn, pairNoteIn, all-zero-at, refuses-16}
-use Rattle.demands.specs.Headers.{sentCommon, TwoReadable, heardAs, heard-read, heard-lost, headers-read}
+use Rattle.demands.specs.Damage.{DamageUpTo, headerBits, headerFlips, sentMessage, header-read}
+use Rattle.demands.specs.Whole.{rowOf, Lent, headerNoteIn, pairNoteIn, all-zero-at, readings-are, refuses-16}
+use Rattle.demands.specs.Headers.{sentCommon, common-sent, TwoReadable, heardAs, heard-read, heard-lost, headers-read}
 use Rattle.demands.specs.Received.{BadPair, touched-note}
 use Rattle.demands.specs.NamesTheDamage as N
 use Rattle.demands.specs.ReadsBack.{spoken, reads-image, reads-mended}
@@ -55,7 +62,7 @@ use Rattle.demands.specs.Met.{zeroBook, zeroThresholds, indexFor, reportFor, le
 use Rattle.demands.specs.Needed.{eighth, saysEighth, Passes15, passes-15, halfway}
 use Rattle.promises.specs.Misled as M
 use Rattle.promises.specs.Trusted as T
-use Rattle.promises.specs.Flipped.{flipped, flipped-size, flipped-syncs, flips-are, flipped-damage, sent-whole, sent-damage, at11, rateBits, none-flipped, two-flipped, three-flipped, six-flipped, word-11, seen-at-11, flips-at-11, hit, length-hit, hit-fates, told-touched, untold-whole, zeroRead, zeroNotes, right-good, zero-not-bad, zero-unnamed}
+use Rattle.promises.specs.Flipped.{flipped, flipped-size, flipped-syncs, flips-are, flipped-damage, sent-whole, sent-damage, at11, rateBits, none-flipped, two-flipped, three-flipped, six-flipped, word-11, seen-at-11, flips-at-11, hit, length-hit, hit-fates, told-touched, untold-whole, zeroRead, zeroNotes, right-good, good-pair, usable, zero-not-bad, zero-unnamed}
 use Rattle.promises.specs.Met.{says48, three-multiframes, rate-48, without-warning, inSecond, in-second-lt, flips-in-second, none-in-others, Harmless, harmless}
 
 -- ---- NEVER MISLED: all premises hold but that on the flips in headers, not even a packet is damaged, and 8 kHz is read as 11 kHz
@@ -270,13 +277,13 @@ module _ (u : Utterance) (eight : u .rate ≡ 0) (three : 3 ≤ multiframesOf u)
   lt : (k : ℕ) → inSecond fourBits k < 2 ^ 32
   lt = in-second-lt fourBits (lit< tt)
 
-  whole : (q : ℕ) → q < pairsOf u → packetIn (secondFour u) q ≡ packetIn (imageOf u) q
-  whole = sent-whole u (inSecond fourBits) lt
+  not-hurt : (q : ℕ) → q < pairsOf u → packetIn (secondFour u) q ≡ packetIn (imageOf u) q
+  not-hurt = sent-whole u (inSecond fourBits) lt
 
   harmless-four : Harmless u (secondFour u) 2
   harmless-four =
       harmless u fourBits (lit< tt) (packetOf (u .indices)) eight three 2 four-to-11 (omega arith) 0 (omega arith)
-      (ap (right dataBits) (whole 0 (omega arith) ∙ image-packet (u .rate) (u .kind) (u .indices) (multiframesOf u) 0 (omega arith)) ∙ packetOf-good (u .indices) 0)
+      (ap (right dataBits) (not-hurt 0 (omega arith) ∙ image-packet (u .rate) (u .kind) (u .indices) (multiframesOf u) 0 (omega arith)) ∙ packetOf-good (u .indices) 0)
 
   none : (k : ℕ) → k < multiframesOf u → (k ≡ 1 → ⊥) → headerFlips (imageOf u) (secondFour u) k ≡ 0
   none = none-in-others u fourBits (lit< tt) (packetOf (u .indices))
@@ -292,7 +299,7 @@ module _ (u : Utterance) (eight : u .rate ≡ 0) (three : 3 ≤ multiframesOf u)
       few-of-one = omega (arith, none 0 (omega arith) (λ e. omega arith));
       few-of-two = omega (arith, none 2 (omega arith) (λ e. omega arith));
     };
-    none-bad = λ q h. zero-not-bad u (secondFour u) q (whole q h);
+    none-bad = λ q h. zero-not-bad u (secondFour u) q (not-hurt q h);
     four = flips-in-second u fourBits (lit< tt) (packetOf (u .indices)) (omega arith) ∙ four-flipped;
     note-is-10 = harmless-four .noted;
     given = harmless-four .given;
@@ -596,3 +603,126 @@ module _ (u : Utterance) (two : 2 ≤ multiframesOf u) (full : frameCount (u .in
 
 pub gone-24 : NoEnd says24
 gone-24 = no-end says24 (le-of-eq (sym two-multiframes)) (frames-24 ∙ ap (λ (m : ℕ). multiframeFrames * (m - 1)) (sym two-multiframes))
+
+-- ---- NEVER MISLED NEEDS THE SYNCS: of two multiframes the second is overwritten by inverse syncs. All other premises hold, and one multiframe
+-- less is counted
+abbrev pub inverses : ℕ → List ℕ
+inverses n = octetsOf (replicate n inverse)
+
+length-inverses : (n : ℕ) → length (inverses n) ≡ syncOctets * n
+length-inverses zero = refl
+length-inverses (suc n) = ap (λ (k : ℕ). suc (suc k)) (length-inverses n) ∙ omega arith
+
+no-places : (p n : ℕ) → placesOf p (replicate n inverse) ≡ []
+no-places p zero = refl
+no-places p (suc n) = no-places (p + syncOctets) n
+
+proper-inverses : (n : ℕ) → Proper (replicate n inverse)
+proper-inverses zero = tt
+proper-inverses (suc n) = proper-inverses n
+
+abbrev pub overwritten : Utterance → List ℕ
+overwritten u = image (u .rate) (u .kind) (u .indices) 1 ++ inverses 72
+
+pub record Miscounts (u : Utterance) (s : List ℕ) : Type 0 where
+  pub size : length s ≡ length (imageOf u)
+  pub headers : M.AllButOne u s
+  pub first-sync : syncIn s 0 ≡ syncIn (imageOf u) 0
+  pub second-sync : syncIn s 1 ≡ inverseFirst ∷ inverseSecond ∷ []
+  pub given : Summary
+  pub succeeds : zeroRead u s .answer ≡ Read given
+  pub count : given .multiframes ≡ 1
+
+module _ (u : Utterance) (twice : multiframesOf u ≡ 2) where
+  abbrev front : List ℕ
+  front = image (u .rate) (u .kind) (u .indices) 1
+
+  abbrev cutUp : List ℕ
+  cutUp = overwritten u
+
+  front-size : length front ≡ multiframeOctets
+  front-size = length-image (u .rate) (u .kind) (u .indices) 1
+
+  front-part : (a v : ℕ) → a + v ≤ multiframeOctets → part a v cutUp ≡ part a v front
+  front-part a v h = part-left front (inverses 72) a v (omega (arith, front-size))
+
+  front-octet : (i : ℕ) → i < 2 → getD front i 0 ≡ getD (syncFirst ∷ syncSecond ∷ []) i 0
+  front-octet i h = sym (getD-take 2 (drop 0 front) i 0 h) ∙ ap (λ (l : List ℕ). getD l i 0) (image-sync (u .rate) (u .kind) (u .indices) 1 0 (lit< tt))
+
+  -- it is cut into one multiframe
+  cut-once : cutting cutUp ≡ record { places = rowOf 1; ending = whole }
+  cut-once =
+      cut-chunks (multiframe front ∷ replicate 72 inverse) (front-size, front-octet 0 (lit< tt), front-octet 1 (lit< tt), proper-inverses 72)
+      (omega (arith, ap length (no-places multiframeOctets 72)))
+      ∙ ap (λ (l : List ℕ). record { places = 0 ∷ l; ending = whole }) (no-places multiframeOctets 72)
+
+  word-there : wordIn cutUp 0 ≡ wordIn (imageOf u) 0
+  word-there =
+      ap (λ (l : List ℕ). value (bits l)) (front-part syncOctets headerOctets (lit< tt)) ∙ image-word (u .rate) (u .kind) (u .indices) 1 0 (lit< tt)
+      ∙ sym (image-word (u .rate) (u .kind) (u .indices) (multiframesOf u) 0 (omega arith))
+
+  no-flip : headerFlips (imageOf u) cutUp 0 ≡ 0
+  no-flip = ap (λ (w : ℕ). ones (bitXor w (wordIn (imageOf u) 0))) word-there ∙ ap ones (xor-self (wordIn (imageOf u) 0)) ∙ none-flipped
+
+  packet-there : packetIn cutUp 0 ≡ packetOf (u .indices) 0
+  packet-there =
+      ap (λ (l : List ℕ). part 0 packetBits (bits l)) (front-part (syncOctets + headerOctets) streamOctets (lit< tt))
+      ∙ image-packet (u .rate) (u .kind) (u .indices) 1 0 (lit< tt)
+
+  settled-once : settling (readings cutUp (rowOf 1)) ≡ Set.Settled (sentCommon u)
+  settled-once =
+      ap settling (readings-are cutUp 1)
+      ∙ ap (λ (h : Header). settling (h ∷ [])) (header-read u cutUp 0 (omega arith) (omega (arith, no-flip)) ∙ ap (Codeword (sentMessage u 0)) no-flip)
+      ∙ only-clean (sentMessage u 0) ∙ ap Set.Settled (common-sent u 0)
+
+  good-once : Good (pairNotes cutUp (rowOf 1) zeroBook zeroThresholds)
+  good-once = good-pair cutUp 1 0 (lit< tt) (ap (right dataBits) packet-there ∙ packetOf-good (u .indices) 0)
+
+  read-once : zeroRead u cutUp .answer ≡ Read (summary cutUp (rowOf 1) (pairNotes cutUp (rowOf 1) zeroBook zeroThresholds) (sentCommon u))
+  unfolding reading
+  read-once =
+      let i = indexFor (multiframesOf u) in
+      let r = reportFor (multiframesOf u) in
+      let lent = lent-zeros (multiframesOf u) in
+      let pl : cutting cutUp .places ≡ rowOf 1 = ap (λ (w : Cutting). w .places) cut-once in
+      let ns = pairNotes cutUp (rowOf 1) zeroBook zeroThresholds in
+      let fit : Fitting 1 (badPairs ns) (pairCount (rowOf 1)) (length i) (length r) (settling (readings cutUp (rowOf 1))) (sentCommon u) =
+      record {
+        settles = settled-once;
+        usable = usable u;
+        roomy = record {
+          index-room = omega (arith, lent .index-room);
+          report-room = omega (arith, lent .report-room);
+          not-all = λ e. none-good ns (e ∙ sym (length-notes cutUp (rowOf 1) zeroBook zeroThresholds)) (good-once .pair) (good-once .within) (good-once .good);
+        };
+      } in
+      ap₂ (λ (ps : List ℕ) (v : Verdict). finished cutUp zeroBook zeroThresholds i r ps v .answer) pl
+      (accepting cutUp zeroBook zeroThresholds (length i) (length r) (sentCommon u)
+      record {
+        codebook-size = lent .codebook-size;
+        thresholds-size = lent .thresholds-size;
+        uncut = ap (λ (w : Cutting). w .ending) cut-once;
+        some = λ e. omega (arith, ap length pl);
+        fitting = subst
+            (λ (ps : List ℕ). Fitting (length ps) (badPairs (pairNotes cutUp ps zeroBook zeroThresholds)) (pairCount ps) (length i) (length r) (settling (readings cutUp ps)) (sentCommon u))
+            (sym pl) fit;
+      })
+
+  pub syncs-miscount : Miscounts u (overwritten u)
+  syncs-miscount = record {
+    size = length-append front (inverses 72) ∙ omega (arith, front-size, length-inverses 72, length-image (u .rate) (u .kind) (u .indices) (multiframesOf u));
+    headers = record {
+      two = omega arith;
+      but = 1;
+      others = λ k h n. let z : k ≡ 0 = omega arith in subst (λ (i : ℕ). headerFlips (imageOf u) cutUp i ≤ 3) (sym z) (omega (arith, no-flip));
+    };
+    first-sync = front-part 0 syncOctets (lit< tt) ∙ image-sync (u .rate) (u .kind) (u .indices) 1 0 (lit< tt)
+        ∙ sym (image-sync (u .rate) (u .kind) (u .indices) (multiframesOf u) 0 (omega arith));
+    second-sync = part-right front (inverses 72) multiframeOctets syncOctets front-size;
+    given = summary cutUp (rowOf 1) (pairNotes cutUp (rowOf 1) zeroBook zeroThresholds) (sentCommon u);
+    succeeds = read-once;
+    count = refl;
+  }
+
+pub miscounted-24 : Miscounts says24 (overwritten says24)
+miscounted-24 = syncs-miscount says24 two-multiframes
