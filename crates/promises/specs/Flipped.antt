@@ -40,7 +40,7 @@ use Rattle.settling.specs.declared.Settings.the-variants.{Settled}
 use Rattle.cutting.specs.Laws.{every-length}
 use Rattle.pairs.specs.Pairs.{pairCount, pairFails, pairOdd, framesOf, pairNotes}
 use Rattle.pairs.specs.Laws.{length-notes}
-use Rattle.judging.specs.Judging.{badPairs, noteBy, notes}
+use Rattle.judging.specs.Judging.{noteBy, notes}
 use Rattle.judging.specs.Laws.{Good, none-good, badBefore, note-at, consistent-is-good}
 use Rattle.reader.specs.Reading.{indexPart, reportPart, summary, Outcome, outcome, reading}
 use Rattle.reader.specs.ReadingLaws.{Usable}
@@ -314,7 +314,7 @@ module _ (u : Utterance) (eight : u .rate ≡ 0) where
       rw (
         eq-eqb (countOf (sentMessage (at11 u) k)) ((k + 1) % 16) (count-back 1 (u .kind) (k + 1) 0),
         ne-eqb (commonBits (sentMessage (at11 u) k)) (sentCommon u) (λ q.
-        let y : _≡_ {A = ℕ} 0 1 = sym (rate-sent u ∙ eight) ∙ ap rateOf (sym q) ∙ ap rateOf (common-sent (at11 u) k) ∙ rate-sent (at11 u) in omega arith),
+            let y : _≡_ {A = ℕ} 0 1 = sym (rate-sent u ∙ eight) ∙ ap rateOf (sym q) ∙ ap rateOf (common-sent (at11 u) k) ∙ rate-sent (at11 u) in omega arith),
       ) z
 
 -- ---- the headers as they are read

@@ -3,35 +3,33 @@
 use mathlib.Core.Path.{_≡_, refl, sym, ap, ap₂, _∙_, subst}
 use mathlib.Core.Bool.{Bool, true, false, xor}
 use mathlib.Core.List.{List, [], _∷_, _++_}
-use mathlib.Core.Logic.{_⊎_, inl, inr, ⊎-elim}
-use Prim.Native.Nat.{ℕ, zero, suc, _+_, _-_, _*_, _/_, _%_, _^_, _≤_, _<_}
+use mathlib.Core.Logic.{_⊎_, inl, inr}
+use Prim.Native.Nat.{ℕ, zero, suc, _+_, _-_, _*_, _%_, _^_, _≤_, _<_}
 use native.Mathlib.Nat.{le-of-eq}
 use native.Mathlib.Decide.{ℕ-discrete}
 use native.Mathlib.Omega.{arith}
-use lib.Bits.{bitXor, xor-self}
+use lib.Bits.{bitXor}
 use lib.Count.{ones}
-use lib.Dec.{eqb, lit<}
+use lib.Dec.{eqb, ltb, lit<}
 use lib.IntN.{ℤ}
 use lib.ListN.{length, getD, replicate, length-replicate}
-use borrow.Author.Tests.{eq-eqb, ne-eqb}
+use borrow.Author.Tests.{ne-eqb, lt-ltb, le-ltb}
 use Rattle.lists.specs.Tests.{when, by-test}
-use Rattle.lists.specs.Parts.{part, over}
+use Rattle.lists.specs.Parts.{over}
 use Rattle.lists.specs.Rows.{same-joined}
 use Rattle.layout.specs.Layout.{widths, frameIndices, dataBits, packetBits, multiframePairs, indexOctets, reportOctets, firstFrame, secondFrame, firstPair}
 use Rattle.bits.specs.Bits.{field, laid}
 use Rattle.crc.specs.Crc.{crc, after, right, flip, Damaged}
-use Rattle.crc.specs.Damage.{length-flip, flip-burst, flips-burst, flips-double}
+use Rattle.crc.specs.Damage.{length-flip, flips-burst, flips-double}
 use Rattle.packet.specs.Packet.{guarded, packet, row, packetOf}
 use Rattle.packet.specs.Laws.{length-packetOf, packetOf-good}
 use Rattle.cutting.specs.Laws.{every-length}
 use Rattle.header_code.specs.Code.{codeword}
 use Rattle.header.specs.Message.{message}
-use Rattle.header.specs.declared.Header.{Header}
 use Rattle.header.specs.declared.Header.the-variants.{Codeword, Lost}
 use Rattle.settling.specs.Settling.{readings, settling, headerNote}
 use Rattle.settling.specs.Laws.{two-settle}
 use Rattle.settling.specs.declared.Settings.the-variants.{Settled}
-use Rattle.pairs.specs.Pairs.{pairNotes}
 use Rattle.pairs.specs.Laws.{length-notes}
 use Rattle.reader.specs.Reading.{indexPart, reportPart, summary, Outcome, outcome, reading}
 use Rattle.reader.specs.declared.Summary.{Summary}
@@ -71,91 +69,92 @@ pub rate-48 : says48 .rate ≡ 0
 unfolding says48
 rate-48 = refl
 
--- ---- NEVER MISLED: bits b are flipped in the second header, and the packets are any bits whatsoever
-abbrev pub inSecond : ℕ → ℕ → ℕ
-inSecond b k = when (eqb k 1) b 0
+-- ---- NEVER MISLED: bits b are flipped in the second header, bits c in every other, and the packets are any bits whatsoever
+abbrev pub inSecond : ℕ → ℕ → ℕ → ℕ
+inSecond b c k = when (eqb k 1) b c
 
-pub in-second-lt : (b : ℕ) → b < 2 ^ 32 → (k : ℕ) → inSecond b k < 2 ^ 32
-in-second-lt b h k = by-test (λ (n : ℕ). n < 2 ^ 32) (eqb k 1) (λ t. h) (λ t. lit< tt)
+pub in-second-lt : (b c : ℕ) → b < 2 ^ 32 → c < 2 ^ 32 → (k : ℕ) → inSecond b c k < 2 ^ 32
+in-second-lt b c h l k = by-test (λ (n : ℕ). n < 2 ^ 32) (eqb k 1) (λ t. h) (λ t. l)
 
-module _ (u : Utterance) (b : ℕ) (small : b < 2 ^ 32) (f : ℕ → List Bool) where
-  pub flips-in-second : 1 < multiframesOf u → headerFlips (imageOf u) (flipped u (inSecond b) f) 1 ≡ ones b
-  flips-in-second h = flips-are u (inSecond b) f (in-second-lt b small) 1 h
+module _ (u : Utterance) (b c : ℕ) (lb : b < 2 ^ 32) (lc : c < 2 ^ 32) (f : ℕ → List Bool) where
+  pub flips-in-second : 1 < multiframesOf u → headerFlips (imageOf u) (flipped u (inSecond b c) f) 1 ≡ ones b
+  flips-in-second h = flips-are u (inSecond b c) f (in-second-lt b c lb lc) 1 h
 
-  pub none-in-others : (k : ℕ) → k < multiframesOf u → (k ≡ 1 → ⊥) → headerFlips (imageOf u) (flipped u (inSecond b) f) k ≡ 0
-  none-in-others k h n =
-      let e : inSecond b k ≡ 0 = rw (ne-eqb k 1 n) in
-      flips-are u (inSecond b) f (in-second-lt b small) k h ∙ ap ones e ∙ none-flipped
+  pub flips-in-others : (k : ℕ) → k < multiframesOf u → (k ≡ 1 → ⊥) → headerFlips (imageOf u) (flipped u (inSecond b c) f) k ≡ ones c
+  flips-in-others k h n =
+      let e : inSecond b c k ≡ c = rw (ne-eqb k 1 n) in
+      flips-are u (inSecond b c) f (in-second-lt b c lb lc) k h ∙ ap ones e
 
-  pub misled-met : 2 ≤ multiframesOf u → M.Premises u (flipped u (inSecond b) f)
-  misled-met two = record {
-    size = flipped-size u (inSecond b) f;
-    syncs = flipped-syncs u (inSecond b) f;
-    headers = inl (record { two = two; but = 1; others = λ k h n. omega (arith, none-in-others k h n) });
+  pub misled-met : ones c ≤ 3 → 2 ≤ multiframesOf u → M.Premises u (flipped u (inSecond b c) f)
+  misled-met few two = record {
+    size = flipped-size u (inSecond b c) f;
+    syncs = flipped-syncs u (inSecond b c) f;
+    headers = inl (record { two = two; but = 1; others = λ k h n. subst (λ (i : ℕ). i ≤ 3) (sym (flips-in-others k h n)) few });
   }
 
--- if that header is then read as one of 11 kHz, it is harmless alone: the reading succeeds with what was sent, and the header's note has 8 added
+-- the incident: the second header is that of 11 kHz, six flips from the one sent, every other has three, and the packets are garbage
+pub incident : (u : Utterance) (f : ℕ → List Bool) → 2 ≤ multiframesOf u
+    → M.Premises u (flipped u (inSecond rateBits 7) f) × (headerFlips (imageOf u) (flipped u (inSecond rateBits 7) f) 1 ≡ 6)
+incident u f two =
+    (misled-met u rateBits 7 (lit< tt) (lit< tt) f (le-of-eq three-flipped) two, flips-in-second u rateBits 7 (lit< tt) (lit< tt) f (omega arith) ∙ six-flipped)
+
+-- a second header that is read as one of 11 kHz is harmless alone: the reading succeeds with what was sent, and its note has 8 added
 pub record Harmless (u : Utterance) (s : List ℕ) (note : ℕ) : Type 0 where
   pub given : Summary
   pub succeeds : zeroRead u s .answer ≡ Read given
   pub sent : M.AsSent u s given
   pub noted : headerNoteIn (zeroRead u s .report) 1 ≡ note + 8
 
--- of three multiframes or more, with tables of zeros and one packet that is right
-module _ (u : Utterance) (b : ℕ) (small : b < 2 ^ 32) (f : ℕ → List Bool) (eight : u .rate ≡ 0) (three : 3 ≤ multiframesOf u)
-    (n : ℕ) (near : ones (bitXor b rateBits) ≡ n) (few : n ≤ 2) (q : ℕ) (within : q < pairsOf u) (whole : right dataBits (packetIn (flipped u (inSecond b) f) q) ≡ true) where
+-- of three multiframes or more, with at most two flips in the other headers, tables of zeros and one packet that is right
+module _ (u : Utterance) (b c : ℕ) (lb : b < 2 ^ 32) (lc : c < 2 ^ 32) (f : ℕ → List Bool) (eight : u .rate ≡ 0) (three : 3 ≤ multiframesOf u) (few : ones c ≤ 2)
+    (n : ℕ) (near : ones (bitXor b rateBits) ≡ n) (mended : n ≤ 2) (q : ℕ) (within : q < pairsOf u) (whole : right dataBits (packetIn (flipped u (inSecond b c) f) q) ≡ true) where
   abbrev s : List ℕ
-  s = flipped u (inSecond b) f
+  s = flipped u (inSecond b c) f
 
   abbrev m : ℕ
   m = multiframesOf u
 
-  none : (k : ℕ) → k < m → (k ≡ 1 → ⊥) → headerFlips (imageOf u) s k ≡ 0
-  none = none-in-others u b small f
+  others : (k : ℕ) → k < m → (k ≡ 1 → ⊥) → headerFlips (imageOf u) s k ≤ 2
+  others k h n = omega (arith, flips-in-others u b c lb lc f k h n)
 
   -- the first header and the third settle the settings
   settled : settling (readings s (rowOf m)) ≡ Settled (sentCommon u)
   settled =
-      two-settle (readings s (rowOf m)) (sentCommon u) 1 (others-sent u s 1 (λ k h n. omega (arith, none k h n))) 0 2 (lit< tt)
-      (has-common u s 0 (omega arith) (omega (arith, none 0 (omega arith) (λ e. omega arith))))
-      (has-common u s 2 (omega arith) (omega (arith, none 2 (omega arith) (λ e. omega arith))))
+      two-settle (readings s (rowOf m)) (sentCommon u) 1 (others-sent u s 1 (λ k h n. omega (arith, others k h n))) 0 2 (lit< tt)
+      (has-common u s 0 (omega arith) (others 0 (omega arith) (λ e. omega arith))) (has-common u s 2 (omega arith) (others 2 (omega arith) (λ e. omega arith)))
 
   -- the second is read as one of 11 kHz
   second : getD (readings s (rowOf m)) 1 Lost ≡ Codeword (sentMessage (at11 u) 1) n
   second =
-      let e = flips-at-11 u eight (inSecond b) f (in-second-lt b small) 1 (omega arith) ∙ near in
+      let e = flips-at-11 u eight (inSecond b c) f (in-second-lt b c lb lc) 1 (omega arith) ∙ near in
       header-at s m 1 (omega arith) ∙ header-read (at11 u) s 1 (omega arith) (omega arith) ∙ ap (Codeword (sentMessage (at11 u) 1)) e
 
   read-is : zeroRead u s
       ≡ outcome (Read (summary s (rowOf m) (zeroNotes u s) (sentCommon u))) (over (indexFor m) 0 (indexOctets * length (rowOf m)) (indexPart s (rowOf m) (zeroNotes u s)))
       (over (reportFor m) 0 (reportOctets * length (rowOf m)) (reportPart s (rowOf m) (zeroNotes u s) (sentCommon u)))
   read-is =
-      reads-settled u s (flipped-size u (inSecond b) f) (flipped-syncs u (inSecond b) f) zeroBook zeroThresholds (indexFor m) (reportFor m) (lent-zeros m) (sentCommon u)
+      reads-settled u s (flipped-size u (inSecond b c) f) (flipped-syncs u (inSecond b c) f) zeroBook zeroThresholds (indexFor m) (reportFor m) (lent-zeros m) (sentCommon u)
       settled (usable u) (good-pair s m q within whole)
 
-  pub harmless : Harmless u (flipped u (inSecond b) f) n
+  pub harmless : Harmless u (flipped u (inSecond b c) f) n
   harmless = record {
     given = summary s (rowOf m) (zeroNotes u s) (sentCommon u);
     succeeds = ap (λ (o : Outcome). o .answer) read-is;
-    sent = M.never-misled u s (misled-met u b small f (omega arith)) zeroBook zeroThresholds (indexFor m) (reportFor m) (summary s (rowOf m) (zeroNotes u s) (sentCommon u))
-        (ap (λ (o : Outcome). o .answer) read-is);
+    sent = M.never-misled u s (misled-met u b c lb lc f (omega arith) (omega arith)) zeroBook zeroThresholds (indexFor m) (reportFor m)
+        (summary s (rowOf m) (zeroNotes u s) (sentCommon u)) (ap (λ (o : Outcome). o .answer) read-is);
     noted = ap (λ (o : Outcome). headerNoteIn (o .report) 1) read-is
-        ∙ header-note-is s (rowOf m) (zeroNotes u s) (reportFor m) (sentCommon u) (reportOctets * length (rowOf m)) (length-notes s (rowOf m) zeroBook zeroThresholds) 1 (omega (arith, every-length 0 m))
+        ∙ header-note-is s (rowOf m) (zeroNotes u s) (reportFor m) (sentCommon u) (reportOctets * length (rowOf m)) (length-notes s (rowOf m) zeroBook zeroThresholds) 1
+        (omega (arith, every-length 0 m))
         ∙ ap (headerNote (sentCommon u) 1) second ∙ noted-11 u eight 1 n;
   }
 
--- the incident: the second header is that of 11 kHz, six flips from the one sent, and the packets are garbage
-pub incident : (u : Utterance) (f : ℕ → List Bool) → 2 ≤ multiframesOf u
-    → M.Premises u (flipped u (inSecond rateBits) f) × (headerFlips (imageOf u) (flipped u (inSecond rateBits) f) 1 ≡ 6)
-incident u f two = (misled-met u rateBits (lit< tt) f two, flips-in-second u rateBits (lit< tt) f (omega arith) ∙ six-flipped)
-
--- and with any bits for the first packet of 48 frames, and all others as they were sent, it is read as it was sent
-pub incident-48 : (p : List Bool) → length p ≡ packetBits → Harmless says48 (flipped says48 (inSecond rateBits) (butOne says48 0 p)) 0
+-- so the incident's header: 48 frames, two flips in each other header, any bits for the first packet, and all other packets as they were sent
+pub incident-48 : (p : List Bool) → length p ≡ packetBits → Harmless says48 (flipped says48 (inSecond rateBits 3) (butOne says48 0 p)) 0
 incident-48 p size =
     let f = butOne says48 0 p in
     let h : 1 < pairsOf says48 = omega (arith, three-multiframes) in
-    harmless says48 rateBits (lit< tt) f rate-48 (omega (arith, three-multiframes)) 0 none-flipped (omega arith) 1 h
-    (ap (right dataBits) (packets-are says48 (inSecond rateBits) f (in-second-lt rateBits (lit< tt)) (length-but-one says48 0 p size) 1 h ∙ elsewhere says48 0 p 1 (λ e. omega arith))
+    harmless says48 rateBits 3 (lit< tt) (lit< tt) f rate-48 (omega (arith, three-multiframes)) (le-of-eq two-flipped) 0 none-flipped (omega arith) 1 h
+    (ap (right dataBits) (packets-are says48 (inSecond rateBits 3) f (in-second-lt rateBits 3 (lit< tt) (lit< tt)) (length-but-one says48 0 p size) 1 h ∙ elsewhere says48 0 p 1 (λ e. omega arith))
     ∙ packetOf-good (says48 .indices) 1)
 
 -- an only header with up to five flips, and any packets
@@ -185,6 +184,24 @@ module _ (u : Utterance) (codebook thresholds : List ℤ) (index report : List �
 pub trusted-met : (u : Utterance) → Damage (multiframesOf u) (imageOf u) (imageOf u)
     × T.WithoutWarning (imageOf u) zeroBook zeroThresholds (indexFor (multiframesOf u)) (reportFor (multiframesOf u)) (spoken u)
 trusted-met u = (unharmed u, without-warning u zeroBook zeroThresholds (indexFor (multiframesOf u)) (reportFor (multiframesOf u)) (lent-zeros (multiframesOf u)))
+
+-- the premises of trusted-by-one alone leave more: one header has five flips and the others seven, and every pair is damaged
+abbrev pub fiveElse : ℕ → ℕ
+fiveElse k = when (eqb k 0) 31 127
+
+five-lt : (k : ℕ) → fiveElse k < 2 ^ 32
+five-lt k = by-test (λ (n : ℕ). n < 2 ^ 32) (eqb k 0) (λ t. lit< tt) (λ t. lit< tt)
+
+five-bits : (k : ℕ) → ones (fiveElse k) ≤ headerBits
+five-bits k = by-test (λ (n : ℕ). ones n ≤ headerBits) (eqb k 0) (λ t. omega (arith, five-flipped)) (λ t. omega (arith, seven-flipped))
+
+pub by-one-met : (u : Utterance) → T.Premises u (flipped u fiveElse (hit u (λ q. true)))
+by-one-met u = record {
+  damage = flipped-damage u fiveElse (hit u (λ q. true)) five-lt (length-hit u (λ q. true)) headerBits (λ k h. five-bits k) (λ q h. hit-fates u (λ q. true) q);
+  header = 0;
+  within = omega arith;
+  five = le-of-eq (flips-are u fiveElse (hit u (λ q. true)) five-lt 0 (omega arith) ∙ five-flipped);
+}
 
 -- ---- HEARD WHOLE, and names-the-damage wider: the first header has two flips, the second three and is lost, the others have one
 abbrev pub lostSecond : ℕ → ℕ
@@ -350,28 +367,31 @@ module _ (u : Utterance) (three : 3 ≤ multiframesOf u) where
 pub hurt-48 : Hurt says48
 hurt-48 = hurt says48 (le-of-eq (sym three-multiframes))
 
--- ---- LAST HEARD: of two multiframes or more, the first pair is damaged and every header has two flips
-abbrev pub firstHurt : Utterance → List ℕ
-firstHurt u = flipped u (λ k. 3) (hit u (λ q. eqb q 0))
+-- ---- LAST HEARD: of two multiframes or more every header has two flips, and every pair is damaged but those of the last multiframe
+abbrev pub earlier : Utterance → ℕ → Bool
+earlier u q = ltb q (firstPair (multiframesOf u - 1))
 
--- the pair is named, and yet speech and end are as sent
+abbrev pub earlierHurt : Utterance → List ℕ
+earlierHurt u = flipped u (λ k. 3) (hit u (earlier u))
+
+-- they are named, and yet speech and end are as sent
 pub record LastHeard (u : Utterance) : Type 0 where
-  pub named : pairNoteIn (zeroRead u (firstHurt u) .report) 0 ≡ 1
+  pub named : (q : ℕ) → q < firstPair (multiframesOf u - 1) → pairNoteIn (zeroRead u (earlierHurt u) .report) q ≡ 1
   pub given : Summary
-  pub succeeds : zeroRead u (firstHurt u) .answer ≡ Read given
+  pub succeeds : zeroRead u (earlierHurt u) .answer ≡ Read given
   pub speech : given .speech ≡ frameCount (u .indices)
   pub end : given .end ≡ 1
 
 module _ (u : Utterance) (two : 2 ≤ multiframesOf u) where
-  others-whole : (q : ℕ) → q < pairsOf u → (q ≡ 0 → ⊥) → packetIn (firstHurt u) q ≡ packetIn (imageOf u) q
-  others-whole q h n = untold-whole u (λ q. eqb q 0) (λ k. 3) (λ k. lit< tt) q h (ne-eqb q 0 n)
+  last-whole : (q : ℕ) → firstPair (multiframesOf u - 1) ≤ q → q < pairsOf u → packetIn (earlierHurt u) q ≡ packetIn (imageOf u) q
+  last-whole q l h = untold-whole u (earlier u) (λ k. 3) (λ k. lit< tt) q h (le-ltb q (firstPair (multiframesOf u - 1)) l)
 
-  flips : (k : ℕ) → k < multiframesOf u → headerFlips (imageOf u) (firstHurt u) k ≡ 2
-  flips k h = flips-are u (λ k. 3) (hit u (λ q. eqb q 0)) (λ k. lit< tt) k h ∙ two-flipped
+  flips : (k : ℕ) → k < multiframesOf u → headerFlips (imageOf u) (earlierHurt u) k ≡ 2
+  flips k h = flips-are u (λ k. 3) (hit u (earlier u)) (λ k. lit< tt) k h ∙ two-flipped
 
-  pub last-met : N.Wider u (firstHurt u) zeroBook zeroThresholds (indexFor (multiframesOf u)) (reportFor (multiframesOf u))
+  pub last-met : N.Wider u (earlierHurt u) zeroBook zeroThresholds (indexFor (multiframesOf u)) (reportFor (multiframesOf u))
   last-met = record {
-    damage = flipped-damage u (λ k. 3) (hit u (λ q. eqb q 0)) (λ k. lit< tt) (length-hit u (λ q. eqb q 0)) 3 (λ k h. omega (arith, two-flipped)) (λ q h. hit-fates u (λ q. eqb q 0) q);
+    damage = flipped-damage u (λ k. 3) (hit u (earlier u)) (λ k. lit< tt) (length-hit u (earlier u)) 3 (λ k h. omega (arith, two-flipped)) (λ q h. hit-fates u (earlier u) q);
     headers = inl (record {
       one = 0;
       two = 1;
@@ -380,21 +400,27 @@ module _ (u : Utterance) (two : 2 ≤ multiframesOf u) where
       few-of-one = le-of-eq (flips 0 (omega arith));
       few-of-two = le-of-eq (flips 1 (omega arith));
     });
-    pair = 1;
+    pair = firstPair (multiframesOf u - 1);
     within = omega arith;
-    not-bad = zero-not-bad u (firstHurt u) 1 (others-whole 1 (omega arith) (λ e. omega arith));
+    not-bad = zero-not-bad u (earlierHurt u) (firstPair (multiframesOf u - 1)) (last-whole (firstPair (multiframesOf u - 1)) (omega arith) (omega arith));
     lent = lent-zeros (multiframesOf u);
   }
 
-  pub last-unnamed : S.LastUnnamed u (firstHurt u) zeroBook zeroThresholds (indexFor (multiframesOf u)) (reportFor (multiframesOf u)) last-met
-  last-unnamed q l h = zero-unnamed u (firstHurt u) q (others-whole q h (λ e. omega arith)) h last-met
+  pub last-unnamed : S.LastUnnamed u (earlierHurt u) zeroBook zeroThresholds (indexFor (multiframesOf u)) (reportFor (multiframesOf u)) last-met
+  last-unnamed q l h = zero-unnamed u (earlierHurt u) q (last-whole q l h) h last-met
 
   pub last-is-heard : LastHeard u
   last-is-heard =
-      let x = N.names-wider u (firstHurt u) zeroBook zeroThresholds (indexFor (multiframesOf u)) (reportFor (multiframesOf u)) last-met in
-      let s = S.last-heard u (firstHurt u) zeroBook zeroThresholds (indexFor (multiframesOf u)) (reportFor (multiframesOf u)) last-met last-unnamed (x .given) (x .succeeds) in
-      let first = told-touched u (λ q. eqb q 0) (λ k. 3) (λ k. lit< tt) 0 (omega arith) refl in
-      record { named = x .names .damaged 0 (omega arith) .1 first; given = x .given; succeeds = x .succeeds; speech = s .0; end = s .1 }
+      let x = N.names-wider u (earlierHurt u) zeroBook zeroThresholds (indexFor (multiframesOf u)) (reportFor (multiframesOf u)) last-met in
+      let s = S.last-heard u (earlierHurt u) zeroBook zeroThresholds (indexFor (multiframesOf u)) (reportFor (multiframesOf u)) last-met last-unnamed (x .given) (x .succeeds) in
+      record {
+        named = λ q h.
+            x .names .damaged q (omega arith) .1 (told-touched u (earlier u) (λ k. 3) (λ k. lit< tt) q (omega arith) (lt-ltb q (firstPair (multiframesOf u - 1)) h));
+        given = x .given;
+        succeeds = x .succeeds;
+        speech = s .0;
+        end = s .1;
+      }
 
 pub last-24 : LastHeard says24
 last-24 = last-is-heard says24 (le-of-eq (sym two-multiframes))

@@ -3,8 +3,8 @@
 use mathlib.Core.Path.{_≡_, refl, sym, ap, ap₂, _∙_, subst}
 use mathlib.Core.Bool.{Bool, true, false}
 use mathlib.Core.List.{List, [], _∷_, _++_}
-use mathlib.Core.Logic.{_⊎_, inl, inr, ⊎-elim}
-use Prim.Native.Nat.{ℕ, zero, suc, _+_, _-_, _*_, _/_, _%_, _^_, _≤_, _<_}
+use mathlib.Core.Logic.{_⊎_, inl, inr}
+use Prim.Native.Nat.{ℕ, zero, suc, _+_, _-_, _*_, _^_, _≤_, _<_}
 use native.Mathlib.Nat.{le-of-eq}
 use native.Mathlib.Decide.{ℕ-discrete}
 use native.Mathlib.Omega.{arith}
@@ -52,7 +52,7 @@ use Rattle.writer.specs.Made.{syncIn, wordIn, packetIn}
 use Rattle.writer.specs.Image.{image-sync, image-word, image-packet, image-small, Nonzero, last-speaks, Utterance, multiframesOf, pairsOf, imageOf, is-accepted, whole-frames}
 use Rattle.demands.specs.Damage.{DamageUpTo, headerBits, headerFlips, sentMessage, header-read}
 use Rattle.demands.specs.Whole.{rowOf, Lent, headerNoteIn, pairNoteIn, all-zero-at, readings-are, refuses-16}
-use Rattle.demands.specs.Headers.{sentCommon, common-sent, TwoReadable, heardAs, heard-read, heard-lost, headers-read}
+use Rattle.demands.specs.Headers.{sentCommon, common-sent, TwoReadable, heardAs, headers-read}
 use Rattle.demands.specs.Received.{BadPair, touched-note}
 use Rattle.demands.specs.NamesTheDamage as N
 use Rattle.demands.specs.ReadsBack.{spoken, reads-image, reads-mended}
@@ -63,7 +63,7 @@ use Rattle.demands.specs.Needed.{eighth, saysEighth, Passes15, passes-15, halfw
 use Rattle.promises.specs.Misled as M
 use Rattle.promises.specs.Trusted as T
 use Rattle.promises.specs.Flipped.{flipped, flipped-size, flipped-syncs, flips-are, flipped-damage, sent-whole, sent-damage, at11, rateBits, none-flipped, two-flipped, three-flipped, six-flipped, word-11, seen-at-11, flips-at-11, hit, length-hit, hit-fates, told-touched, untold-whole, zeroRead, zeroNotes, right-good, good-pair, usable, zero-not-bad, zero-unnamed}
-use Rattle.promises.specs.Met.{says48, three-multiframes, rate-48, without-warning, inSecond, in-second-lt, flips-in-second, none-in-others, Harmless, harmless}
+use Rattle.promises.specs.Met.{says48, three-multiframes, rate-48, without-warning, inSecond, in-second-lt, flips-in-second, flips-in-others, Harmless, harmless}
 
 -- ---- NEVER MISLED: all premises hold but that on the flips in headers, not even a packet is damaged, and 8 kHz is read as 11 kHz
 pub record Misleads (u : Utterance) (s : List ℕ) (flips : ℕ) (codebook thresholds : List ℤ) (index report : List ℕ) : Type 0 where
@@ -271,26 +271,26 @@ pub record Misnotes (u : Utterance) (s : List ℕ) : Type 0 where
   pub sent : M.AsSent u s given
 
 abbrev pub secondFour : Utterance → List ℕ
-secondFour u = flipped u (inSecond fourBits) (packetOf (u .indices))
+secondFour u = flipped u (inSecond fourBits 0) (packetOf (u .indices))
 
 module _ (u : Utterance) (eight : u .rate ≡ 0) (three : 3 ≤ multiframesOf u) where
-  lt : (k : ℕ) → inSecond fourBits k < 2 ^ 32
-  lt = in-second-lt fourBits (lit< tt)
+  lt : (k : ℕ) → inSecond fourBits 0 k < 2 ^ 32
+  lt = in-second-lt fourBits 0 (lit< tt) (lit< tt)
 
   not-hurt : (q : ℕ) → q < pairsOf u → packetIn (secondFour u) q ≡ packetIn (imageOf u) q
-  not-hurt = sent-whole u (inSecond fourBits) lt
+  not-hurt = sent-whole u (inSecond fourBits 0) lt
 
   harmless-four : Harmless u (secondFour u) 2
   harmless-four =
-      harmless u fourBits (lit< tt) (packetOf (u .indices)) eight three 2 four-to-11 (omega arith) 0 (omega arith)
+      harmless u fourBits 0 (lit< tt) (lit< tt) (packetOf (u .indices)) eight three (omega (arith, none-flipped)) 2 four-to-11 (omega arith) 0 (omega arith)
       (ap (right dataBits) (not-hurt 0 (omega arith) ∙ image-packet (u .rate) (u .kind) (u .indices) (multiframesOf u) 0 (omega arith)) ∙ packetOf-good (u .indices) 0)
 
   none : (k : ℕ) → k < multiframesOf u → (k ≡ 1 → ⊥) → headerFlips (imageOf u) (secondFour u) k ≡ 0
-  none = none-in-others u fourBits (lit< tt) (packetOf (u .indices))
+  none k h n = flips-in-others u fourBits 0 (lit< tt) (lit< tt) (packetOf (u .indices)) k h n ∙ none-flipped
 
   pub four-misnotes : Misnotes u (secondFour u)
   four-misnotes = record {
-    damage = sent-damage u (inSecond fourBits) lt 4 (λ k h. by-test (λ (n : ℕ). ones n ≤ 4) (eqb k 1) (λ t. le-of-eq four-flipped) (λ t. omega (arith, none-flipped)));
+    damage = sent-damage u (inSecond fourBits 0) lt 4 (λ k h. by-test (λ (n : ℕ). ones n ≤ 4) (eqb k 1) (λ t. le-of-eq four-flipped) (λ t. omega (arith, none-flipped)));
     headers = record {
       one = 0;
       two = 2;
@@ -300,7 +300,7 @@ module _ (u : Utterance) (eight : u .rate ≡ 0) (three : 3 ≤ multiframesOf u)
       few-of-two = omega (arith, none 2 (omega arith) (λ e. omega arith));
     };
     none-bad = λ q h. zero-not-bad u (secondFour u) q (not-hurt q h);
-    four = flips-in-second u fourBits (lit< tt) (packetOf (u .indices)) (omega arith) ∙ four-flipped;
+    four = flips-in-second u fourBits 0 (lit< tt) (lit< tt) (packetOf (u .indices)) (omega arith) ∙ four-flipped;
     note-is-10 = harmless-four .noted;
     given = harmless-four .given;
     succeeds = harmless-four .succeeds;
