@@ -246,6 +246,10 @@ pub rate-24 : says24 .rate ≡ 0
 unfolding says24
 rate-24 = refl
 
+pub kind-24 : says24 .kind ≡ 0
+unfolding says24
+kind-24 = refl
+
 pub frames-24 : frameCount (says24 .indices) ≡ 24
 unfolding says24
 frames-24 = refl

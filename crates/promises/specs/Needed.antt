@@ -28,6 +28,7 @@ use Rattle.packet.specs.Laws.{getD-row, row-past, packetOf-good}
 use Rattle.cutting.specs.Cutting.{Cutting, whole, cutting, syncFirst, syncSecond, inverseFirst, inverseSecond}
 use Rattle.cutting.specs.Laws.{every-length, multiframe, inverse, octetsOf, placesOf, Proper, cut-chunks}
 use Rattle.header_code.specs.Code.{codeword}
+use Rattle.header.specs.Message.{message}
 use Rattle.header.specs.declared.Header.{Header}
 use Rattle.header.specs.declared.Header.the-variants.{Codeword, Lost}
 use Rattle.settling.specs.Settling.{readings, settling, firstAgreeing, onlyOne}
@@ -50,7 +51,7 @@ use Rattle.writer.specs.Writing.{frameCount, needed, image}
 use Rattle.writer.specs.Laws.{few-multiframes, length-image}
 use Rattle.writer.specs.Made.{syncIn, wordIn, packetIn}
 use Rattle.writer.specs.Image.{image-sync, image-word, image-packet, image-small, Nonzero, last-speaks, Utterance, multiframesOf, pairsOf, imageOf, is-accepted, whole-frames}
-use Rattle.demands.specs.Damage.{DamageUpTo, headerBits, headerFlips, sentMessage, header-read}
+use Rattle.demands.specs.Damage.{DamageUpTo, headerBits, loosened, headerFlips, sentMessage, header-read}
 use Rattle.demands.specs.Whole.{rowOf, Lent, headerNoteIn, pairNoteIn, all-zero-at, readings-are, refuses-16}
 use Rattle.demands.specs.Headers.{sentCommon, common-sent, TwoReadable, heardAs, headers-read}
 use Rattle.demands.specs.Received.{BadPair, touched-note}
@@ -58,12 +59,12 @@ use Rattle.demands.specs.NamesTheDamage as N
 use Rattle.demands.specs.ReadsBack.{spoken, reads-image, reads-mended}
 use Rattle.demands.specs.ToldApart.{Alike}
 use Rattle.demands.specs.Instances.{lone, says1}
-use Rattle.demands.specs.Met.{zeroBook, zeroThresholds, indexFor, reportFor, lent-zeros, says24, two-multiframes, rate-24, frames-24}
+use Rattle.demands.specs.Met.{zeroBook, zeroThresholds, indexFor, reportFor, lent-zeros, says24, two-multiframes, rate-24, kind-24, frames-24}
 use Rattle.demands.specs.Needed.{eighth, saysEighth, Passes15, passes-15, halfway}
 use Rattle.promises.specs.Misled as M
 use Rattle.promises.specs.Trusted as T
 use Rattle.promises.specs.Flipped.{flipped, flipped-size, flipped-syncs, flips-are, flipped-damage, sent-whole, sent-damage, at11, rateBits, none-flipped, two-flipped, three-flipped, six-flipped, word-11, seen-at-11, flips-at-11, hit, length-hit, hit-fates, told-touched, untold-whole, zeroRead, zeroNotes, right-good, good-pair, usable, zero-not-bad, zero-unnamed}
-use Rattle.promises.specs.Met.{says48, three-multiframes, rate-48, without-warning, inSecond, in-second-lt, flips-in-second, flips-in-others, Harmless, harmless}
+use Rattle.promises.specs.Met.{says48, three-multiframes, rate-48, without-warning, lostOne, heard-met, none-named, heard, inSecond, in-second-lt, flips-in-second, flips-in-others, Harmless, harmless}
 
 -- ---- NEVER MISLED: all premises hold but that on the flips in headers, not even a packet is damaged, and 8 kHz is read as 11 kHz
 pub record Misleads (u : Utterance) (s : List ℕ) (flips : ℕ) (codebook thresholds : List ℤ) (index report : List ℕ) : Type 0 where
@@ -159,6 +160,31 @@ two-of-four =
 pub one-of-six : Misleads says1 (imageOf (at11 says1)) 6 zeroBook zeroThresholds (indexFor 1) (reportFor 1)
 one-of-six = six-mislead says1 refl zeroBook zeroThresholds (indexFor 1) (reportFor 1) (lent-zeros 1)
 
+-- NEVER MISLED NEEDS THE LENGTH: the image of a longer utterance with the same settings. All other premises hold, and it has more multiframes
+pub record Lengthens (u v : Utterance) (codebook thresholds : List ℤ) (index report : List ℕ) : Type 0 where
+  pub syncs : (k : ℕ) → k < multiframesOf u → syncIn (imageOf v) k ≡ syncIn (imageOf u) k
+  pub each-header : (k : ℕ) → k < multiframesOf u → headerFlips (imageOf u) (imageOf v) k ≡ 0
+  pub succeeds : reading (imageOf v) codebook thresholds index report .answer ≡ Read (spoken v)
+  pub misled : M.AsSent u (imageOf v) (spoken v) → ⊥
+
+module _ (u v : Utterance) (rates : u .rate ≡ v .rate) (kinds : u .kind ≡ v .kind) (longer : multiframesOf u < multiframesOf v) (codebook thresholds : List ℤ) (index report : List ℕ)
+    (lent : Lent (multiframesOf v) codebook thresholds index report) where
+  pub length-misleads : Lengthens u v codebook thresholds index report
+  length-misleads = record {
+    syncs = λ k h. image-sync (v .rate) (v .kind) (v .indices) (multiframesOf v) k (omega arith) ∙ sym (image-sync (u .rate) (u .kind) (u .indices) (multiframesOf u) k h);
+    each-header = λ k h.
+        ap₂ (λ (a b : ℕ). ones (bitXor a b)) (image-word (v .rate) (v .kind) (v .indices) (multiframesOf v) k (omega arith))
+        (image-word (u .rate) (u .kind) (u .indices) (multiframesOf u) k h ∙ ap₂ (λ (a b : ℕ). codeword (message a b (k + 1) 0)) rates kinds)
+        ∙ ap ones (xor-self (codeword (sentMessage v k))) ∙ none-flipped;
+    succeeds = ap (λ (o : Outcome). o .answer) (reads-image v codebook thresholds index report lent);
+    misled = λ x. let e = x .multiframes in omega arith;
+  }
+
+pub longer-24 : Lengthens says1 says24 zeroBook zeroThresholds (indexFor (multiframesOf says24)) (reportFor (multiframesOf says24))
+longer-24 =
+    length-misleads says1 says24 (sym rate-24) (sym kind-24) (omega (arith, two-multiframes)) zeroBook zeroThresholds (indexFor (multiframesOf says24)) (reportFor (multiframesOf says24))
+    (lent-zeros (multiframesOf says24))
+
 -- ---- TRUSTED: read without a warning, and not of the image as written
 pub record Mistrusted (u : Utterance) (s : List ℕ) (given : Summary) : Type 0 where
   pub warned-of-nothing : T.WithoutWarning s zeroBook zeroThresholds (indexFor (multiframesOf u)) (reportFor (multiframesOf u)) given
@@ -194,6 +220,29 @@ fifteen-mistrusted = (
         (sym (image-packet 0 0 eighth 1 0 (lit< tt)) ∙ ap (λ (s : List ℕ). packetIn s 0) (w .image) ∙ image-packet 0 0 (lone 1) 1 0 (lit< tt));
   },
 )
+
+-- with the header notes not looked at: no pair is damaged, all pair notes are 0, and mended and lost headers are not those written
+pub record Unlooked (u : Utterance) : Type 0 where
+  pub premises : T.Premises u (lostOne u)
+  pub succeeds : zeroRead u (lostOne u) .answer ≡ Read (spoken u)
+  pub pair-notes : (q : ℕ) → q < pairsOf u → pairNoteIn (zeroRead u (lostOne u) .report) q ≡ 0
+  pub not-written : T.AsWritten u (lostOne u) zeroBook zeroThresholds (indexFor (multiframesOf u)) (reportFor (multiframesOf u)) (spoken u) → ⊥
+
+pub headers-unlooked : (u : Utterance) → 3 ≤ multiframesOf u → Unlooked u
+headers-unlooked u three =
+    let m = multiframesOf u in
+    let wider = heard-met u three zeroBook zeroThresholds (indexFor m) (reportFor m) (lent-zeros m) in
+    let note = heard u three zeroBook zeroThresholds (indexFor m) (reportFor m) (lent-zeros m) in
+    let flips = N.names-wider u (lostOne u) zeroBook zeroThresholds (indexFor m) (reportFor m) wider .names .flips 0 (omega arith) in
+    record {
+      premises = record { damage = loosened (lit< tt) (wider .damage); header = 0; within = omega arith; five = let l = wider .damage .headers 0 (omega arith) in omega arith };
+      succeeds = note .succeeds;
+      pair-notes = none-named u three zeroBook zeroThresholds (indexFor m) (reportFor m) (lent-zeros m);
+      not-written = λ w.
+          let z : _≡_ {A = ℕ} 2 0 =
+          sym (sym flips ∙ note .first) ∙ ap (λ (s : List ℕ). headerFlips (imageOf u) s 0) (w .image) ∙ ap ones (xor-self (wordIn (imageOf u) 0)) ∙ none-flipped in
+          omega arith;
+    }
 
 -- ---- NAMES THE DAMAGE WIDER NEEDS TWO READABLE HEADERS: of two multiframes, one header has two flips and the other three, and no pair is
 -- damaged. All other premises hold, and the reading is refused with 16, both buffers as they came
