@@ -93,10 +93,20 @@ module _ (u : Utterance) (b c : ℕ) (lb : b < 2 ^ 32) (lc : c < 2 ^ 32) (f : �
   }
 
 -- the incident: the second header is that of 11 kHz, six flips from the one sent, every other has three, and the packets are garbage
-pub incident : (u : Utterance) (f : ℕ → List Bool) → 2 ≤ multiframesOf u
-    → M.Premises u (flipped u (inSecond rateBits 7) f) × (headerFlips (imageOf u) (flipped u (inSecond rateBits 7) f) 1 ≡ 6)
-incident u f two =
-    (misled-met u rateBits 7 (lit< tt) (lit< tt) f (le-of-eq three-flipped) two, flips-in-second u rateBits 7 (lit< tt) (lit< tt) f (omega arith) ∙ six-flipped)
+abbrev pub garbled : Utterance → (ℕ → List Bool) → List ℕ
+garbled u f = flipped u (inSecond rateBits 7) f
+
+pub record Incident (u : Utterance) (f : ℕ → List Bool) : Type 0 where
+  pub premises : M.Premises u (garbled u f)
+  pub second : headerFlips (imageOf u) (garbled u f) 1 ≡ 6
+  pub others : (k : ℕ) → k < multiframesOf u → (k ≡ 1 → ⊥) → headerFlips (imageOf u) (garbled u f) k ≡ 3
+
+pub incident : (u : Utterance) (f : ℕ → List Bool) → 2 ≤ multiframesOf u → Incident u f
+incident u f two = record {
+  premises = misled-met u rateBits 7 (lit< tt) (lit< tt) f (le-of-eq three-flipped) two;
+  second = flips-in-second u rateBits 7 (lit< tt) (lit< tt) f (omega arith) ∙ six-flipped;
+  others = λ k h n. flips-in-others u rateBits 7 (lit< tt) (lit< tt) f k h n ∙ three-flipped;
+}
 
 -- a second header that is read as one of 11 kHz is harmless alone: the reading succeeds with what was sent, and its note has 8 added
 pub record Harmless (u : Utterance) (s : List ℕ) (note : ℕ) : Type 0 where
@@ -166,6 +176,7 @@ module _ (u : Utterance) (single : multiframesOf u ≡ 1) (e : ℕ) (small : e <
     headers = inr (record { single = single; five = subst (λ (n : ℕ). n ≤ 5) (sym (flips-are u (λ k. e) f (λ k. small) 0 (omega arith))) five });
   }
 
+-- so five, of one frame. A header that is one to five flips from the one sent is no codeword, so such a reading is refused
 pub only-five : (f : ℕ → List Bool) → M.Premises says1 (flipped says1 (λ k. 31) f) × (headerFlips (imageOf says1) (flipped says1 (λ k. 31) f) 0 ≡ 5)
 only-five f = (only-met says1 refl 31 (lit< tt) f (le-of-eq five-flipped), flips-are says1 (λ k. 31) f (λ k. lit< tt) 0 (lit< tt) ∙ five-flipped)
 
@@ -181,6 +192,7 @@ module _ (u : Utterance) (codebook thresholds : List ℤ) (index report : List �
             ap (λ (o : Outcome). getD (o .report) i 0) r ∙ front-at report (replicate n 0) n i (subst (λ (k : ℕ). i < k) (sym (length-replicate n 0)) h) ∙ no-more n i;
       }
 
+-- both premises, with tables of zeros
 pub trusted-met : (u : Utterance) → Damage (multiframesOf u) (imageOf u) (imageOf u)
     × T.WithoutWarning (imageOf u) zeroBook zeroThresholds (indexFor (multiframesOf u)) (reportFor (multiframesOf u)) (spoken u)
 trusted-met u = (unharmed u, without-warning u zeroBook zeroThresholds (indexFor (multiframesOf u)) (reportFor (multiframesOf u)) (lent-zeros (multiframesOf u)))
@@ -283,11 +295,11 @@ module _ (u : Utterance) (three : 3 ≤ multiframesOf u) (codebook thresholds : 
         third = note 2 (omega arith) ∙ flips 2 (omega arith) ∙ one-flipped;
       }
 
+-- so of 48 frames
 pub heard-48 : Heard says48 zeroBook zeroThresholds (indexFor (multiframesOf says48)) (reportFor (multiframesOf says48))
 heard-48 = heard says48 (le-of-eq (sym three-multiframes)) zeroBook zeroThresholds (indexFor (multiframesOf says48)) (reportFor (multiframesOf says48)) (lent-zeros (multiframesOf says48))
 
--- ---- NAMES THE DAMAGE WIDER, with the same headers, a burst in the first packet of every multiframe, and two flips at demand 3's example of a
--- distance in the second
+-- ---- NAMES THE DAMAGE WIDER: the same headers, a burst in the first packet of every multiframe, and two flips at distance 14 in the second
 module _ (u : Utterance) (q : ℕ) where
   abbrev burst : List Bool
   burst = flip (flip (packetOf (u .indices) q) 0) 2
@@ -364,6 +376,7 @@ module _ (u : Utterance) (three : 3 ≤ multiframesOf u) where
         third = zero-unnamed u (allHurt u) 2 third-whole (omega arith) wider-met;
       }
 
+-- so of 48 frames
 pub hurt-48 : Hurt says48
 hurt-48 = hurt says48 (le-of-eq (sym three-multiframes))
 
@@ -422,11 +435,13 @@ module _ (u : Utterance) (two : 2 ≤ multiframesOf u) where
         end = s .1;
       }
 
+-- so of 24 frames
 pub last-24 : LastHeard says24
 last-24 = last-is-heard says24 (le-of-eq (sym two-multiframes))
 
 -- ---- TOLD APART BY ONE HEADER: two utterances with the same settings that differ in their first pair alone, and a packet that is a damaged one
--- of either. The first header has two flips, and every other seven
+-- of either. The first header has two flips, and every other seven. With the same settings both images have the same header, so the flips in it
+-- add up to four here and never to five
 abbrev pub farOthers : ℕ → ℕ
 farOthers k = when (eqb k 0) 3 127
 

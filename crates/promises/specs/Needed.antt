@@ -6,7 +6,7 @@ use mathlib.Core.List.{List, [], _∷_, _++_}
 use mathlib.Core.Logic.{_⊎_, inl, inr}
 use Prim.Native.Nat.{ℕ, zero, suc, _+_, _-_, _*_, _^_, _≤_, _<_}
 use native.Mathlib.Nat.{le-of-eq}
-use native.Mathlib.Decide.{ℕ-discrete}
+use native.Mathlib.Decide.{ℕ-discrete, decLt}
 use native.Mathlib.Omega.{arith}
 use lib.Bits.{bitXor, xor-comm, xor-self}
 use lib.Count.{ones, onesIn}
@@ -66,7 +66,7 @@ use Rattle.promises.specs.Trusted as T
 use Rattle.promises.specs.Flipped.{flipped, flipped-size, flipped-syncs, flips-are, flipped-damage, sent-whole, sent-damage, at11, rateBits, none-flipped, two-flipped, three-flipped, six-flipped, word-11, seen-at-11, flips-at-11, hit, length-hit, hit-fates, told-touched, untold-whole, zeroRead, zeroNotes, right-good, good-pair, usable, zero-not-bad, zero-unnamed}
 use Rattle.promises.specs.Met.{says48, three-multiframes, rate-48, without-warning, lostOne, heard-met, none-named, heard, inSecond, in-second-lt, flips-in-second, flips-in-others, Harmless, harmless}
 
--- ---- NEVER MISLED: all premises hold but that on the flips in headers, not even a packet is damaged, and 8 kHz is read as 11 kHz
+-- ---- NEVER MISLED NEEDS ITS LIMITS ON FLIPS: all premises hold but that on headers, not even a packet is damaged, and 8 kHz is read as 11 kHz
 pub record Misleads (u : Utterance) (s : List ℕ) (flips : ℕ) (codebook thresholds : List ℤ) (index report : List ℕ) : Type 0 where
   pub size : length s ≡ length (imageOf u)
   pub syncs : (k : ℕ) → k < multiframesOf u → syncIn s k ≡ syncIn (imageOf u) k
@@ -76,7 +76,7 @@ pub record Misleads (u : Utterance) (s : List ℕ) (flips : ℕ) (codebook thres
   pub succeeds : reading s codebook thresholds index report .answer ≡ Read (spoken (at11 u))
   pub misled : M.AsSent u s (spoken (at11 u)) → ⊥
 
--- two headers of four flips: each is two flips from that of 11 kHz
+-- four of the six bits in which the two rates differ: so two are left to 11 kHz
 abbrev pub fourBits : ℕ
 fourBits = 0x11010001
 
@@ -105,7 +105,7 @@ module _ (u : Utterance) (eight : u .rate ≡ 0) where
         ∙ ap (λ (o : Outcome). o .answer)
         (reads-mended (at11 u) (flipped (at11 u) e (packetOf (u .indices))) (sent-damage (at11 u) e lt 2 (λ k h. le-of-eq four-to-11)) (sent-whole (at11 u) e lt) (inl two) codebook thresholds index report lent)
 
-    -- two multiframes or more, and each header four flips from the one sent
+    -- HEADERS OF FOUR FLIPS MISLEAD: two multiframes or more
     pub four-mislead : 2 ≤ multiframesOf u → Misleads u (fourOff u) 4 codebook thresholds index report
     four-mislead two =
         let size = flipped-size u (λ k. fourBits) (packetOf (u .indices)) in
@@ -122,7 +122,6 @@ module _ (u : Utterance) (eight : u .rate ≡ 0) where
           misled = not-sent (fourOff u);
         }
 
-    -- the image of 11 kHz is six flips from that of 8 kHz in each header, and nothing else
     six-read : reading (imageOf (at11 u)) codebook thresholds index report .answer ≡ Read (spoken (at11 u))
     six-read = ap (λ (o : Outcome). o .answer) (reads-image (at11 u) codebook thresholds index report lent)
 
@@ -133,6 +132,7 @@ module _ (u : Utterance) (eight : u .rate ≡ 0) where
         (image-word (u .rate) (u .kind) (u .indices) (multiframesOf u) k h)
         ∙ ap ones (ap (λ (x : ℕ). bitXor x a) (xor-comm a rateBits) ∙ xor-twice rateBits a) ∙ six-flipped
 
+    -- HEADERS OF SIX FLIPS MISLEAD: the image of 11 kHz itself, six flips from that of 8 kHz in each header and else the same
     pub six-mislead : Misleads u (imageOf (at11 u)) 6 codebook thresholds index report
     six-mislead =
         let m = multiframesOf u in
@@ -152,45 +152,54 @@ module _ (u : Utterance) (eight : u .rate ≡ 0) where
           misled = not-sent (imageOf (at11 u));
         }
 
--- so of exactly two multiframes, and of an only one
+-- so two headers of four flips do, of two multiframes
 pub two-of-four : Misleads says24 (fourOff says24) 4 zeroBook zeroThresholds (indexFor (multiframesOf says24)) (reportFor (multiframesOf says24))
 two-of-four =
     four-mislead says24 rate-24 zeroBook zeroThresholds (indexFor (multiframesOf says24)) (reportFor (multiframesOf says24)) (lent-zeros (multiframesOf says24)) (le-of-eq (sym two-multiframes))
 
+-- and an only header of six
 pub one-of-six : Misleads says1 (imageOf (at11 says1)) 6 zeroBook zeroThresholds (indexFor 1) (reportFor 1)
 one-of-six = six-mislead says1 refl zeroBook zeroThresholds (indexFor 1) (reportFor 1) (lent-zeros 1)
 
--- NEVER MISLED NEEDS THE LENGTH: the image of a longer utterance with the same settings. All other premises hold, and it has more multiframes
+-- ---- NEVER MISLED NEEDS THE LENGTH: the image of a longer utterance with the same settings. All other premises hold, and it has more multiframes
 pub record Lengthens (u v : Utterance) (codebook thresholds : List ℤ) (index report : List ℕ) : Type 0 where
   pub syncs : (k : ℕ) → k < multiframesOf u → syncIn (imageOf v) k ≡ syncIn (imageOf u) k
-  pub each-header : (k : ℕ) → k < multiframesOf u → headerFlips (imageOf u) (imageOf v) k ≡ 0
+  pub headers : M.AllButOne u (imageOf v) ⊎ M.OnlyFive u (imageOf v)
   pub succeeds : reading (imageOf v) codebook thresholds index report .answer ≡ Read (spoken v)
   pub misled : M.AsSent u (imageOf v) (spoken v) → ⊥
 
 module _ (u v : Utterance) (rates : u .rate ≡ v .rate) (kinds : u .kind ≡ v .kind) (longer : multiframesOf u < multiframesOf v) (codebook thresholds : List ℤ) (index report : List ℕ)
     (lent : Lent (multiframesOf v) codebook thresholds index report) where
+  same-headers : (k : ℕ) → k < multiframesOf u → headerFlips (imageOf u) (imageOf v) k ≡ 0
+  same-headers k h =
+      ap₂ (λ (a b : ℕ). ones (bitXor a b)) (image-word (v .rate) (v .kind) (v .indices) (multiframesOf v) k (omega arith))
+      (image-word (u .rate) (u .kind) (u .indices) (multiframesOf u) k h ∙ ap₂ (λ (a b : ℕ). codeword (message a b (k + 1) 0)) rates kinds)
+      ∙ ap ones (xor-self (codeword (sentMessage v k))) ∙ none-flipped
+
+  near-headers : Dec (multiframesOf u < 2) → M.AllButOne u (imageOf v) ⊎ M.OnlyFive u (imageOf v)
+  near-headers (yes l) = inr (record { single = omega arith; five = omega (arith, same-headers 0 (omega arith)) })
+  near-headers (no n) = inl (record { two = omega arith; but = 0; others = λ k h d. omega (arith, same-headers k h) })
+
   pub length-misleads : Lengthens u v codebook thresholds index report
   length-misleads = record {
     syncs = λ k h. image-sync (v .rate) (v .kind) (v .indices) (multiframesOf v) k (omega arith) ∙ sym (image-sync (u .rate) (u .kind) (u .indices) (multiframesOf u) k h);
-    each-header = λ k h.
-        ap₂ (λ (a b : ℕ). ones (bitXor a b)) (image-word (v .rate) (v .kind) (v .indices) (multiframesOf v) k (omega arith))
-        (image-word (u .rate) (u .kind) (u .indices) (multiframesOf u) k h ∙ ap₂ (λ (a b : ℕ). codeword (message a b (k + 1) 0)) rates kinds)
-        ∙ ap ones (xor-self (codeword (sentMessage v k))) ∙ none-flipped;
+    headers = near-headers (decLt (multiframesOf u) 2);
     succeeds = ap (λ (o : Outcome). o .answer) (reads-image v codebook thresholds index report lent);
     misled = λ x. let e = x .multiframes in omega arith;
   }
 
+-- so one multiframe is taken for two
 pub longer-24 : Lengthens says1 says24 zeroBook zeroThresholds (indexFor (multiframesOf says24)) (reportFor (multiframesOf says24))
 longer-24 =
     length-misleads says1 says24 (sym rate-24) (sym kind-24) (omega (arith, two-multiframes)) zeroBook zeroThresholds (indexFor (multiframesOf says24)) (reportFor (multiframesOf says24))
     (lent-zeros (multiframesOf says24))
 
--- ---- TRUSTED: read without a warning, and not of the image as written
+-- ---- TRUSTED NEEDS ITS LIMITS: read without a warning, and not of the image as written
 pub record Mistrusted (u : Utterance) (s : List ℕ) (given : Summary) : Type 0 where
   pub warned-of-nothing : T.WithoutWarning s zeroBook zeroThresholds (indexFor (multiframesOf u)) (reportFor (multiframesOf u)) given
   pub not-written : T.AsWritten u s zeroBook zeroThresholds (indexFor (multiframesOf u)) (reportFor (multiframesOf u)) given → ⊥
 
--- with six flips in each header, and no other damage: five in one of them are not too many
+-- FIVE: with six flips in each header, and no other damage
 pub six-mistrusted : (u : Utterance) → u .rate ≡ 0
     → DamageUpTo 6 (multiframesOf u) (imageOf u) (imageOf (at11 u)) × Mistrusted u (imageOf (at11 u)) (spoken (at11 u))
 six-mistrusted u eight =
@@ -209,7 +218,7 @@ six-mistrusted u eight =
       },
     )
 
--- with two flips at distance 15 in one packet, and no other damage
+-- DEMAND 3'S DAMAGE TO PAIRS: with two flips at distance 15 in one packet, and no other damage
 pub fifteen-mistrusted : Passes15 × Mistrusted says1 (imageOf saysEighth) (spoken saysEighth)
 fifteen-mistrusted = (
   passes-15,
@@ -221,7 +230,7 @@ fifteen-mistrusted = (
   },
 )
 
--- with the header notes not looked at: no pair is damaged, all pair notes are 0, and mended and lost headers are not those written
+-- THE HEADER NOTES: no pair is damaged and all pair notes are 0, but headers are mended or lost and so not as written
 pub record Unlooked (u : Utterance) : Type 0 where
   pub premises : T.Premises u (lostOne u)
   pub succeeds : zeroRead u (lostOne u) .answer ≡ Read (spoken u)
@@ -264,6 +273,7 @@ pub record Unsettles (u : Utterance) (s : List ℕ) : Type 0 where
   pub second : headerFlips (imageOf u) s 1 ≡ 3
   pub none-bad : (q : ℕ) → q < pairsOf u → BadPair u s zeroBook zeroThresholds q → ⊥
   pub refused : zeroRead u s ≡ outcome (Refused Unsettled) (indexFor (multiframesOf u)) (reportFor (multiframesOf u))
+  pub not-named : N.Named u s zeroBook zeroThresholds (indexFor (multiframesOf u)) (reportFor (multiframesOf u)) → ⊥
 
 one-settles-nothing : (m : ℕ) → settling (Codeword m 2 ∷ Lost ∷ []) ≡ Set.Unsettled
 unfolding settling firstAgreeing onlyOne
@@ -294,21 +304,29 @@ module _ (u : Utterance) (two : multiframesOf u ≡ 2) where
       ∙ ap (λ (n : ℕ). settling (each (λ k. heardAs (sentMessage u k) (headerFlips (imageOf u) s k)) n)) two
       ∙ ap₂ (λ (a b : Header). settling (a ∷ b ∷ [])) two-heard three-heard ∙ one-settles-nothing (sentMessage u 0)
 
+  refused : zeroRead u s ≡ outcome (Refused Unsettled) (indexFor m) (reportFor m)
+  refused =
+      refuses-16 s m (few-multiframes (u .rate) (u .kind) (u .indices) (is-accepted u .sizes)) (damaged .size ∙ length-image (u .rate) (u .kind) (u .indices) m)
+      (λ k h. damaged .syncs k h ∙ image-sync (u .rate) (u .kind) (u .indices) m k h) zeroBook zeroThresholds (indexFor m) (reportFor m) (omega arith) (lent-zeros m) unsettled
+
   pub one-readable-unsettles : Unsettles u (otherLost u)
   one-readable-unsettles = record {
     damage = damaged;
     first = flips 0 (omega arith) ∙ two-flipped;
     second = flips 1 (omega arith) ∙ three-flipped;
     none-bad = λ q h. zero-not-bad u s q (sent-whole u oneReadable one-lt q h);
-    refused = refuses-16 s m (few-multiframes (u .rate) (u .kind) (u .indices) (is-accepted u .sizes)) (damaged .size ∙ length-image (u .rate) (u .kind) (u .indices) m)
-        (λ k h. damaged .syncs k h ∙ image-sync (u .rate) (u .kind) (u .indices) m k h) zeroBook zeroThresholds (indexFor m) (reportFor m) (omega arith) (lent-zeros m) unsettled;
+    refused = refused;
+    not-named = λ x. not-read (x .given) (sym (ap (λ (o : Outcome). o .answer) refused) ∙ x .succeeds);
   }
+    where
+      not-read : (g : Summary) → Refused Unsettled ≡ Read g → ⊥
+      not-read g e = let z : _≡_ {A = ℕ} 0 1 = cc in omega arith
 
 pub unsettled-24 : Unsettles says24 (otherLost says24)
 unsettled-24 = one-readable-unsettles says24 two-multiframes
 
--- AND AT MOST THREE FLIPS IN A HEADER: of three multiframes or more the second header has four flips and is read as one of 11 kHz, and no pair is
--- damaged. All is read as it was sent, and yet the header's note is 10 and not its number of flips
+-- ---- NAMES THE DAMAGE WIDER NEEDS THREE: of three multiframes or more the second header has four flips and is read as one of 11 kHz, and no pair is damaged.
+-- All other premises hold and the settings are those sent, and yet that header's note is 10 and not its number of flips
 pub record Misnotes (u : Utterance) (s : List ℕ) : Type 0 where
   pub damage : DamageUpTo 4 (multiframesOf u) (imageOf u) s
   pub headers : TwoReadable u s
@@ -318,6 +336,7 @@ pub record Misnotes (u : Utterance) (s : List ℕ) : Type 0 where
   pub given : Summary
   pub succeeds : zeroRead u s .answer ≡ Read given
   pub sent : M.AsSent u s given
+  pub not-named : N.Named u s zeroBook zeroThresholds (indexFor (multiframesOf u)) (reportFor (multiframesOf u)) → ⊥
 
 abbrev pub secondFour : Utterance → List ℕ
 secondFour u = flipped u (inSecond fourBits 0) (packetOf (u .indices))
@@ -337,6 +356,9 @@ module _ (u : Utterance) (eight : u .rate ≡ 0) (three : 3 ≤ multiframesOf u)
   none : (k : ℕ) → k < multiframesOf u → (k ≡ 1 → ⊥) → headerFlips (imageOf u) (secondFour u) k ≡ 0
   none k h n = flips-in-others u fourBits 0 (lit< tt) (lit< tt) (packetOf (u .indices)) k h n ∙ none-flipped
 
+  four-there : headerFlips (imageOf u) (secondFour u) 1 ≡ 4
+  four-there = flips-in-second u fourBits 0 (lit< tt) (lit< tt) (packetOf (u .indices)) (omega arith) ∙ four-flipped
+
   pub four-misnotes : Misnotes u (secondFour u)
   four-misnotes = record {
     damage = sent-damage u (inSecond fourBits 0) lt 4 (λ k h. by-test (λ (n : ℕ). ones n ≤ 4) (eqb k 1) (λ t. le-of-eq four-flipped) (λ t. omega (arith, none-flipped)));
@@ -349,11 +371,12 @@ module _ (u : Utterance) (eight : u .rate ≡ 0) (three : 3 ≤ multiframesOf u)
       few-of-two = omega (arith, none 2 (omega arith) (λ e. omega arith));
     };
     none-bad = λ q h. zero-not-bad u (secondFour u) q (not-hurt q h);
-    four = flips-in-second u fourBits 0 (lit< tt) (lit< tt) (packetOf (u .indices)) (omega arith) ∙ four-flipped;
+    four = four-there;
     note-is-10 = harmless-four .noted;
     given = harmless-four .given;
     succeeds = harmless-four .succeeds;
     sent = harmless-four .sent;
+    not-named = λ x. let z : _≡_ {A = ℕ} 10 4 = sym (harmless-four .noted) ∙ x .names .flips 1 (omega arith) ∙ four-there in omega arith;
   }
 
 pub misnoted-48 : Misnotes says48 (secondFour says48)
@@ -410,10 +433,6 @@ speaks u k e = by (allZero (frameAt (u .indices) k)) refl
     by : (t : Bool) → allZero (frameAt (u .indices) k) ≡ t → allZero (frameAt (u .indices) k) ≡ false
     by true z = absurd (x .nonzero (sym (getD-row (u .indices) (frameIndices * k) frameIndices (x .place) (x .within)) ∙ all-zero-at (frameAt (u .indices) k) (x .place) z))
     by false z = z
-
-silent : (n : ℕ) → allZero (replicate n 0) ≡ true
-silent zero = refl
-silent (suc n) = silent n
 
 -- the first pair of the last multiframe
 abbrev pub lastFirst : Utterance → ℕ
