@@ -1,4 +1,5 @@
--- Images with any bits of their headers flipped and any streams behind them, and the same frames at 11 kHz: what the examples are made of.
+-- Images with any bits of their headers flipped and any packets behind them, the same frames at 11 kHz, and readings of them: what the examples
+-- are made of.
 -- Assumes nothing.
 use mathlib.Core.Path.{_≡_, refl, sym, ap, ap₂, _∙_, subst}
 use mathlib.Core.Bool.{Bool, true, false, not}
@@ -141,21 +142,21 @@ module _ (u : Utterance) (e : ℕ → ℕ) (f : ℕ → List Bool) where
             each = λ q h. subst (λ (p : List Bool). (p ≡ packetOf (u .indices) q) ⊎ Damaged (packetOf (u .indices) q) p) (sym (packed-part f long q)) (fates q h);
           }
 
--- the packets as they are sent
-module _ (u : Utterance) (e : ℕ → ℕ) where
-  module _ (small : (k : ℕ) → e k < 2 ^ 32) where
-    pub sent-whole : (q : ℕ) → q < pairsOf u → packetIn (flipped u e (packetOf (u .indices))) q ≡ packetIn (imageOf u) q
-    sent-whole q h =
-        packets-are u e (packetOf (u .indices)) small (length-packetOf (u .indices)) q h ∙ sym (image-packet (u .rate) (u .kind) (u .indices) (multiframesOf u) q h)
+-- with the packets as they are sent no pair is damaged
+module _ (u : Utterance) (e : ℕ → ℕ) (small : (k : ℕ) → e k < 2 ^ 32) where
+  pub sent-whole : (q : ℕ) → q < pairsOf u → packetIn (flipped u e (packetOf (u .indices))) q ≡ packetIn (imageOf u) q
+  sent-whole q h =
+      packets-are u e (packetOf (u .indices)) small (length-packetOf (u .indices)) q h ∙ sym (image-packet (u .rate) (u .kind) (u .indices) (multiframesOf u) q h)
 
-    pub sent-damage : (most : ℕ) → ((k : ℕ) → k < multiframesOf u → ones (e k) ≤ most) → DamageUpTo most (multiframesOf u) (imageOf u) (flipped u e (packetOf (u .indices)))
-    sent-damage most few = flipped-damage u e (packetOf (u .indices)) small (length-packetOf (u .indices)) most few (λ q h. inl refl)
+  pub sent-damage : (most : ℕ) → ((k : ℕ) → k < multiframesOf u → ones (e k) ≤ most) → DamageUpTo most (multiframesOf u) (imageOf u) (flipped u e (packetOf (u .indices)))
+  sent-damage most few = flipped-damage u e (packetOf (u .indices)) small (length-packetOf (u .indices)) most few (λ q h. inl refl)
 
 -- all of them but for pair r, whose packet is p
 module _ (u : Utterance) (r : ℕ) (p : List Bool) where
   abbrev pub butOne : ℕ → List Bool
   butOne q = when (eqb q r) p (packetOf (u .indices) q)
 
+  -- pair r is that, and the others are as they were sent
   pub there : butOne r ≡ p
   there = rw (eq-eqb r r refl)
 
@@ -170,6 +171,7 @@ module _ (u : Utterance) (t : ℕ → Bool) where
   abbrev pub hit : ℕ → List Bool
   hit q = when (t q) (flip (packetOf (u .indices) q) 0) (packetOf (u .indices) q)
 
+  -- which are flipped, and which are not
   pub hit-there : (q : ℕ) → t q ≡ true → hit q ≡ flip (packetOf (u .indices) q) 0
   hit-there q e = rw e
 
@@ -209,6 +211,7 @@ module _ (u : Utterance) (t : ℕ → Bool) where
 settings-11 : (u : Utterance) → settingsRight 1 (u .kind) ≡ true
 settings-11 u = rw (le-ltb 1 (u .kind) (omega (arith, kind-small u)))
 
+-- the writer accepts at 11 kHz what it accepts at another rate
 pub written-11 : (u : Utterance) → verdict 1 (u .kind) (u .indices) (needed (u .indices)) ≡ Written (needed (u .indices))
 written-11 u =
     let a = is-accepted u in
@@ -262,10 +265,12 @@ message-11 t c l =
 abbrev pub rateBits : ℕ
 rateBits = 0xD1010001
 
+-- six of them
 pub six-flipped : ones rateBits ≡ 6
 unfolding onesIn
 six-flipped = sym (ones-in 32 rateBits (lit< tt))
 
+-- it is that
 pub rate-codeword : codeword 1 ≡ rateBits
 rate-codeword = by (codeword 1) rate-1
   where
@@ -282,6 +287,7 @@ rate-codeword = by (codeword 1) rate-1
         (ap (λ (n : ℕ). n % 256) y ∙ ap (λ (l : List ℕ). getD l 2 0) e) (z ∙ ap (λ (l : List ℕ). getD l 3 0) e)
 
 module _ (u : Utterance) (eight : u .rate ≡ 0) where
+  -- each header of 11 kHz is that of 8 kHz with these bits flipped
   pub word-11 : (k : ℕ) → codeword (sentMessage (at11 u) k) ≡ bitXor (codeword (sentMessage u k)) rateBits
   word-11 k =
       ap codeword (message-11 (u .kind) (k + 1) (kind-small u))
@@ -300,6 +306,7 @@ module _ (u : Utterance) (eight : u .rate ≡ 0) where
           sym (ap (λ (w : ℕ). bitXor w (bitXor (e k) rateBits)) (word-11 k) ∙ xor-swap a rateBits (e k) rateBits ∙ ap (bitXor (bitXor a (e k))) (xor-self rateBits)
           ∙ xor-zero-r (bitXor a (e k)))
 
+  -- so its headers are that far from those of 11 kHz
   pub flips-at-11 : (e : ℕ → ℕ) (f : ℕ → List Bool) → ((k : ℕ) → e k < 2 ^ 32) → (k : ℕ) → k < multiframesOf u
       → headerFlips (imageOf (at11 u)) (flipped u e f) k ≡ ones (bitXor (e k) rateBits)
   flips-at-11 e f small k h =
@@ -318,14 +325,17 @@ module _ (u : Utterance) (eight : u .rate ≡ 0) where
       ) z
 
 -- ---- the headers as they are read
+-- header k in order
 pub header-at : (s : List ℕ) (m k : ℕ) → k < m → getD (readings s (rowOf m)) k Lost ≡ H.reading (wordIn s k)
 header-at s m k h = ap (λ (l : List Header). getD l k Lost) (readings-are s m) ∙ each-at (λ k. H.reading (wordIn s k)) m k Lost h
 
+-- with at most two flips it has the common bits sent
 pub has-common : (u : Utterance) (s : List ℕ) (k : ℕ) → k < multiframesOf u → headerFlips (imageOf u) s k ≤ 2 → Has (readings s (rowOf (multiframesOf u))) k (sentCommon u)
 has-common u s k h few =
     subst (Has (readings s (rowOf (multiframesOf u))) k) (common-sent u k)
     (read-has (readings s (rowOf (multiframesOf u))) k (sentMessage u k) (headerFlips (imageOf u) s k) (header-at s (multiframesOf u) k h ∙ header-read u s k h few))
 
+-- and these are settings that can be used
 pub usable : (u : Utterance) → Usable (sentCommon u)
 usable u = record { rate = λ e. rate-not-2 u (sym (rate-sent u) ∙ e); exp = exp-sent u }
 
@@ -338,6 +348,7 @@ module _ (u : Utterance) (s : List ℕ) (size : length s ≡ length (imageOf u))
   abbrev ns : List ℕ
   ns = pairNotes s (rowOf m) codebook thresholds
 
+  -- it succeeds, and this is what it gives
   pub reads-settled : settling (readings s (rowOf (multiframesOf u))) ≡ Settled c → Usable c → Good (pairNotes s (rowOf (multiframesOf u)) codebook thresholds)
       → reading s codebook thresholds index report
       ≡ outcome (Read (summary s (rowOf (multiframesOf u)) (pairNotes s (rowOf (multiframesOf u)) codebook thresholds) c))
@@ -364,7 +375,7 @@ zeroRead u s = reading s zeroBook zeroThresholds (indexFor (multiframesOf u)) (r
 abbrev pub zeroNotes : Utterance → List ℕ → List ℕ
 zeroNotes u s = pairNotes s (rowOf (multiframesOf u)) zeroBook zeroThresholds
 
--- a pair whose CRC is right is good, whatever stands around it
+-- a pair whose CRC is right has note 0, whatever stands around it
 module _ (s : List ℕ) (m q : ℕ) (h : q < multiframePairs * m) (whole : right dataBits (packetIn s q) ≡ true) where
   never-fails : pairFails s (rowOf m) q ≡ false
   unfolding pairFails
@@ -386,6 +397,7 @@ module _ (s : List ℕ) (m q : ℕ) (h : q < multiframePairs * m) (whole : right
       (each-at (pairOdd s (rowOf m) zeroBook zeroThresholds) n q false l ∙ never-odd)
       ∙ consistent-is-good (badBefore false (notes fs os) q) (getD fs (suc q) false)
 
+  -- so there is a good one
   pub good-pair : Good (pairNotes s (rowOf m) zeroBook zeroThresholds)
   good-pair = record { pair = q; within = omega (arith, length-notes s (rowOf m) zeroBook zeroThresholds, every-length 0 m); good = right-good }
 

@@ -51,7 +51,10 @@ use Rattle.demands.specs.Met.{zeroBook, zeroThresholds, indexFor, reportFor, le
 use Rattle.promises.specs.Misled as M
 use Rattle.promises.specs.Trusted as T
 use Rattle.promises.specs.Heard as S
-use Rattle.promises.specs.Flipped.{packed, flippedWord, flipped, flipped-size, flipped-syncs, flips-are, packets-are, flipped-damage, zero-not-bad, zero-unnamed, sent-whole, sent-damage, butOne, there, elsewhere, length-but-one, hit, length-hit, hit-fates, told-touched, untold-whole, at11, rateBits, none-flipped, one-flipped, two-flipped, three-flipped, five-flipped, six-flipped, seven-flipped, flips-at-11, noted-11, header-at, has-common, usable, reads-settled, good-pair, zeroRead, zeroNotes}
+use Rattle.promises.specs.Flipped.{packed, flippedWord, flipped, flipped-size, flipped-syncs, flips-are, packets-are, flipped-damage, zero-not-bad, zero-unnamed}
+use Rattle.promises.specs.Flipped.{sent-whole, sent-damage, butOne, there, elsewhere, length-but-one, hit, length-hit, hit-fates, told-touched, untold-whole, at11}
+use Rattle.promises.specs.Flipped.{rateBits, none-flipped, one-flipped, two-flipped, three-flipped, five-flipped, six-flipped, seven-flipped, flips-at-11, noted-11}
+use Rattle.promises.specs.Flipped.{header-at, has-common, usable, reads-settled, good-pair, zeroRead, zeroNotes}
 
 -- ---- 48 frames of ones, which take three multiframes
 written-48 : verdict 0 0 (replicate 336 1) (needed (replicate 336 1)) ≡ Written (needed (replicate 336 1))

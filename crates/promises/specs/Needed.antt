@@ -63,7 +63,9 @@ use Rattle.demands.specs.Met.{zeroBook, zeroThresholds, indexFor, reportFor, le
 use Rattle.demands.specs.Needed.{eighth, saysEighth, Passes15, passes-15, halfway}
 use Rattle.promises.specs.Misled as M
 use Rattle.promises.specs.Trusted as T
-use Rattle.promises.specs.Flipped.{flipped, flipped-size, flipped-syncs, flips-are, flipped-damage, sent-whole, sent-damage, at11, rateBits, none-flipped, two-flipped, three-flipped, six-flipped, word-11, seen-at-11, flips-at-11, hit, length-hit, hit-fates, told-touched, untold-whole, zeroRead, zeroNotes, right-good, good-pair, usable, zero-not-bad, zero-unnamed}
+use Rattle.promises.specs.Flipped.{flipped, flipped-size, flipped-syncs, flips-are, flipped-damage, sent-whole, sent-damage, at11, rateBits, none-flipped}
+use Rattle.promises.specs.Flipped.{two-flipped, three-flipped, six-flipped, word-11, seen-at-11, flips-at-11, hit, length-hit, hit-fates, told-touched, untold-whole}
+use Rattle.promises.specs.Flipped.{zeroRead, zeroNotes, right-good, good-pair, usable, zero-not-bad, zero-unnamed}
 use Rattle.promises.specs.Met.{says48, three-multiframes, rate-48, without-warning, lostOne, heard-met, none-named, heard, inSecond, in-second-lt, flips-in-second, flips-in-others, Harmless, harmless}
 
 -- ---- NEVER MISLED NEEDS ITS LIMITS ON FLIPS: all premises hold but that on headers, not even a packet is damaged, and 8 kHz is read as 11 kHz
@@ -103,7 +105,8 @@ module _ (u : Utterance) (eight : u .rate ≡ 0) where
         let lt : (k : ℕ) → e k < 2 ^ 32 = λ k. lit< tt in
         ap (λ (s : List ℕ). reading s codebook thresholds index report .answer) (seen-at-11 u eight (λ k. fourBits) (packetOf (u .indices)))
         ∙ ap (λ (o : Outcome). o .answer)
-        (reads-mended (at11 u) (flipped (at11 u) e (packetOf (u .indices))) (sent-damage (at11 u) e lt 2 (λ k h. le-of-eq four-to-11)) (sent-whole (at11 u) e lt) (inl two) codebook thresholds index report lent)
+        (reads-mended (at11 u) (flipped (at11 u) e (packetOf (u .indices))) (sent-damage (at11 u) e lt 2 (λ k h. le-of-eq four-to-11)) (sent-whole (at11 u) e lt) (inl two)
+        codebook thresholds index report lent)
 
     -- HEADERS OF FOUR FLIPS MISLEAD: two multiframes or more
     pub four-mislead : 2 ≤ multiframesOf u → Misleads u (fourOff u) 4 codebook thresholds index report
@@ -322,6 +325,7 @@ module _ (u : Utterance) (two : multiframesOf u ≡ 2) where
       not-read : (g : Summary) → Refused Unsettled ≡ Read g → ⊥
       not-read g e = let z : _≡_ {A = ℕ} 0 1 = cc in omega arith
 
+-- so of 24 frames
 pub unsettled-24 : Unsettles says24 (otherLost says24)
 unsettled-24 = one-readable-unsettles says24 two-multiframes
 
@@ -379,6 +383,7 @@ module _ (u : Utterance) (eight : u .rate ≡ 0) (three : 3 ≤ multiframesOf u)
     not-named = λ x. let z : _≡_ {A = ℕ} 10 4 = sym (harmless-four .noted) ∙ x .names .flips 1 (omega arith) ∙ four-there in omega arith;
   }
 
+-- so of 48 frames
 pub misnoted-48 : Misnotes says48 (secondFour says48)
 misnoted-48 = four-misnotes says48 rate-48 (le-of-eq (sym three-multiframes))
 
@@ -462,7 +467,7 @@ module _ (u : Utterance) (two : 2 ≤ multiframesOf u) (full : frameCount (u .in
   as-sent : (q : ℕ) → q < pairsOf u → t q ≡ false → packetIn got q ≡ packetIn (imageOf u) q
   as-sent = untold-whole u t (λ k. 0) (λ k. lit< tt)
 
-  pub wide : N.Wider u (flipped u (λ k. 0) (hit u t)) zeroBook zeroThresholds (indexFor (multiframesOf u)) (reportFor (multiframesOf u))
+  wide : N.Wider u (flipped u (λ k. 0) (hit u t)) zeroBook zeroThresholds (indexFor (multiframesOf u)) (reportFor (multiframesOf u))
   wide = record {
     damage = flipped-damage u (λ k. 0) (hit u t) (λ k. lit< tt) (length-hit u t) 3 (λ k h. omega (arith, none-flipped)) (λ q h. hit-fates u t q);
     headers = inl (record {
@@ -574,6 +579,7 @@ pub record OneMore (u : Utterance) : Type 0 where
   pub speech : given .speech ≡ frameCount (u .indices) + 1
 
 module _ (u : Utterance) (two : 2 ≤ multiframesOf u) (full : frameCount (u .indices) ≡ multiframeFrames * (multiframesOf u - 1)) where
+  -- ONE FRAME MORE IS HEARD
   pub one-more : OneMore u
   one-more = record {
     wider = w;
@@ -609,12 +615,15 @@ module _ (u : Utterance) (two : 2 ≤ multiframesOf u) (full : frameCount (u .in
       w : N.Wider u (endHurt u) zeroBook zeroThresholds (indexFor (multiframesOf u)) (reportFor (multiframesOf u))
       w = wide u two full is b some most inside before behind
 
--- of 24 frames 25 are heard
-pub heard-25 : (x : OneMore says24) → x .given .speech ≡ 25
-heard-25 x = x .speech ∙ ap (λ (n : ℕ). n + 1) frames-24
+-- so of 24 frames 25 are heard
+filled-24 : frameCount (says24 .indices) ≡ multiframeFrames * (multiframesOf says24 - 1)
+filled-24 = frames-24 ∙ ap (λ (m : ℕ). multiframeFrames * (m - 1)) (sym two-multiframes)
 
 pub more-24 : OneMore says24
-more-24 = one-more says24 (le-of-eq (sym two-multiframes)) (frames-24 ∙ ap (λ (m : ℕ). multiframeFrames * (m - 1)) (sym two-multiframes))
+more-24 = one-more says24 (le-of-eq (sym two-multiframes)) filled-24
+
+pub heard-25 : more-24 .given .speech ≡ 25
+heard-25 = more-24 .speech ∙ ap (λ (n : ℕ). n + 1) frames-24
 
 -- one flip in each packet of the last multiframe: all of it is named, speech is a multiframe more than was sent, and the end is gone
 abbrev pub endGone : Utterance → List ℕ
@@ -629,6 +638,7 @@ pub record NoEnd (u : Utterance) : Type 0 where
   pub end : given .end ≡ 0
 
 module _ (u : Utterance) (two : 2 ≤ multiframesOf u) (full : frameCount (u .indices) ≡ multiframeFrames * (multiframesOf u - 1)) where
+  -- THE END IS NOT HEARD
   pub no-end : NoEnd u
   no-end = record {
     wider = w;
@@ -669,8 +679,9 @@ module _ (u : Utterance) (two : 2 ≤ multiframesOf u) (full : frameCount (u .in
       w : N.Wider u (endGone u) zeroBook zeroThresholds (indexFor (multiframesOf u)) (reportFor (multiframesOf u))
       w = wide u two full is b some most inside before behind
 
+-- so of 24 frames 48 are heard, and no end
 pub gone-24 : NoEnd says24
-gone-24 = no-end says24 (le-of-eq (sym two-multiframes)) (frames-24 ∙ ap (λ (m : ℕ). multiframeFrames * (m - 1)) (sym two-multiframes))
+gone-24 = no-end says24 (le-of-eq (sym two-multiframes)) filled-24
 
 -- ---- NEVER MISLED NEEDS THE SYNCS: of two multiframes the second is overwritten by inverse syncs. All other premises hold, and one multiframe
 -- less is counted
@@ -689,6 +700,7 @@ proper-inverses : (n : ℕ) → Proper (replicate n inverse)
 proper-inverses zero = tt
 proper-inverses (suc n) = proper-inverses n
 
+-- 72 of them are as long as a multiframe
 abbrev pub overwritten : Utterance → List ℕ
 overwritten u = image (u .rate) (u .kind) (u .indices) 1 ++ inverses 72
 
@@ -700,6 +712,7 @@ pub record Miscounts (u : Utterance) (s : List ℕ) : Type 0 where
   pub given : Summary
   pub succeeds : zeroRead u s .answer ≡ Read given
   pub count : given .multiframes ≡ 1
+  pub misled : M.AsSent u s given → ⊥
 
 module _ (u : Utterance) (twice : multiframesOf u ≡ 2) where
   abbrev front : List ℕ
@@ -790,7 +803,9 @@ module _ (u : Utterance) (twice : multiframesOf u ≡ 2) where
     given = summary cutUp (rowOf 1) (pairNotes cutUp (rowOf 1) zeroBook zeroThresholds) (sentCommon u);
     succeeds = read-once;
     count = refl;
+    misled = λ x. let e : 1 ≡ multiframesOf u = x .multiframes in omega arith;
   }
 
+-- so of 24 frames
 pub miscounted-24 : Miscounts says24 (overwritten says24)
 miscounted-24 = syncs-miscount says24 two-multiframes
