@@ -18,25 +18,25 @@ use Rattle.header_code.specs.Code.{flipsTo}
 use Rattle.writer.specs.Made.{wordIn, packetIn, made, length-made, small-made, made-sync, made-word, made-packet}
 use Rattle.writer.specs.Laws.{length-image}
 use Rattle.writer.specs.Image.{image-sync, image-word, image-packet, image-small, Utterance, multiframesOf, pairsOf, imageOf}
-use Rattle.demands.specs.Damage.{Damage, sentMessage}
+use Rattle.demands.specs.Damage.{DamageUpTo, Damage, sentMessage}
 
--- any header words within two flips of those sent, and any streams of packets that are damaged or not, make one
-module _ (u : Utterance) (w : ℕ → ℕ) (x : ℕ → List Bool) where
-  pub record Parts : Type 0 where
+-- any header words within so many flips of those sent, and any streams of packets that are damaged or not, make one
+module _ (most : ℕ) (u : Utterance) (w : ℕ → ℕ) (x : ℕ → List Bool) where
+  pub record PartsUpTo : Type 0 where
     pub words : (k : ℕ) → k < multiframesOf u → w k < 2 ^ 32
-    pub near-words : (k : ℕ) → k < multiframesOf u → flipsTo (w k) (sentMessage u k) ≤ 2
+    pub near-words : (k : ℕ) → k < multiframesOf u → flipsTo (w k) (sentMessage u k) ≤ most
     pub sizes : (k : ℕ) → k < multiframesOf u → length (x k) ≡ 8 * streamOctets
     pub each : (q : ℕ) → q < pairsOf u
         → (part (packetStart q) packetBits (x (multiframeOf q)) ≡ packetOf (u .indices) q) ⊎ Damaged (packetOf (u .indices) q) (part (packetStart q) packetBits (x (multiframeOf q)))
 
-  pub damage-made : Parts → Damage (multiframesOf u) (imageOf u) (made w x (multiframesOf u))
+  pub damage-up-to : PartsUpTo → DamageUpTo most (multiframesOf u) (imageOf u) (made w x (multiframesOf u))
   unfolding flipsTo
-  damage-made p = record {
+  damage-up-to p = record {
     size = length-made w x m ∙ sym (length-image (u .rate) (u .kind) (u .indices) m);
     small = small-made w x m;
     syncs = λ k h. made-sync w x m k h ∙ sym (image-sync (u .rate) (u .kind) (u .indices) m k h);
     headers = λ k h.
-        subst (λ (n : ℕ). n ≤ 2)
+        subst (λ (n : ℕ). n ≤ most)
         (sym (ap₂ (λ (a b : ℕ). ones (bitXor a b)) (made-word w x m k h (p .words k h)) (image-word (u .rate) (u .kind) (u .indices) m k h)))
         (p .near-words k h);
     packets = λ q h. packet q h (p .each q h);
@@ -52,6 +52,13 @@ module _ (u : Utterance) (w : ℕ → ℕ) (x : ℕ → List Bool) where
           let got = made-packet w x m q h (p .sizes (q / 12) (omega arith)) in
           let sent = image-packet (u .rate) (u .kind) (u .indices) m q h in
           ⊎-elim (λ a. inl (got ∙ a ∙ sym sent)) (λ a. inr (subst (λ (l : List Bool). Damaged l (packetIn (made w x m) q)) (sym sent) (subst (Damaged (packetOf (u .indices) q)) (sym got) a))) e
+
+-- demand 3's: within two flips
+abbrev pub Parts : Utterance → (ℕ → ℕ) → (ℕ → List Bool) → Type 0
+Parts u w x = PartsUpTo 2 u w x
+
+pub damage-made : (u : Utterance) (w : ℕ → ℕ) (x : ℕ → List Bool) → Parts u w x → Damage (multiframesOf u) (imageOf u) (made w x (multiframesOf u))
+damage-made = damage-up-to 2
 
 -- and so does none at all
 pub unharmed : (u : Utterance) → Damage (multiframesOf u) (imageOf u) (imageOf u)

@@ -131,7 +131,7 @@ module _ (u : Utterance) (s : List ℕ) (j : ℕ) (others : (k : ℕ) → k < mu
   length-hs = ap length (readings-are s (multiframesOf u)) ∙ length-each (λ k. H.reading (wordIn s k)) (multiframesOf u)
 
   -- none of those that are read has other common bits than those sent
-  others-sent : (k d : ℕ) → (k ≡ j → ⊥) → Has hs k d → d ≡ sentCommon u
+  pub others-sent : (k d : ℕ) → (k ≡ j → ⊥) → Has (readings s (rowOf (multiframesOf u))) k d → d ≡ sentCommon u
   others-sent k d n x = by (decLt k (multiframesOf u))
     where
       r : (a : ℕ) × ((f : ℕ) × ((getD hs k Lost ≡ Codeword a f) × (commonBits a ≡ d)))

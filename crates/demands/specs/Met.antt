@@ -242,5 +242,17 @@ pub two-multiframes : multiframesOf says24 ≡ 2
 unfolding says24
 two-multiframes = refl
 
+pub rate-24 : says24 .rate ≡ 0
+unfolding says24
+rate-24 = refl
+
+pub kind-24 : says24 .kind ≡ 0
+unfolding says24
+kind-24 = refl
+
+pub frames-24 : frameCount (says24 .indices) ≡ 24
+unfolding says24
+frames-24 = refl
+
 pub names-says24 : N.Premises says24 (hurtImage says24) zeroBook zeroThresholds (indexFor (multiframesOf says24)) (reportFor (multiframesOf says24))
 names-says24 = names-met says24 (le-of-eq (sym two-multiframes))

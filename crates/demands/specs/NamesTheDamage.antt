@@ -73,7 +73,7 @@ module _ (u : Utterance) (s : List ℕ) (codebook thresholds : List ℤ) (index 
     -- "and one pair not bad"
     pub pair : ℕ
     pub within : pair < pairsOf u
-    pub not-bad : BadPair u s codebook thresholds pair → ⊥
+    pub not-bad : BadPair u s codebook thresholds pair → ⊥  -- neither damaged nor bad by 01's rule
     -- "with 01's tables and room"
     pub lent : Lent (multiframesOf u) codebook thresholds index report
 

@@ -178,7 +178,8 @@ module _ (u : Utterance) (s : List ℕ) (d : DamageUpTo 3 (multiframesOf u) (ima
   never-before (suc q) h b =
       ⊎-elim (λ t. t (untouched q (omega arith))) (λ r. ⊎-elim (λ x. x .1 (untouched (suc q) (x .0))) (never-before q (omega arith)) (r .1)) b
 
-  never-bad : (q : ℕ) → q < pairsOf u → BadPair u s codebook thresholds q → ⊥
+  -- no pair is bad
+  pub never-bad : (q : ℕ) → q < pairsOf u → BadPair u s codebook thresholds q → ⊥
   unfolding BadBefore
   never-bad q h = never-before (suc q) (omega arith)
 

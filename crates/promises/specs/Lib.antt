@@ -11,3 +11,6 @@ pub mod Hit
 pub mod CutOff
 pub mod CutDamaged
 pub mod Ruled
+pub mod Flipped
+pub mod Met
+pub mod Needed

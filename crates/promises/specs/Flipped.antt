@@ -1,0 +1,418 @@
+-- Images with any bits of their headers flipped and any packets behind them, the same frames at 11 kHz, and readings of them: what the examples
+-- are made of.
+-- Assumes nothing.
+use mathlib.Core.Path.{_≡_, refl, sym, ap, ap₂, _∙_, subst}
+use mathlib.Core.Bool.{Bool, true, false, not}
+use mathlib.Core.List.{List, [], _∷_}
+use mathlib.Core.Logic.{_⊎_, inl, inr, ⊎-elim}
+use Prim.Native.Nat.{ℕ, suc, _+_, _*_, _/_, _%_, _^_, _≤_, _<_}
+use native.Mathlib.Nat.{mod-eq-of-lt, div-add-mod', div-div-eq-div-mul}
+use native.Mathlib.Decide.{ℕ-discrete}
+use native.Mathlib.Omega.{arith}
+use lib.Bits.{bitAnd, bitXor, xor-lt, xor-mod, xor-self, xor-zero-r, xor-block, and-mask}
+use lib.Count.{ones, onesIn}
+use lib.Dec.{eqb, lit<}
+use lib.IntN.{ℤ}
+use lib.ListN.{length, getD, take, drop}
+use borrow.Author.Tests.{eq-eqb, ne-eqb, le-ltb}
+use Rattle.gf2.specs.Light.{ones-in}
+use Rattle.gf2.specs.Xor.{xor-swap}
+use Rattle.lists.specs.Tests.{when, by-test, true-false}
+use Rattle.lists.specs.Parts.{part, over}
+use Rattle.lists.specs.Rows.{each, length-each, each-at, joined, length-joined, joined-part, same-joined}
+use Rattle.layout.specs.Layout.{frameIndices, dataBits, packetBits, multiframePairs, streamOctets, indexOctets, reportOctets, multiframeOf, firstPair, packetStart, firstFrame, secondFrame}
+use Rattle.crc.specs.Crc.{right, flip, Damaged}
+use Rattle.crc.specs.Damage.{length-flip, flip-burst}
+use Rattle.packet.specs.Packet.{packetOf, frameAt}
+use Rattle.packet.specs.Laws.{length-packetOf}
+use Rattle.header_code.specs.Code.{codeword, flipsTo, syndrome}
+use Rattle.header_code.specs.Code.Distance.{codeword-lt, codeword-low}
+use Rattle.header_code.specs.Code.Syndrome.{syndrome-xor, syndrome-codeword, codeword-of}
+use Rattle.header_code.specs.Code.Examples.{octets, rate-1}
+use Rattle.header.specs.Message.{message, rateOf, typeOf, countOf, expOf, commonBits}
+use Rattle.header.specs.Message.Laws.{message-lt, message-back, rate-back, type-back, count-back, exp-back, rate-masked, type-masked, count-masked, exp-shifted, count-mod}
+use Rattle.header.specs.Reading.Laws.{flips-of}
+use Rattle.header.specs.Reading as H
+use Rattle.header.specs.declared.Header.{Header}
+use Rattle.header.specs.declared.Header.the-variants.{Codeword, Lost}
+use Rattle.settling.specs.Settling.{readings, settling, headerNote}
+use Rattle.settling.specs.Laws.{Has, read-has}
+use Rattle.settling.specs.declared.Settings.the-variants.{Settled}
+use Rattle.cutting.specs.Laws.{every-length}
+use Rattle.pairs.specs.Pairs.{pairCount, pairFails, pairOdd, framesOf, pairNotes}
+use Rattle.pairs.specs.Laws.{length-notes}
+use Rattle.judging.specs.Judging.{noteBy, notes}
+use Rattle.judging.specs.Laws.{Good, none-good, badBefore, note-at, consistent-is-good}
+use Rattle.reader.specs.Reading.{indexPart, reportPart, summary, Outcome, outcome, reading}
+use Rattle.reader.specs.ReadingLaws.{Usable}
+use Rattle.reader.specs.declared.Answer.the-variants.{Read}
+use Rattle.writer.specs.Writing.{settingsRight, verdict, needed}
+use Rattle.writer.specs.declared.Answer.the-variants.{Written}
+use Rattle.writer.specs.Laws.{few-multiframes, length-image, accepts}
+use Rattle.writer.specs.Made.{syncIn, wordIn, packetIn, made, framed, length-made, made-sync, made-word, made-packet}
+use Rattle.writer.specs.Image.{image-sync, image-packet, Utterance, multiframesOf, pairsOf, imageOf, is-accepted, kind-small, rate-not-2}
+use Rattle.demands.specs.Damage.{DamageUpTo, Touched, differs, headerFlips, sentMessage, header-near, header-read}
+use Rattle.demands.specs.Damages.{damage-up-to}
+use Rattle.demands.specs.Whole.{rowOf, Lent, pairNoteIn, packet-at, readings-are, reads-as}
+use Rattle.demands.specs.Headers.{sentCommon, common-sent, rate-sent, exp-sent}
+use Rattle.demands.specs.Received.{ByRule, BadPair}
+use Rattle.demands.specs.NamesTheDamage as N
+use Rattle.demands.specs.Met.{zeroBook, zeroThresholds, indexFor, reportFor, zero-consistent}
+
+-- ---- how many bits these numbers flip
+pub none-flipped : ones 0 ≡ 0
+unfolding onesIn
+none-flipped = sym (ones-in 1 0 (lit< tt))
+
+pub one-flipped : ones 1 ≡ 1
+unfolding onesIn
+one-flipped = sym (ones-in 1 1 (lit< tt))
+
+pub two-flipped : ones 3 ≡ 2
+unfolding onesIn
+two-flipped = sym (ones-in 2 3 (lit< tt))
+
+pub three-flipped : ones 7 ≡ 3
+unfolding onesIn
+three-flipped = sym (ones-in 3 7 (lit< tt))
+
+pub five-flipped : ones 31 ≡ 5
+unfolding onesIn
+five-flipped = sym (ones-in 5 31 (lit< tt))
+
+pub seven-flipped : ones 127 ≡ 7
+unfolding onesIn
+seven-flipped = sym (ones-in 7 127 (lit< tt))
+
+-- ---- any packets, twelve behind each header
+module _ (f : ℕ → List Bool) where
+  abbrev pub packed : ℕ → List Bool
+  packed k = joined (λ r. f (firstPair k + r)) multiframePairs
+
+  module _ (long : (q : ℕ) → length (f q) ≡ packetBits) where
+    length-packed : (k : ℕ) → length (packed k) ≡ 8 * streamOctets
+    length-packed k = length-joined (λ r. f (firstPair k + r)) packetBits multiframePairs (λ r h. long (firstPair k + r))
+
+    packed-part : (q : ℕ) → part (packetStart q) packetBits (packed (multiframeOf q)) ≡ f q
+    packed-part q =
+        let z : 12 * (q / 12) + q % 12 ≡ q = omega arith in
+        joined-part (λ r. f (firstPair (q / 12) + r)) packetBits multiframePairs (q % 12) (λ r h. long (firstPair (q / 12) + r)) (omega arith) ∙ ap f z
+
+-- ---- an image with flips in its headers and any packets
+module _ (u : Utterance) (e : ℕ → ℕ) (f : ℕ → List Bool) where
+  -- header k with the bits of e k flipped
+  abbrev pub flippedWord : ℕ → ℕ
+  flippedWord k = bitXor (codeword (sentMessage u k)) (e k)
+
+  -- such headers, and the packet f q for pair q
+  abbrev pub flipped : List ℕ
+  flipped = made flippedWord (packed f) (multiframesOf u)
+
+  -- it is as long as the image, and its syncs are whole
+  pub flipped-size : length flipped ≡ length (imageOf u)
+  flipped-size = length-made flippedWord (packed f) (multiframesOf u) ∙ sym (length-image (u .rate) (u .kind) (u .indices) (multiframesOf u))
+
+  pub flipped-syncs : (k : ℕ) → k < multiframesOf u → syncIn flipped k ≡ syncIn (imageOf u) k
+  flipped-syncs k h = made-sync flippedWord (packed f) (multiframesOf u) k h ∙ sym (image-sync (u .rate) (u .kind) (u .indices) (multiframesOf u) k h)
+
+  module _ (small : (k : ℕ) → e k < 2 ^ 32) where
+    word-lt : (k : ℕ) → flippedWord k < 2 ^ 32
+    word-lt k = xor-lt 32 (codeword (sentMessage u k)) (e k) (codeword-lt (sentMessage u k) (message-lt (u .rate) (u .kind) (k + 1) 0)) (small k)
+
+    -- the flips in header k are those of e k
+    pub flips-are : (k : ℕ) → k < multiframesOf u → headerFlips (imageOf u) flipped k ≡ ones (e k)
+    flips-are k h =
+        sym (header-near u flipped k h)
+        ∙ ap (λ (w : ℕ). flipsTo w (sentMessage u k)) (made-word flippedWord (packed f) (multiframesOf u) k h (word-lt k)) ∙ flips-of (sentMessage u k) (e k)
+
+    module _ (long : (q : ℕ) → length (f q) ≡ packetBits) where
+      -- the packets are those
+      pub packets-are : (q : ℕ) → q < pairsOf u → packetIn flipped q ≡ f q
+      packets-are q h = made-packet flippedWord (packed f) (multiframesOf u) q h (length-packed f long (q / 12)) ∙ packed-part f long q
+
+      -- so with packets that are damaged or not it is a damaged image
+      pub flipped-damage : (most : ℕ) → ((k : ℕ) → k < multiframesOf u → ones (e k) ≤ most)
+          → ((q : ℕ) → q < pairsOf u → (f q ≡ packetOf (u .indices) q) ⊎ Damaged (packetOf (u .indices) q) (f q)) → DamageUpTo most (multiframesOf u) (imageOf u) flipped
+      flipped-damage most few fates =
+          damage-up-to most u flippedWord (packed f)
+          record {
+            words = λ k h. word-lt k;
+            near-words = λ k h. subst (λ (n : ℕ). n ≤ most) (sym (flips-of (sentMessage u k) (e k))) (few k h);
+            sizes = λ k h. length-packed f long k;
+            each = λ q h. subst (λ (p : List Bool). (p ≡ packetOf (u .indices) q) ⊎ Damaged (packetOf (u .indices) q) p) (sym (packed-part f long q)) (fates q h);
+          }
+
+-- with the packets as they are sent no pair is damaged
+module _ (u : Utterance) (e : ℕ → ℕ) (small : (k : ℕ) → e k < 2 ^ 32) where
+  pub sent-whole : (q : ℕ) → q < pairsOf u → packetIn (flipped u e (packetOf (u .indices))) q ≡ packetIn (imageOf u) q
+  sent-whole q h =
+      packets-are u e (packetOf (u .indices)) small (length-packetOf (u .indices)) q h ∙ sym (image-packet (u .rate) (u .kind) (u .indices) (multiframesOf u) q h)
+
+  pub sent-damage : (most : ℕ) → ((k : ℕ) → k < multiframesOf u → ones (e k) ≤ most) → DamageUpTo most (multiframesOf u) (imageOf u) (flipped u e (packetOf (u .indices)))
+  sent-damage most few = flipped-damage u e (packetOf (u .indices)) small (length-packetOf (u .indices)) most few (λ q h. inl refl)
+
+-- all of them but for pair r, whose packet is p
+module _ (u : Utterance) (r : ℕ) (p : List Bool) where
+  abbrev pub butOne : ℕ → List Bool
+  butOne q = when (eqb q r) p (packetOf (u .indices) q)
+
+  -- pair r is that, and the others are as they were sent
+  pub there : butOne r ≡ p
+  there = rw (eq-eqb r r refl)
+
+  pub elsewhere : (q : ℕ) → (q ≡ r → ⊥) → butOne q ≡ packetOf (u .indices) q
+  elsewhere q n = rw (ne-eqb q r n)
+
+  pub length-but-one : length p ≡ packetBits → (q : ℕ) → length (butOne q) ≡ packetBits
+  length-but-one size q = by-test (λ (l : List Bool). length l ≡ packetBits) (eqb q r) (λ t. size) (λ t. length-packetOf (u .indices) q)
+
+-- all of them, with the first bit flipped of those that t tells
+module _ (u : Utterance) (t : ℕ → Bool) where
+  abbrev pub hit : ℕ → List Bool
+  hit q = when (t q) (flip (packetOf (u .indices) q) 0) (packetOf (u .indices) q)
+
+  -- which are flipped, and which are not
+  pub hit-there : (q : ℕ) → t q ≡ true → hit q ≡ flip (packetOf (u .indices) q) 0
+  hit-there q e = rw e
+
+  pub hit-elsewhere : (q : ℕ) → t q ≡ false → hit q ≡ packetOf (u .indices) q
+  hit-elsewhere q e = rw e
+
+  pub length-hit : (q : ℕ) → length (hit q) ≡ packetBits
+  length-hit q =
+      by-test (λ (l : List Bool). length l ≡ packetBits) (t q) (λ e. length-flip (packetOf (u .indices) q) 0 ∙ length-packetOf (u .indices) q)
+      (λ e. length-packetOf (u .indices) q)
+
+  flip-hurts : (q : ℕ) → Damaged (packetOf (u .indices) q) (flip (packetOf (u .indices) q) 0)
+  flip-hurts q = inl (flip-burst (packetOf (u .indices) q) 0 (omega (arith, length-packetOf (u .indices) q)))
+
+  abbrev SentOr : ℕ → List Bool → Type 0
+  SentOr q l = (l ≡ packetOf (u .indices) q) ⊎ Damaged (packetOf (u .indices) q) l
+
+  -- each is damaged or as it was sent
+  pub hit-fates : (q : ℕ) → (hit q ≡ packetOf (u .indices) q) ⊎ Damaged (packetOf (u .indices) q) (hit q)
+  hit-fates q = by-test (SentOr q) (t q) (λ e. inr (flip-hurts q)) (λ e. inl refl)
+
+  module _ (e : ℕ → ℕ) (small : (k : ℕ) → e k < 2 ^ 32) (q : ℕ) (h : q < pairsOf u) where
+    got : packetIn (flipped u e hit) q ≡ hit q
+    got = packets-are u e hit small length-hit q h
+
+    sent : packetIn (imageOf u) q ≡ packetOf (u .indices) q
+    sent = image-packet (u .rate) (u .kind) (u .indices) (multiframesOf u) q h
+
+    -- those that are told are damaged, and the others are not
+    pub told-touched : t q ≡ true → Touched (imageOf u) (flipped u e hit) q
+    told-touched x y = differs (packetOf (u .indices) q) (flip (packetOf (u .indices) q) 0) (flip-hurts q) (sym (got ∙ hit-there q x) ∙ y ∙ sent)
+
+    pub untold-whole : t q ≡ false → packetIn (flipped u e hit) q ≡ packetIn (imageOf u) q
+    untold-whole x = got ∙ hit-elsewhere q x ∙ sym sent
+
+-- ---- 11 kHz beside 8 kHz
+settings-11 : (u : Utterance) → settingsRight 1 (u .kind) ≡ true
+settings-11 u = rw (le-ltb 1 (u .kind) (omega (arith, kind-small u)))
+
+-- the writer accepts at 11 kHz what it accepts at another rate
+pub written-11 : (u : Utterance) → verdict 1 (u .kind) (u .indices) (needed (u .indices)) ≡ Written (needed (u .indices))
+written-11 u =
+    let a = is-accepted u in
+    accepts 1 (u .kind) (u .indices) (needed (u .indices)) (record { settings = settings-11 u; whole = a .sizes .whole; few = a .sizes .few }) (a .narrow-indices) (a .speaks) (omega arith)
+
+-- the same frames at 11 kHz
+abbrev pub at11 : Utterance → Utterance
+at11 u = record { rate = 1; kind = u .kind; indices = u .indices; small = u .small; written = written-11 u }
+
+-- the sum of two codewords is the codeword of the sum
+pub codeword-xor : (a b : ℕ) → a < 2 ^ 16 → b < 2 ^ 16 → codeword (bitXor a b) ≡ bitXor (codeword a) (codeword b)
+codeword-xor a b ha hb =
+    let w = bitXor (codeword a) (codeword b) in
+    let low : w % 2 ^ 16 ≡ bitXor a b = xor-mod (codeword a) (codeword b) 16 ∙ ap₂ bitXor (codeword-low a ha) (codeword-low b hb) in
+    let fine : syndrome w ≡ 0 = syndrome-xor (codeword a) (codeword b) ∙ ap₂ bitXor (syndrome-codeword a ha) (syndrome-codeword b hb) in
+    ap codeword (sym low) ∙ codeword-of w (xor-lt 32 (codeword a) (codeword b) (codeword-lt a ha) (codeword-lt b hb)) fine
+
+-- one more: SampRate 1 for 0
+rate-on : (a : ℕ) → a < 2 ^ 16 → rateOf a ≡ 0 → (rateOf (a + 1) ≡ 1) × (typeOf (a + 1) ≡ typeOf a) × (countOf (a + 1) ≡ countOf a) × (expOf (a + 1) ≡ expOf a)
+rate-on a h z =
+    let r : a % 4 ≡ 0 = sym (and-mask a 2) ∙ rate-masked a ∙ z in
+    let s : a + 1 < 2 ^ 16 = omega arith in
+    let t : (a + 1) / 4 ≡ a / 4 = omega arith in
+    let c : (a + 1) / 8 ≡ a / 8 = omega arith in
+    let x : (a + 1) / 128 ≡ a / 128 = omega arith in
+    let one : (a + 1) % 4 ≡ 1 = omega arith in (
+      sym (rate-masked (a + 1)) ∙ and-mask (a + 1) 2 ∙ one,
+      sym (type-masked (a + 1)) ∙ ap (λ (n : ℕ). bitAnd n 1) t ∙ type-masked a,
+      sym (count-masked (a + 1)) ∙ ap (λ (n : ℕ). bitAnd n 15) c ∙ count-masked a,
+      sym (exp-shifted (a + 1) s) ∙ x ∙ exp-shifted a h,
+    )
+
+even-xor : (a : ℕ) → a % 4 ≡ 0 → bitXor a 1 ≡ a + 1
+even-xor a z =
+    let e : a ≡ a / 2 * 2 ^ 1 + 0 = omega arith in
+    let f : a / 2 * 2 + 1 ≡ a + 1 = omega arith in
+    ap (λ (n : ℕ). bitXor n 1) e ∙ xor-block 1 (a / 2) 0 0 1 (lit< tt) (lit< tt) ∙ ap (λ (n : ℕ). n * 2 + 1) (xor-zero-r (a / 2)) ∙ f
+
+-- the message of 11 kHz is that of 8 kHz with SampRate's first bit flipped
+pub message-11 : (t c : ℕ) → t < 2 → message 1 t c 0 ≡ bitXor (message 0 t c 0) 1
+message-11 t c l =
+    let a = message 0 t c 0 in
+    let h : a < 2 ^ 16 = message-lt 0 t c 0 in
+    let z : rateOf a ≡ 0 = rate-back 0 t c 0 in
+    let r : a % 4 ≡ 0 = sym (and-mask a 2) ∙ rate-masked a ∙ z in
+    let p = rate-on a h z in
+    sym (even-xor a r ∙ sym (message-back (a + 1) (omega arith)) ∙ ap₂ (λ (x y : ℕ). message x y (countOf (a + 1)) (expOf (a + 1))) (p .0) (p .1 ∙ type-back 0 t c 0)
+    ∙ ap₂ (message 1 (t % 2)) (p .2 ∙ count-back 0 t c 0) (p .3 ∙ exp-back 0 t c 0) ∙ count-mod 1 (t % 2) c 0 ∙ ap (λ (n : ℕ). message 1 n c 0) (mod-eq-of-lt l))
+
+-- the codeword of SampRate 1 alone, 01 00 01 D1: the bits in which every header of 11 kHz differs from that of 8 kHz
+abbrev pub rateBits : ℕ
+rateBits = 0xD1010001
+
+-- six of them
+pub six-flipped : ones rateBits ≡ 6
+unfolding onesIn
+six-flipped = sym (ones-in 32 rateBits (lit< tt))
+
+-- it is that
+pub rate-codeword : codeword 1 ≡ rateBits
+rate-codeword = by (codeword 1) rate-1
+  where
+    -- from its four octets
+    sum : (w x y z a b c : ℕ) → x * 256 + a ≡ w → y * 256 + b ≡ x → z * 256 + c ≡ y → a ≡ 0x01 → b ≡ 0x00 → c ≡ 0x01 → z ≡ 0xD1 → w ≡ rateBits
+    sum w x y z a b c f g h ea eb ec ez = omega arith
+
+    by : (w : ℕ) → octets w ≡ 0x01 ∷ 0x00 ∷ 0x01 ∷ 0xD1 ∷ [] → w ≡ rateBits
+    by w e =
+        let y : w / 256 / 256 ≡ w / 65536 = div-div-eq-div-mul w 256 256 in
+        let z : w / 256 / 256 / 256 ≡ w / 16777216 = ap (λ (n : ℕ). n / 256) y ∙ div-div-eq-div-mul w 65536 256 in
+        sum w (w / 256) (w / 256 / 256) (w / 256 / 256 / 256) (w % 256) (w / 256 % 256) (w / 256 / 256 % 256) (div-add-mod' w 256) (div-add-mod' (w / 256) 256)
+        (div-add-mod' (w / 256 / 256) 256) (ap (λ (l : List ℕ). getD l 0 0) e) (ap (λ (l : List ℕ). getD l 1 0) e)
+        (ap (λ (n : ℕ). n % 256) y ∙ ap (λ (l : List ℕ). getD l 2 0) e) (z ∙ ap (λ (l : List ℕ). getD l 3 0) e)
+
+module _ (u : Utterance) (eight : u .rate ≡ 0) where
+  -- each header of 11 kHz is that of 8 kHz with these bits flipped
+  pub word-11 : (k : ℕ) → codeword (sentMessage (at11 u) k) ≡ bitXor (codeword (sentMessage u k)) rateBits
+  word-11 k =
+      ap codeword (message-11 (u .kind) (k + 1) (kind-small u))
+      ∙ codeword-xor (message 0 (u .kind) (k + 1) 0) 1 (message-lt 0 (u .kind) (k + 1) 0) (lit< tt)
+      ∙ ap₂ (λ (r w : ℕ). bitXor (codeword (message r (u .kind) (k + 1) 0)) w) (sym eight) rate-codeword
+
+  -- an image of 8 kHz with any flips in its headers is one of 11 kHz with these
+  pub seen-at-11 : (e : ℕ → ℕ) (f : ℕ → List Bool) → flipped u e f ≡ flipped (at11 u) (λ k. bitXor (e k) rateBits) f
+  seen-at-11 e f =
+      same-joined (λ k. framed (flippedWord u e f k) (packed f k)) (λ k. framed (flippedWord (at11 u) (λ k. bitXor (e k) rateBits) f k) (packed f k)) (multiframesOf u)
+      (λ k h. ap (λ (w : ℕ). framed w (packed f k)) (same k))
+    where
+      same : (k : ℕ) → flippedWord u e f k ≡ flippedWord (at11 u) (λ k. bitXor (e k) rateBits) f k
+      same k =
+          let a = codeword (sentMessage u k) in
+          sym (ap (λ (w : ℕ). bitXor w (bitXor (e k) rateBits)) (word-11 k) ∙ xor-swap a rateBits (e k) rateBits ∙ ap (bitXor (bitXor a (e k))) (xor-self rateBits)
+          ∙ xor-zero-r (bitXor a (e k)))
+
+  -- so its headers are that far from those of 11 kHz
+  pub flips-at-11 : (e : ℕ → ℕ) (f : ℕ → List Bool) → ((k : ℕ) → e k < 2 ^ 32) → (k : ℕ) → k < multiframesOf u
+      → headerFlips (imageOf (at11 u)) (flipped u e f) k ≡ ones (bitXor (e k) rateBits)
+  flips-at-11 e f small k h =
+      ap (λ (s : List ℕ). headerFlips (imageOf (at11 u)) s k) (seen-at-11 e f)
+      ∙ flips-are (at11 u) (λ k. bitXor (e k) rateBits) f (λ k. xor-lt 32 (e k) rateBits (small k) (lit< tt)) k h
+
+  -- a header that is read as that of 11 kHz is noted for it
+  pub noted-11 : (k n : ℕ) → headerNote (sentCommon u) k (Codeword (sentMessage (at11 u) k) n) ≡ n + 8
+  unfolding headerNote
+  noted-11 k n =
+      let z : n + 0 + 8 ≡ n + 8 = omega arith in
+      rw (
+        eq-eqb (countOf (sentMessage (at11 u) k)) ((k + 1) % 16) (count-back 1 (u .kind) (k + 1) 0),
+        ne-eqb (commonBits (sentMessage (at11 u) k)) (sentCommon u) (λ q.
+            let y : _≡_ {A = ℕ} 0 1 = sym (rate-sent u ∙ eight) ∙ ap rateOf (sym q) ∙ ap rateOf (common-sent (at11 u) k) ∙ rate-sent (at11 u) in omega arith),
+      ) z
+
+-- ---- the headers as they are read
+-- header k in order
+pub header-at : (s : List ℕ) (m k : ℕ) → k < m → getD (readings s (rowOf m)) k Lost ≡ H.reading (wordIn s k)
+header-at s m k h = ap (λ (l : List Header). getD l k Lost) (readings-are s m) ∙ each-at (λ k. H.reading (wordIn s k)) m k Lost h
+
+-- with at most two flips it has the common bits sent
+pub has-common : (u : Utterance) (s : List ℕ) (k : ℕ) → k < multiframesOf u → headerFlips (imageOf u) s k ≤ 2 → Has (readings s (rowOf (multiframesOf u))) k (sentCommon u)
+has-common u s k h few =
+    subst (Has (readings s (rowOf (multiframesOf u))) k) (common-sent u k)
+    (read-has (readings s (rowOf (multiframesOf u))) k (sentMessage u k) (headerFlips (imageOf u) s k) (header-at s (multiframesOf u) k h ∙ header-read u s k h few))
+
+-- and these are settings that can be used
+pub usable : (u : Utterance) → Usable (sentCommon u)
+usable u = record { rate = λ e. rate-not-2 u (sym (rate-sent u) ∙ e); exp = exp-sent u }
+
+-- ---- a reading with any headers that settle settings, and a good pair
+module _ (u : Utterance) (s : List ℕ) (size : length s ≡ length (imageOf u)) (syncs : (k : ℕ) → k < multiframesOf u → syncIn s k ≡ syncIn (imageOf u) k)
+    (codebook thresholds : List ℤ) (index report : List ℕ) (lent : Lent (multiframesOf u) codebook thresholds index report) (c : ℕ) where
+  abbrev m : ℕ
+  m = multiframesOf u
+
+  abbrev ns : List ℕ
+  ns = pairNotes s (rowOf m) codebook thresholds
+
+  -- it succeeds, and this is what it gives
+  pub reads-settled : settling (readings s (rowOf (multiframesOf u))) ≡ Settled c → Usable c → Good (pairNotes s (rowOf (multiframesOf u)) codebook thresholds)
+      → reading s codebook thresholds index report
+      ≡ outcome (Read (summary s (rowOf (multiframesOf u)) (pairNotes s (rowOf (multiframesOf u)) codebook thresholds) c))
+      (over index 0 (indexOctets * length (rowOf (multiframesOf u))) (indexPart s (rowOf (multiframesOf u)) (pairNotes s (rowOf (multiframesOf u)) codebook thresholds)))
+      (over report 0 (reportOctets * length (rowOf (multiframesOf u))) (reportPart s (rowOf (multiframesOf u)) (pairNotes s (rowOf (multiframesOf u)) codebook thresholds) c))
+  reads-settled settled usable good =
+      let rows : length (rowOf m) ≡ m = every-length 0 m in
+      reads-as s m (few-multiframes (u .rate) (u .kind) (u .indices) (is-accepted u .sizes)) (size ∙ length-image (u .rate) (u .kind) (u .indices) m)
+      (λ k h. syncs k h ∙ image-sync (u .rate) (u .kind) (u .indices) m k h) codebook thresholds index report c (omega arith) lent
+      record {
+        settles = settled;
+        usable = usable;
+        roomy = record {
+          index-room = subst (λ (n : ℕ). indexOctets * n ≤ length index) (sym rows) (lent .index-room);
+          report-room = subst (λ (n : ℕ). reportOctets * n ≤ length report) (sym rows) (lent .report-room);
+          not-all = λ e. none-good ns (e ∙ sym (length-notes s (rowOf m) codebook thresholds)) (good .pair) (good .within) (good .good);
+        };
+      }
+
+-- ---- tables of zeros, and just enough room
+abbrev pub zeroRead : Utterance → List ℕ → Outcome
+zeroRead u s = reading s zeroBook zeroThresholds (indexFor (multiframesOf u)) (reportFor (multiframesOf u))
+
+abbrev pub zeroNotes : Utterance → List ℕ → List ℕ
+zeroNotes u s = pairNotes s (rowOf (multiframesOf u)) zeroBook zeroThresholds
+
+-- a pair whose CRC is right has note 0, whatever stands around it
+module _ (s : List ℕ) (m q : ℕ) (h : q < multiframePairs * m) (whole : right dataBits (packetIn s q) ≡ true) where
+  never-fails : pairFails s (rowOf m) q ≡ false
+  unfolding pairFails
+  never-fails = ap (λ (p : List Bool). not (right dataBits p)) (packet-at s m q h) ∙ ap not whole
+
+  never-odd : pairOdd s (rowOf m) zeroBook zeroThresholds q ≡ false
+  unfolding pairOdd
+  never-odd = zero-consistent (take frameIndices (framesOf s (rowOf m) q)) (drop frameIndices (framesOf s (rowOf m) q))
+
+  pub right-good : getD (pairNotes s (rowOf m) zeroBook zeroThresholds) q 0 ≡ 0
+  unfolding pairNotes
+  right-good =
+      let n = pairCount (rowOf m) in
+      let fs = each (pairFails s (rowOf m)) n in
+      let os = each (pairOdd s (rowOf m) zeroBook zeroThresholds) n in
+      let l : q < n = omega (arith, every-length 0 m) in
+      note-at false fs os q (omega (arith, length-each (pairFails s (rowOf m)) n))
+      ∙ ap₂ (λ (x y : Bool). noteBy (badBefore false (notes fs os) q) x y (getD fs (suc q) false)) (each-at (pairFails s (rowOf m)) n q false l ∙ never-fails)
+      (each-at (pairOdd s (rowOf m) zeroBook zeroThresholds) n q false l ∙ never-odd)
+      ∙ consistent-is-good (badBefore false (notes fs os) q) (getD fs (suc q) false)
+
+  -- so there is a good one
+  pub good-pair : Good (pairNotes s (rowOf m) zeroBook zeroThresholds)
+  good-pair = record { pair = q; within = omega (arith, length-notes s (rowOf m) zeroBook zeroThresholds, every-length 0 m); good = right-good }
+
+-- so a pair that is as it was sent is not bad, and is not named
+module _ (u : Utterance) (s : List ℕ) (q : ℕ) (whole : packetIn s q ≡ packetIn (imageOf u) q) where
+  never-ruled : ByRule u s zeroBook zeroThresholds q → ⊥
+  never-ruled r = true-false (sym (r .0) ∙ zero-consistent (frameAt (u .indices) (firstFrame q)) (frameAt (u .indices) (secondFrame q)))
+
+  pub zero-not-bad : BadPair u s zeroBook zeroThresholds q → ⊥
+  zero-not-bad b = ⊎-elim (λ t. t whole) never-ruled b
+
+  pub zero-unnamed : q < pairsOf u → N.Wider u s zeroBook zeroThresholds (indexFor (multiframesOf u)) (reportFor (multiframesOf u)) → pairNoteIn (zeroRead u s .report) q ≡ 0
+  zero-unnamed h p =
+      let x = N.names-wider u s zeroBook zeroThresholds (indexFor (multiframesOf u)) (reportFor (multiframesOf u)) p in
+      elim (ℕ-discrete (pairNoteIn (zeroRead u s .report) q) 0) [
+        | yes y ↦ y
+        | no n ↦ absurd (never-ruled (x .names .others q h (λ t. t whole) .0 n))
+      ]

@@ -1,0 +1,811 @@
+-- Why the premises of what the yards are told are there: without each of them the sentence is false, and this is what happens instead.
+-- Assumes nothing.
+use mathlib.Core.Path.{_≡_, refl, sym, ap, ap₂, _∙_, subst}
+use mathlib.Core.Bool.{Bool, true, false}
+use mathlib.Core.List.{List, [], _∷_, _++_}
+use mathlib.Core.Logic.{_⊎_, inl, inr}
+use Prim.Native.Nat.{ℕ, zero, suc, _+_, _-_, _*_, _^_, _≤_, _<_}
+use native.Mathlib.Nat.{le-of-eq}
+use native.Mathlib.Decide.{ℕ-discrete, decLt}
+use native.Mathlib.Omega.{arith}
+use lib.Bits.{bitXor, xor-comm, xor-self}
+use lib.Count.{ones, onesIn}
+use lib.Dec.{eqb, leb, lit<}
+use lib.IntN.{ℤ}
+use borrow.Author.Tests.{eq-eqb, ne-eqb, le-leb, lt-leb}
+use lib.ListN.{length, getD, drop, replicate, length-append}
+use lib.Seq.{getD-take}
+use Rattle.gf2.specs.Light.{ones-in}
+use Rattle.gf2.specs.Xor.{xor-twice}
+use Rattle.lists.specs.Tests.{when, by-test, true-false}
+use Rattle.lists.specs.Parts.{part, part-left, part-right}
+use Rattle.lists.specs.Rows.{each}
+use Rattle.layout.specs.Layout.{frameIndices, dataBits, multiframeFrames, multiframePairs, multiframeOctets, syncOctets, headerOctets, streamOctets, packetBits, pairOf, firstFrame, secondFrame, firstPair}
+use Rattle.bits.specs.Bits.{value, bits}
+use Rattle.crc.specs.Crc.{right}
+use Rattle.packet.specs.Packet.{frameAt, packetOf}
+use Rattle.packet.specs.Laws.{getD-row, row-past, packetOf-good}
+use Rattle.cutting.specs.Cutting.{Cutting, whole, cutting, syncFirst, syncSecond, inverseFirst, inverseSecond}
+use Rattle.cutting.specs.Laws.{every-length, multiframe, inverse, octetsOf, placesOf, Proper, cut-chunks}
+use Rattle.header_code.specs.Code.{codeword}
+use Rattle.header.specs.Message.{message}
+use Rattle.header.specs.declared.Header.{Header}
+use Rattle.header.specs.declared.Header.the-variants.{Codeword, Lost}
+use Rattle.settling.specs.Settling.{readings, settling, firstAgreeing, onlyOne}
+use Rattle.settling.specs.Laws.{only-clean}
+use Rattle.settling.specs.declared.Settings.the-variants as Set
+use Rattle.pairs.specs.Pairs.{pairCount, allFrames, pairNotes}
+use Rattle.pairs.specs.Laws.{length-notes, length-all}
+use Rattle.judging.specs.Judging.{badPairs}
+use Rattle.judging.specs.Laws.{Good, none-good}
+use Rattle.replacing.specs.Replacing.{frameBefore, frameAfter, source}
+use Rattle.replacing.specs.Laws.{Run, at-the-end, first-half, second-half, frame-replaced}
+use Rattle.replacing.specs.Speech.{allZero, zeroFrame, lastNonzero, speechOf, endOf, place-le, zero-behind, nonzero-at, place-stop}
+use Rattle.reader.specs.Reading.{indexPart, summary, finished, Outcome, outcome, reading}
+use Rattle.reader.specs.ReadingLaws.{Fitting, accepting}
+use Rattle.reader.specs.declared.Verdict.{Verdict}
+use Rattle.reader.specs.declared.Summary.{Summary}
+use Rattle.reader.specs.declared.Refusal.the-variants.{Unsettled}
+use Rattle.reader.specs.declared.Answer.the-variants.{Read, Refused}
+use Rattle.writer.specs.Writing.{frameCount, needed, image}
+use Rattle.writer.specs.Laws.{few-multiframes, length-image}
+use Rattle.writer.specs.Made.{syncIn, wordIn, packetIn}
+use Rattle.writer.specs.Image.{image-sync, image-word, image-packet, image-small, Nonzero, last-speaks, Utterance, multiframesOf, pairsOf, imageOf, is-accepted, whole-frames}
+use Rattle.demands.specs.Damage.{DamageUpTo, headerBits, loosened, headerFlips, sentMessage, header-read}
+use Rattle.demands.specs.Whole.{rowOf, Lent, headerNoteIn, pairNoteIn, all-zero-at, readings-are, refuses-16}
+use Rattle.demands.specs.Headers.{sentCommon, common-sent, TwoReadable, heardAs, headers-read}
+use Rattle.demands.specs.Received.{BadPair, touched-note}
+use Rattle.demands.specs.NamesTheDamage as N
+use Rattle.demands.specs.ReadsBack.{spoken, reads-image, reads-mended}
+use Rattle.demands.specs.ToldApart.{Alike}
+use Rattle.demands.specs.Instances.{lone, says1}
+use Rattle.demands.specs.Met.{zeroBook, zeroThresholds, indexFor, reportFor, lent-zeros, says24, two-multiframes, rate-24, kind-24, frames-24}
+use Rattle.demands.specs.Needed.{eighth, saysEighth, Passes15, passes-15, halfway}
+use Rattle.promises.specs.Misled as M
+use Rattle.promises.specs.Trusted as T
+use Rattle.promises.specs.Flipped.{flipped, flipped-size, flipped-syncs, flips-are, flipped-damage, sent-whole, sent-damage, at11, rateBits, none-flipped}
+use Rattle.promises.specs.Flipped.{two-flipped, three-flipped, six-flipped, word-11, seen-at-11, flips-at-11, hit, length-hit, hit-fates, told-touched, untold-whole}
+use Rattle.promises.specs.Flipped.{zeroRead, zeroNotes, right-good, good-pair, usable, zero-not-bad, zero-unnamed}
+use Rattle.promises.specs.Met.{says48, three-multiframes, rate-48, without-warning, lostOne, heard-met, none-named, heard, inSecond, in-second-lt, flips-in-second, flips-in-others, Harmless, harmless}
+
+-- ---- NEVER MISLED NEEDS ITS LIMITS ON FLIPS: all premises hold but that on headers, not even a packet is damaged, and 8 kHz is read as 11 kHz
+pub record Misleads (u : Utterance) (s : List ℕ) (flips : ℕ) (codebook thresholds : List ℤ) (index report : List ℕ) : Type 0 where
+  pub size : length s ≡ length (imageOf u)
+  pub syncs : (k : ℕ) → k < multiframesOf u → syncIn s k ≡ syncIn (imageOf u) k
+  pub packets : (q : ℕ) → q < pairsOf u → packetIn s q ≡ packetIn (imageOf u) q
+  pub each-header : (k : ℕ) → k < multiframesOf u → headerFlips (imageOf u) s k ≡ flips
+  pub unmet : M.AllButOne u s ⊎ M.OnlyFive u s → ⊥
+  pub succeeds : reading s codebook thresholds index report .answer ≡ Read (spoken (at11 u))
+  pub misled : M.AsSent u s (spoken (at11 u)) → ⊥
+
+-- four of the six bits in which the two rates differ: so two are left to 11 kHz
+abbrev pub fourBits : ℕ
+fourBits = 0x11010001
+
+pub four-flipped : ones fourBits ≡ 4
+unfolding onesIn
+four-flipped = sym (ones-in 32 fourBits (lit< tt))
+
+pub four-to-11 : ones (bitXor fourBits rateBits) ≡ 2
+unfolding onesIn
+four-to-11 = sym (ones-in 32 0xC0000000 (lit< tt))
+
+abbrev pub fourOff : Utterance → List ℕ
+fourOff u = flipped u (λ k. fourBits) (packetOf (u .indices))
+
+module _ (u : Utterance) (eight : u .rate ≡ 0) where
+  -- what is then read as 11 kHz is not as sent
+  not-sent : (s : List ℕ) → M.AsSent u s (spoken (at11 u)) → ⊥
+  not-sent s x = let z : _≡_ {A = ℕ} 1 0 = x .rate ∙ eight in omega arith
+
+  module _ (codebook thresholds : List ℤ) (index report : List ℕ) (lent : Lent (multiframesOf u) codebook thresholds index report) where
+    four-read : 2 ≤ multiframesOf u → reading (fourOff u) codebook thresholds index report .answer ≡ Read (spoken (at11 u))
+    four-read two =
+        let e : ℕ → ℕ = λ k. bitXor fourBits rateBits in
+        let lt : (k : ℕ) → e k < 2 ^ 32 = λ k. lit< tt in
+        ap (λ (s : List ℕ). reading s codebook thresholds index report .answer) (seen-at-11 u eight (λ k. fourBits) (packetOf (u .indices)))
+        ∙ ap (λ (o : Outcome). o .answer)
+        (reads-mended (at11 u) (flipped (at11 u) e (packetOf (u .indices))) (sent-damage (at11 u) e lt 2 (λ k h. le-of-eq four-to-11)) (sent-whole (at11 u) e lt) (inl two)
+        codebook thresholds index report lent)
+
+    -- HEADERS OF FOUR FLIPS MISLEAD: two multiframes or more
+    pub four-mislead : 2 ≤ multiframesOf u → Misleads u (fourOff u) 4 codebook thresholds index report
+    four-mislead two =
+        let size = flipped-size u (λ k. fourBits) (packetOf (u .indices)) in
+        let syncs = flipped-syncs u (λ k. fourBits) (packetOf (u .indices)) in
+        record {
+          size = size;
+          syncs = syncs;
+          packets = sent-whole u (λ k. fourBits) (λ k. lit< tt);
+          each-header = λ k h. flips-are u (λ k. fourBits) (packetOf (u .indices)) (λ k. lit< tt) k h ∙ four-flipped;
+          unmet = λ x.
+              not-sent (fourOff u)
+              (M.never-misled u (fourOff u) (record { size = size; syncs = syncs; headers = x }) codebook thresholds index report (spoken (at11 u)) (four-read two));
+          succeeds = four-read two;
+          misled = not-sent (fourOff u);
+        }
+
+    six-read : reading (imageOf (at11 u)) codebook thresholds index report .answer ≡ Read (spoken (at11 u))
+    six-read = ap (λ (o : Outcome). o .answer) (reads-image (at11 u) codebook thresholds index report lent)
+
+    six-each : (k : ℕ) → k < multiframesOf u → headerFlips (imageOf u) (imageOf (at11 u)) k ≡ 6
+    six-each k h =
+        let a = codeword (sentMessage u k) in
+        ap₂ (λ (x y : ℕ). ones (bitXor x y)) (image-word 1 (u .kind) (u .indices) (multiframesOf u) k h ∙ word-11 u eight k)
+        (image-word (u .rate) (u .kind) (u .indices) (multiframesOf u) k h)
+        ∙ ap ones (ap (λ (x : ℕ). bitXor x a) (xor-comm a rateBits) ∙ xor-twice rateBits a) ∙ six-flipped
+
+    -- HEADERS OF SIX FLIPS MISLEAD: the image of 11 kHz itself, six flips from that of 8 kHz in each header and else the same
+    pub six-mislead : Misleads u (imageOf (at11 u)) 6 codebook thresholds index report
+    six-mislead =
+        let m = multiframesOf u in
+        let idx = u .indices in
+        let size = length-image 1 (u .kind) idx m ∙ sym (length-image (u .rate) (u .kind) idx m) in
+        let syncs : (k : ℕ) → k < m → syncIn (imageOf (at11 u)) k ≡ syncIn (imageOf u) k =
+        λ k h. image-sync 1 (u .kind) idx m k h ∙ sym (image-sync (u .rate) (u .kind) idx m k h) in
+        record {
+          size = size;
+          syncs = syncs;
+          packets = λ q h. image-packet 1 (u .kind) idx m q h ∙ sym (image-packet (u .rate) (u .kind) idx m q h);
+          each-header = six-each;
+          unmet = λ x.
+              not-sent (imageOf (at11 u))
+              (M.never-misled u (imageOf (at11 u)) (record { size = size; syncs = syncs; headers = x }) codebook thresholds index report (spoken (at11 u)) six-read);
+          succeeds = six-read;
+          misled = not-sent (imageOf (at11 u));
+        }
+
+-- so two headers of four flips do, of two multiframes
+pub two-of-four : Misleads says24 (fourOff says24) 4 zeroBook zeroThresholds (indexFor (multiframesOf says24)) (reportFor (multiframesOf says24))
+two-of-four =
+    four-mislead says24 rate-24 zeroBook zeroThresholds (indexFor (multiframesOf says24)) (reportFor (multiframesOf says24)) (lent-zeros (multiframesOf says24)) (le-of-eq (sym two-multiframes))
+
+-- and an only header of six
+pub one-of-six : Misleads says1 (imageOf (at11 says1)) 6 zeroBook zeroThresholds (indexFor 1) (reportFor 1)
+one-of-six = six-mislead says1 refl zeroBook zeroThresholds (indexFor 1) (reportFor 1) (lent-zeros 1)
+
+-- ---- NEVER MISLED NEEDS THE LENGTH: the image of a longer utterance with the same settings. All other premises hold, and it has more multiframes
+pub record Lengthens (u v : Utterance) (codebook thresholds : List ℤ) (index report : List ℕ) : Type 0 where
+  pub syncs : (k : ℕ) → k < multiframesOf u → syncIn (imageOf v) k ≡ syncIn (imageOf u) k
+  pub headers : M.AllButOne u (imageOf v) ⊎ M.OnlyFive u (imageOf v)
+  pub succeeds : reading (imageOf v) codebook thresholds index report .answer ≡ Read (spoken v)
+  pub misled : M.AsSent u (imageOf v) (spoken v) → ⊥
+
+module _ (u v : Utterance) (rates : u .rate ≡ v .rate) (kinds : u .kind ≡ v .kind) (longer : multiframesOf u < multiframesOf v) (codebook thresholds : List ℤ) (index report : List ℕ)
+    (lent : Lent (multiframesOf v) codebook thresholds index report) where
+  same-headers : (k : ℕ) → k < multiframesOf u → headerFlips (imageOf u) (imageOf v) k ≡ 0
+  same-headers k h =
+      ap₂ (λ (a b : ℕ). ones (bitXor a b)) (image-word (v .rate) (v .kind) (v .indices) (multiframesOf v) k (omega arith))
+      (image-word (u .rate) (u .kind) (u .indices) (multiframesOf u) k h ∙ ap₂ (λ (a b : ℕ). codeword (message a b (k + 1) 0)) rates kinds)
+      ∙ ap ones (xor-self (codeword (sentMessage v k))) ∙ none-flipped
+
+  near-headers : Dec (multiframesOf u < 2) → M.AllButOne u (imageOf v) ⊎ M.OnlyFive u (imageOf v)
+  near-headers (yes l) = inr (record { single = omega arith; five = omega (arith, same-headers 0 (omega arith)) })
+  near-headers (no n) = inl (record { two = omega arith; but = 0; others = λ k h d. omega (arith, same-headers k h) })
+
+  pub length-misleads : Lengthens u v codebook thresholds index report
+  length-misleads = record {
+    syncs = λ k h. image-sync (v .rate) (v .kind) (v .indices) (multiframesOf v) k (omega arith) ∙ sym (image-sync (u .rate) (u .kind) (u .indices) (multiframesOf u) k h);
+    headers = near-headers (decLt (multiframesOf u) 2);
+    succeeds = ap (λ (o : Outcome). o .answer) (reads-image v codebook thresholds index report lent);
+    misled = λ x. let e = x .multiframes in omega arith;
+  }
+
+-- so one multiframe is taken for two
+pub longer-24 : Lengthens says1 says24 zeroBook zeroThresholds (indexFor (multiframesOf says24)) (reportFor (multiframesOf says24))
+longer-24 =
+    length-misleads says1 says24 (sym rate-24) (sym kind-24) (omega (arith, two-multiframes)) zeroBook zeroThresholds (indexFor (multiframesOf says24)) (reportFor (multiframesOf says24))
+    (lent-zeros (multiframesOf says24))
+
+-- ---- TRUSTED NEEDS ITS LIMITS: read without a warning, and not of the image as written
+pub record Mistrusted (u : Utterance) (s : List ℕ) (given : Summary) : Type 0 where
+  pub warned-of-nothing : T.WithoutWarning s zeroBook zeroThresholds (indexFor (multiframesOf u)) (reportFor (multiframesOf u)) given
+  pub not-written : T.AsWritten u s zeroBook zeroThresholds (indexFor (multiframesOf u)) (reportFor (multiframesOf u)) given → ⊥
+
+-- FIVE: with six flips in each header, and no other damage
+pub six-mistrusted : (u : Utterance) → u .rate ≡ 0
+    → DamageUpTo 6 (multiframesOf u) (imageOf u) (imageOf (at11 u)) × Mistrusted u (imageOf (at11 u)) (spoken (at11 u))
+six-mistrusted u eight =
+    let m = multiframesOf u in
+    let x = six-mislead u eight zeroBook zeroThresholds (indexFor m) (reportFor m) (lent-zeros m) in (
+      record {
+        size = x .size;
+        small = image-small 1 (u .kind) (u .indices) m;
+        syncs = x .syncs;
+        headers = λ k h. le-of-eq (x .each-header k h);
+        packets = λ q h. inl (x .packets q h);
+      },
+      record {
+        warned-of-nothing = without-warning (at11 u) zeroBook zeroThresholds (indexFor m) (reportFor m) (lent-zeros m);
+        not-written = λ w. let z : _≡_ {A = ℕ} 1 0 = ap (λ (g : Summary). g .rate) (w .sent) ∙ eight in omega arith;
+      },
+    )
+
+-- DEMAND 3'S DAMAGE TO PAIRS: with two flips at distance 15 in one packet, and no other damage
+pub fifteen-mistrusted : Passes15 × Mistrusted says1 (imageOf saysEighth) (spoken saysEighth)
+fifteen-mistrusted = (
+  passes-15,
+  record {
+    warned-of-nothing = without-warning saysEighth zeroBook zeroThresholds (indexFor 1) (reportFor 1) (lent-zeros 1);
+    not-written = λ w.
+        passes-15 .different
+        (sym (image-packet 0 0 eighth 1 0 (lit< tt)) ∙ ap (λ (s : List ℕ). packetIn s 0) (w .image) ∙ image-packet 0 0 (lone 1) 1 0 (lit< tt));
+  },
+)
+
+-- THE HEADER NOTES: no pair is damaged and all pair notes are 0, but headers are mended or lost and so not as written
+pub record Unlooked (u : Utterance) : Type 0 where
+  pub premises : T.Premises u (lostOne u)
+  pub succeeds : zeroRead u (lostOne u) .answer ≡ Read (spoken u)
+  pub pair-notes : (q : ℕ) → q < pairsOf u → pairNoteIn (zeroRead u (lostOne u) .report) q ≡ 0
+  pub not-written : T.AsWritten u (lostOne u) zeroBook zeroThresholds (indexFor (multiframesOf u)) (reportFor (multiframesOf u)) (spoken u) → ⊥
+
+pub headers-unlooked : (u : Utterance) → 3 ≤ multiframesOf u → Unlooked u
+headers-unlooked u three =
+    let m = multiframesOf u in
+    let wider = heard-met u three zeroBook zeroThresholds (indexFor m) (reportFor m) (lent-zeros m) in
+    let note = heard u three zeroBook zeroThresholds (indexFor m) (reportFor m) (lent-zeros m) in
+    let flips = N.names-wider u (lostOne u) zeroBook zeroThresholds (indexFor m) (reportFor m) wider .names .flips 0 (omega arith) in
+    record {
+      premises = record { damage = loosened (lit< tt) (wider .damage); header = 0; within = omega arith; five = let l = wider .damage .headers 0 (omega arith) in omega arith };
+      succeeds = note .succeeds;
+      pair-notes = none-named u three zeroBook zeroThresholds (indexFor m) (reportFor m) (lent-zeros m);
+      not-written = λ w.
+          let z : _≡_ {A = ℕ} 2 0 =
+          sym (sym flips ∙ note .first) ∙ ap (λ (s : List ℕ). headerFlips (imageOf u) s 0) (w .image) ∙ ap ones (xor-self (wordIn (imageOf u) 0)) ∙ none-flipped in
+          omega arith;
+    }
+
+-- ---- NAMES THE DAMAGE WIDER NEEDS TWO READABLE HEADERS: of two multiframes, one header has two flips and the other three, and no pair is
+-- damaged. All other premises hold, and the reading is refused with 16, both buffers as they came
+abbrev pub oneReadable : ℕ → ℕ
+oneReadable k = when (eqb k 0) 3 7
+
+one-lt : (k : ℕ) → oneReadable k < 2 ^ 32
+one-lt k = by-test (λ (n : ℕ). n < 2 ^ 32) (eqb k 0) (λ t. lit< tt) (λ t. lit< tt)
+
+one-three : (k : ℕ) → ones (oneReadable k) ≤ 3
+one-three k = by-test (λ (n : ℕ). ones n ≤ 3) (eqb k 0) (λ t. omega (arith, two-flipped)) (λ t. omega (arith, three-flipped))
+
+abbrev pub otherLost : Utterance → List ℕ
+otherLost u = flipped u oneReadable (packetOf (u .indices))
+
+pub record Unsettles (u : Utterance) (s : List ℕ) : Type 0 where
+  pub damage : DamageUpTo 3 (multiframesOf u) (imageOf u) s
+  pub first : headerFlips (imageOf u) s 0 ≡ 2
+  pub second : headerFlips (imageOf u) s 1 ≡ 3
+  pub none-bad : (q : ℕ) → q < pairsOf u → BadPair u s zeroBook zeroThresholds q → ⊥
+  pub refused : zeroRead u s ≡ outcome (Refused Unsettled) (indexFor (multiframesOf u)) (reportFor (multiframesOf u))
+  pub not-named : N.Named u s zeroBook zeroThresholds (indexFor (multiframesOf u)) (reportFor (multiframesOf u)) → ⊥
+
+one-settles-nothing : (m : ℕ) → settling (Codeword m 2 ∷ Lost ∷ []) ≡ Set.Unsettled
+unfolding settling firstAgreeing onlyOne
+one-settles-nothing m = refl
+
+module _ (u : Utterance) (two : multiframesOf u ≡ 2) where
+  abbrev s : List ℕ
+  s = otherLost u
+
+  abbrev m : ℕ
+  m = multiframesOf u
+
+  damaged : DamageUpTo 3 m (imageOf u) s
+  damaged = sent-damage u oneReadable one-lt 3 (λ k h. one-three k)
+
+  flips : (k : ℕ) → k < m → headerFlips (imageOf u) s k ≡ ones (oneReadable k)
+  flips k h = flips-are u oneReadable (packetOf (u .indices)) one-lt k h
+
+  two-heard : heardAs (sentMessage u 0) (headerFlips (imageOf u) s 0) ≡ Codeword (sentMessage u 0) 2
+  two-heard = ap (heardAs (sentMessage u 0)) (flips 0 (omega arith) ∙ two-flipped)
+
+  three-heard : heardAs (sentMessage u 1) (headerFlips (imageOf u) s 1) ≡ Lost
+  three-heard = ap (heardAs (sentMessage u 1)) (flips 1 (omega arith) ∙ three-flipped)
+
+  unsettled : settling (readings s (rowOf m)) ≡ Set.Unsettled
+  unsettled =
+      ap settling (headers-read u s (damaged .headers))
+      ∙ ap (λ (n : ℕ). settling (each (λ k. heardAs (sentMessage u k) (headerFlips (imageOf u) s k)) n)) two
+      ∙ ap₂ (λ (a b : Header). settling (a ∷ b ∷ [])) two-heard three-heard ∙ one-settles-nothing (sentMessage u 0)
+
+  refused : zeroRead u s ≡ outcome (Refused Unsettled) (indexFor m) (reportFor m)
+  refused =
+      refuses-16 s m (few-multiframes (u .rate) (u .kind) (u .indices) (is-accepted u .sizes)) (damaged .size ∙ length-image (u .rate) (u .kind) (u .indices) m)
+      (λ k h. damaged .syncs k h ∙ image-sync (u .rate) (u .kind) (u .indices) m k h) zeroBook zeroThresholds (indexFor m) (reportFor m) (omega arith) (lent-zeros m) unsettled
+
+  pub one-readable-unsettles : Unsettles u (otherLost u)
+  one-readable-unsettles = record {
+    damage = damaged;
+    first = flips 0 (omega arith) ∙ two-flipped;
+    second = flips 1 (omega arith) ∙ three-flipped;
+    none-bad = λ q h. zero-not-bad u s q (sent-whole u oneReadable one-lt q h);
+    refused = refused;
+    not-named = λ x. not-read (x .given) (sym (ap (λ (o : Outcome). o .answer) refused) ∙ x .succeeds);
+  }
+    where
+      not-read : (g : Summary) → Refused Unsettled ≡ Read g → ⊥
+      not-read g e = let z : _≡_ {A = ℕ} 0 1 = cc in omega arith
+
+-- so of 24 frames
+pub unsettled-24 : Unsettles says24 (otherLost says24)
+unsettled-24 = one-readable-unsettles says24 two-multiframes
+
+-- ---- NAMES THE DAMAGE WIDER NEEDS THREE: of three multiframes or more the second header has four flips and is read as one of 11 kHz, and no pair is damaged.
+-- All other premises hold and the settings are those sent, and yet that header's note is 10 and not its number of flips
+pub record Misnotes (u : Utterance) (s : List ℕ) : Type 0 where
+  pub damage : DamageUpTo 4 (multiframesOf u) (imageOf u) s
+  pub headers : TwoReadable u s
+  pub none-bad : (q : ℕ) → q < pairsOf u → BadPair u s zeroBook zeroThresholds q → ⊥
+  pub four : headerFlips (imageOf u) s 1 ≡ 4
+  pub note-is-10 : headerNoteIn (zeroRead u s .report) 1 ≡ 10
+  pub given : Summary
+  pub succeeds : zeroRead u s .answer ≡ Read given
+  pub sent : M.AsSent u s given
+  pub not-named : N.Named u s zeroBook zeroThresholds (indexFor (multiframesOf u)) (reportFor (multiframesOf u)) → ⊥
+
+abbrev pub secondFour : Utterance → List ℕ
+secondFour u = flipped u (inSecond fourBits 0) (packetOf (u .indices))
+
+module _ (u : Utterance) (eight : u .rate ≡ 0) (three : 3 ≤ multiframesOf u) where
+  lt : (k : ℕ) → inSecond fourBits 0 k < 2 ^ 32
+  lt = in-second-lt fourBits 0 (lit< tt) (lit< tt)
+
+  not-hurt : (q : ℕ) → q < pairsOf u → packetIn (secondFour u) q ≡ packetIn (imageOf u) q
+  not-hurt = sent-whole u (inSecond fourBits 0) lt
+
+  harmless-four : Harmless u (secondFour u) 2
+  harmless-four =
+      harmless u fourBits 0 (lit< tt) (lit< tt) (packetOf (u .indices)) eight three (omega (arith, none-flipped)) 2 four-to-11 (omega arith) 0 (omega arith)
+      (ap (right dataBits) (not-hurt 0 (omega arith) ∙ image-packet (u .rate) (u .kind) (u .indices) (multiframesOf u) 0 (omega arith)) ∙ packetOf-good (u .indices) 0)
+
+  none : (k : ℕ) → k < multiframesOf u → (k ≡ 1 → ⊥) → headerFlips (imageOf u) (secondFour u) k ≡ 0
+  none k h n = flips-in-others u fourBits 0 (lit< tt) (lit< tt) (packetOf (u .indices)) k h n ∙ none-flipped
+
+  four-there : headerFlips (imageOf u) (secondFour u) 1 ≡ 4
+  four-there = flips-in-second u fourBits 0 (lit< tt) (lit< tt) (packetOf (u .indices)) (omega arith) ∙ four-flipped
+
+  pub four-misnotes : Misnotes u (secondFour u)
+  four-misnotes = record {
+    damage = sent-damage u (inSecond fourBits 0) lt 4 (λ k h. by-test (λ (n : ℕ). ones n ≤ 4) (eqb k 1) (λ t. le-of-eq four-flipped) (λ t. omega (arith, none-flipped)));
+    headers = record {
+      one = 0;
+      two = 2;
+      order = lit< tt;
+      within = omega arith;
+      few-of-one = omega (arith, none 0 (omega arith) (λ e. omega arith));
+      few-of-two = omega (arith, none 2 (omega arith) (λ e. omega arith));
+    };
+    none-bad = λ q h. zero-not-bad u (secondFour u) q (not-hurt q h);
+    four = four-there;
+    note-is-10 = harmless-four .noted;
+    given = harmless-four .given;
+    succeeds = harmless-four .succeeds;
+    sent = harmless-four .sent;
+    not-named = λ x. let z : _≡_ {A = ℕ} 10 4 = sym (harmless-four .noted) ∙ x .names .flips 1 (omega arith) ∙ four-there in omega arith;
+  }
+
+-- so of 48 frames
+pub misnoted-48 : Misnotes says48 (secondFour says48)
+misnoted-48 = four-misnotes says48 rate-48 (le-of-eq (sym three-multiframes))
+
+-- ---- TOLD APART BY ONE HEADER NEEDS FIVE: the same frames at 8 and at 11 kHz, and octets whose headers are halfway between. All other premises
+-- hold, each header's flips add up to six, and the settings are not equal
+pub record Confused (u : Utterance) (s : List ℕ) : Type 0 where
+  pub one : DamageUpTo headerBits (multiframesOf u) (imageOf u) s
+  pub other : DamageUpTo headerBits (multiframesOf (at11 u)) (imageOf (at11 u)) s
+  pub six : (k : ℕ) → k < multiframesOf u → headerFlips (imageOf u) s k + headerFlips (imageOf (at11 u)) s k ≡ 6
+  pub not-alike : Alike u (at11 u) s s → ⊥
+
+half-8 : ones halfway ≡ 3
+unfolding onesIn
+half-8 = sym (ones-in 32 halfway (lit< tt))
+
+half-11 : ones (bitXor halfway rateBits) ≡ 3
+unfolding onesIn
+half-11 = sym (ones-in 32 0xD0000000 (lit< tt))
+
+pub six-confuse : (u : Utterance) → u .rate ≡ 0 → Confused u (flipped u (λ k. halfway) (packetOf (u .indices)))
+six-confuse u eight =
+    let f = packetOf (u .indices) in
+    let s = flipped u (λ k. halfway) f in
+    let e : ℕ → ℕ = λ k. bitXor halfway rateBits in
+    record {
+      one = sent-damage u (λ k. halfway) (λ k. lit< tt) headerBits (λ k h. omega (arith, half-8));
+      other = subst (DamageUpTo headerBits (multiframesOf u) (imageOf (at11 u))) (sym (seen-at-11 u eight (λ k. halfway) f))
+          (sent-damage (at11 u) e (λ k. lit< tt) headerBits (λ k h. omega (arith, half-11)));
+      six = λ k h. omega (arith, flips-are u (λ k. halfway) f (λ k. lit< tt) k h, half-8, flips-at-11 u eight (λ k. halfway) f (λ k. lit< tt) k h, half-11);
+      not-alike = λ a. let z : _≡_ {A = ℕ} 0 1 = sym eight ∙ a .rates in omega arith;
+    }
+
+-- ---- LAST HEARD NEEDS THE LAST MULTIFRAME UNNAMED: the frames fill all multiframes but the last, which is padding, and of that the pairs up to b
+-- are damaged. All headers are whole, and tables of zeros make no other pair bad
+only-first : (l : List ℕ) (i n : ℕ) → 0 < n → zeroFrame l (i + 0) ≡ false → ((k : ℕ) → 0 < k → k < n → zeroFrame l (i + k) ≡ true) → lastNonzero l i n ≡ 1
+only-first l i n some first others = by (lastNonzero l i n) refl
+  where
+    by : (x : ℕ) → lastNonzero l i n ≡ x → lastNonzero l i n ≡ 1
+    by zero e = absurd (true-false (sym (zero-behind l i n 0 (omega arith) some) ∙ first))
+    by (suc zero) e = e
+    by (suc (suc k)) e =
+        let h = place-le l i n in
+        absurd (true-false (sym (others (suc k) (omega arith) (omega arith)) ∙ nonzero-at l i n (suc k) e))
+
+-- a frame that speaks is not zero
+speaks : (u : Utterance) (k : ℕ) → k + 1 ≡ frameCount (u .indices) → allZero (frameAt (u .indices) k) ≡ false
+speaks u k e = by (allZero (frameAt (u .indices) k)) refl
+  where
+    x : Nonzero (u .indices) k
+    x = last-speaks (u .rate) (u .kind) (u .indices) (needed (u .indices)) (needed (u .indices)) (is-accepted u) k e
+
+    by : (t : Bool) → allZero (frameAt (u .indices) k) ≡ t → allZero (frameAt (u .indices) k) ≡ false
+    by true z = absurd (x .nonzero (sym (getD-row (u .indices) (frameIndices * k) frameIndices (x .place) (x .within)) ∙ all-zero-at (frameAt (u .indices) k) (x .place) z))
+    by false z = z
+
+-- the first pair of the last multiframe
+abbrev pub lastFirst : Utterance → ℕ
+lastFirst u = firstPair (multiframesOf u - 1)
+
+module _ (u : Utterance) (two : 2 ≤ multiframesOf u) (full : frameCount (u .indices) ≡ multiframeFrames * (multiframesOf u - 1)) (t : ℕ → Bool) (b : ℕ)
+    (some : lastFirst u < b) (most : b ≤ pairsOf u) (inside : (q : ℕ) → lastFirst u ≤ q → q < b → t q ≡ true) (before : (q : ℕ) → q < lastFirst u → t q ≡ false)
+    (behind : (q : ℕ) → b ≤ q → q < pairsOf u → t q ≡ false) where
+  abbrev got : List ℕ
+  got = flipped u (λ k. 0) (hit u t)
+
+  abbrev ms : ℕ
+  ms = multiframesOf u
+
+  abbrev r : ℕ
+  r = lastFirst u
+
+  abbrev ns : List ℕ
+  ns = zeroNotes u got
+
+  abbrev all : List ℕ
+  all = indexPart got (rowOf ms) ns
+
+  still : (k : ℕ) → k < ms → headerFlips (imageOf u) got k ≡ 0
+  still k h = flips-are u (λ k. 0) (hit u t) (λ k. lit< tt) k h ∙ none-flipped
+
+  as-sent : (q : ℕ) → q < pairsOf u → t q ≡ false → packetIn got q ≡ packetIn (imageOf u) q
+  as-sent = untold-whole u t (λ k. 0) (λ k. lit< tt)
+
+  wide : N.Wider u (flipped u (λ k. 0) (hit u t)) zeroBook zeroThresholds (indexFor (multiframesOf u)) (reportFor (multiframesOf u))
+  wide = record {
+    damage = flipped-damage u (λ k. 0) (hit u t) (λ k. lit< tt) (length-hit u t) 3 (λ k h. omega (arith, none-flipped)) (λ q h. hit-fates u t q);
+    headers = inl (record {
+      one = 0;
+      two = 1;
+      order = lit< tt;
+      within = omega arith;
+      few-of-one = omega (arith, still 0 (omega arith));
+      few-of-two = omega (arith, still 1 (omega arith));
+    });
+    pair = 0;
+    within = omega arith;
+    not-bad = zero-not-bad u got 0 (as-sent 0 (omega arith) (before 0 (omega arith)));
+    lent = lent-zeros (multiframesOf u);
+  }
+
+  notes-size : length ns ≡ pairsOf u
+  notes-size = length-notes got (rowOf ms) zeroBook zeroThresholds ∙ ap (λ (n : ℕ). multiframePairs * n) (every-length 0 ms)
+
+  good-at : (q : ℕ) → q < pairsOf u → t q ≡ false → getD ns q 0 ≡ 0
+  good-at q h e =
+      right-good got ms q h (ap (right dataBits) (as-sent q h e ∙ image-packet (u .rate) (u .kind) (u .indices) ms q h) ∙ packetOf-good (u .indices) q)
+
+  bad-at : (q : ℕ) → q < pairsOf u → t q ≡ true → getD ns q 0 ≡ 1
+  bad-at q h e = touched-note u got (wide .damage) zeroBook zeroThresholds q h (told-touched u t (λ k. 0) (λ k. lit< tt) q h e)
+
+  run : Run ns r b
+  run = record {
+    some = some;
+    within = omega (arith, notes-size);
+    bad = λ q h l z. let e : _≡_ {A = ℕ} 0 1 = sym z ∙ bad-at q (omega arith) (inside q h l) in omega arith;
+    start = inr (good-at (r - 1) (omega arith) (before (r - 1) (omega arith)));
+    stop = elim (ℕ-discrete b (pairsOf u)) [ yes e ↦ inl (e ∙ sym notes-size) | no n ↦ inr (good-at b (omega arith) (behind b (omega arith) (omega arith))) ];
+  }
+
+  some-good : Good ns
+  some-good = record { pair = 0; within = omega (arith, notes-size); good = good-at 0 (omega arith) (before 0 (omega arith)) }
+
+  -- each frame is the one that stands in for it
+  frame-is : (i : ℕ) → i < multiframeFrames * ms → part (frameIndices * i) frameIndices all ≡ part (frameIndices * source ns i) frameIndices (allFrames got (rowOf ms))
+  frame-is i h =
+      frame-replaced ns some-good (allFrames got (rowOf ms)) i (omega (arith, notes-size, length-all got (rowOf ms), every-length 0 ms)) (omega (arith, notes-size))
+
+  -- which is the last frame sent, where it is taken from before
+  from-before : (i : ℕ) → i < multiframeFrames * ms → source ns i ≡ frameBefore r → zeroFrame all i ≡ false
+  unfolding zeroFrame
+  from-before i h e =
+      let z : frameBefore r ≡ secondFrame (r - 1) = omega arith in
+      ap allZero
+      (frame-is i h ∙ ap (λ (k : ℕ). part (frameIndices * k) frameIndices (allFrames got (rowOf ms))) (e ∙ z)
+      ∙ N.frame-in-pair u got zeroBook zeroThresholds (indexFor ms) (reportFor ms) wide (r - 1) (omega arith) (good-at (r - 1) (omega arith) (before (r - 1) (omega arith))) .1)
+      ∙ speaks u (secondFrame (r - 1)) (omega arith)
+
+  -- and zero where it is taken from behind, or is a good pair's
+  from-behind : (i : ℕ) → i < multiframeFrames * ms → source ns i ≡ frameAfter b → b < pairsOf u → zeroFrame all i ≡ true
+  unfolding zeroFrame
+  from-behind i h e l =
+      ap allZero
+      (frame-is i h ∙ ap (λ (k : ℕ). part (frameIndices * k) frameIndices (allFrames got (rowOf ms))) e
+      ∙ N.frame-in-pair u got zeroBook zeroThresholds (indexFor ms) (reportFor ms) wide b l (good-at b l (behind b (omega arith) l)) .0
+      ∙ row-past (u .indices) (frameIndices * firstFrame b) frameIndices (omega (arith, whole-frames u)))
+
+  good-silent : (i : ℕ) → firstFrame b ≤ i → i < multiframeFrames * ms → zeroFrame all i ≡ true
+  unfolding zeroFrame
+  good-silent i l h =
+      ap allZero
+      (N.index-frame u got zeroBook zeroThresholds (indexFor ms) (reportFor ms) wide i h (good-at (pairOf i) (omega arith) (behind (pairOf i) (omega arith) (omega arith)))
+      ∙ row-past (u .indices) (frameIndices * i) frameIndices (omega (arith, whole-frames u)))
+
+  given-is : zeroRead u got .answer ≡ Read (summary got (rowOf ms) ns (sentCommon u))
+  given-is = ap (λ (o : Outcome). o .answer) (N.read-is u got zeroBook zeroThresholds (indexFor ms) (reportFor ms) wide)
+
+  speech-is : (n : ℕ) → lastNonzero all (multiframeFrames * (ms - 1)) multiframeFrames ≡ n → summary got (rowOf ms) ns (sentCommon u) .speech ≡ frameCount (u .indices) + n
+  speech-is n e =
+      ap (λ (k : ℕ). speechOf k all) (every-length 0 ms) ∙ ap₂ _+_ (sym full) e
+
+  end-is : (x : Bool) → zeroFrame all (multiframeFrames * ms - 1) ≡ x → summary got (rowOf ms) ns (sentCommon u) .end ≡ when x 1 0
+  end-is x e = ap (λ (k : ℕ). endOf k all) (every-length 0 ms) ∙ ap (λ (y : Bool). when {A = ℕ} y 1 0) e
+
+  -- a run of one pair: its first frame becomes the last one sent, its second stays silent
+  one-heard : b ≡ lastFirst u + 1 → lastNonzero all (multiframeFrames * (ms - 1)) multiframeFrames ≡ 1
+  one-heard e = only-first all (multiframeFrames * (ms - 1)) multiframeFrames (lit< tt) first (λ k l h. others k l h (ℕ-discrete k 1))
+    where
+      first : zeroFrame all (multiframeFrames * (ms - 1) + 0) ≡ false
+      first =
+          let i = multiframeFrames * (ms - 1) + 0 in
+          from-before i (omega arith) (first-half ns r b run i (omega arith) (omega (arith, notes-size)) (omega arith) (omega arith))
+
+      others : (k : ℕ) → 0 < k → k < multiframeFrames → Dec (k ≡ 1) → zeroFrame all (multiframeFrames * (ms - 1) + k) ≡ true
+      others k l h (yes z) =
+          let i = multiframeFrames * (ms - 1) + k in
+          from-behind i (omega arith) (second-half ns r b run i (omega arith) (omega (arith, notes-size)) (omega arith) (omega arith)) (omega arith)
+      others k l h (no n) = good-silent (multiframeFrames * (ms - 1) + k) (omega arith) (omega arith)
+
+  -- a run to the end: every frame becomes the last one sent
+  all-heard : b ≡ pairsOf u → (i : ℕ) → firstFrame (lastFirst u) ≤ i → i < multiframeFrames * multiframesOf u → zeroFrame all i ≡ false
+  all-heard e i l h = from-before i h (at-the-end ns r b run i (omega arith) (e ∙ sym notes-size) l (omega arith))
+
+-- one flip in the first packet of the last multiframe: it alone is named, and speech is one more than was sent
+abbrev pub endHurt : Utterance → List ℕ
+endHurt u = flipped u (λ k. 0) (hit u (λ q. eqb q (lastFirst u)))
+
+pub record OneMore (u : Utterance) : Type 0 where
+  pub wider : N.Wider u (endHurt u) zeroBook zeroThresholds (indexFor (multiframesOf u)) (reportFor (multiframesOf u))
+  pub named : pairNoteIn (zeroRead u (endHurt u) .report) (lastFirst u) ≡ 1
+  pub others : (q : ℕ) → q < pairsOf u → (q ≡ lastFirst u → ⊥) → pairNoteIn (zeroRead u (endHurt u) .report) q ≡ 0
+  pub given : Summary
+  pub succeeds : zeroRead u (endHurt u) .answer ≡ Read given
+  pub speech : given .speech ≡ frameCount (u .indices) + 1
+
+module _ (u : Utterance) (two : 2 ≤ multiframesOf u) (full : frameCount (u .indices) ≡ multiframeFrames * (multiframesOf u - 1)) where
+  -- ONE FRAME MORE IS HEARD
+  pub one-more : OneMore u
+  one-more = record {
+    wider = w;
+    named = N.names-wider u (endHurt u) zeroBook zeroThresholds (indexFor (multiframesOf u)) (reportFor (multiframesOf u)) w .names .damaged (lastFirst u) (omega arith) .1
+        (told-touched u is (λ k. 0) (λ k. lit< tt) (lastFirst u) (omega arith) (eq-eqb (lastFirst u) (lastFirst u) refl));
+    others = λ q h n. zero-unnamed u (endHurt u) q (untold-whole u is (λ k. 0) (λ k. lit< tt) q h (ne-eqb q (lastFirst u) n)) h w;
+    given = summary (endHurt u) (rowOf (multiframesOf u)) (zeroNotes u (endHurt u)) (sentCommon u);
+    succeeds = given-is u two full is b some most inside before behind;
+    speech = speech-is u two full is b some most inside before behind 1 (one-heard u two full is b some most inside before behind refl);
+  }
+    where
+      is : ℕ → Bool
+      is q = eqb q (lastFirst u)
+
+      b : ℕ
+      b = lastFirst u + 1
+
+      some : lastFirst u < b
+      some = omega arith
+
+      most : b ≤ pairsOf u
+      most = omega arith
+
+      inside : (q : ℕ) → lastFirst u ≤ q → q < b → is q ≡ true
+      inside q h l = eq-eqb q (lastFirst u) (omega arith)
+
+      before : (q : ℕ) → q < lastFirst u → is q ≡ false
+      before q h = ne-eqb q (lastFirst u) (λ e. omega arith)
+
+      behind : (q : ℕ) → b ≤ q → q < pairsOf u → is q ≡ false
+      behind q h l = ne-eqb q (lastFirst u) (λ e. omega arith)
+
+      w : N.Wider u (endHurt u) zeroBook zeroThresholds (indexFor (multiframesOf u)) (reportFor (multiframesOf u))
+      w = wide u two full is b some most inside before behind
+
+-- so of 24 frames 25 are heard
+filled-24 : frameCount (says24 .indices) ≡ multiframeFrames * (multiframesOf says24 - 1)
+filled-24 = frames-24 ∙ ap (λ (m : ℕ). multiframeFrames * (m - 1)) (sym two-multiframes)
+
+pub more-24 : OneMore says24
+more-24 = one-more says24 (le-of-eq (sym two-multiframes)) filled-24
+
+pub heard-25 : more-24 .given .speech ≡ 25
+heard-25 = more-24 .speech ∙ ap (λ (n : ℕ). n + 1) frames-24
+
+-- one flip in each packet of the last multiframe: all of it is named, speech is a multiframe more than was sent, and the end is gone
+abbrev pub endGone : Utterance → List ℕ
+endGone u = flipped u (λ k. 0) (hit u (λ q. leb (lastFirst u) q))
+
+pub record NoEnd (u : Utterance) : Type 0 where
+  pub wider : N.Wider u (endGone u) zeroBook zeroThresholds (indexFor (multiframesOf u)) (reportFor (multiframesOf u))
+  pub others : (q : ℕ) → q < lastFirst u → pairNoteIn (zeroRead u (endGone u) .report) q ≡ 0
+  pub given : Summary
+  pub succeeds : zeroRead u (endGone u) .answer ≡ Read given
+  pub speech : given .speech ≡ frameCount (u .indices) + multiframeFrames
+  pub end : given .end ≡ 0
+
+module _ (u : Utterance) (two : 2 ≤ multiframesOf u) (full : frameCount (u .indices) ≡ multiframeFrames * (multiframesOf u - 1)) where
+  -- THE END IS NOT HEARD
+  pub no-end : NoEnd u
+  no-end = record {
+    wider = w;
+    others = λ q h. zero-unnamed u (endGone u) q (untold-whole u is (λ k. 0) (λ k. lit< tt) q (omega arith) (before q h)) (omega arith) w;
+    given = summary (endGone u) (rowOf (multiframesOf u)) (zeroNotes u (endGone u)) (sentCommon u);
+    succeeds = given-is u two full is b some most inside before behind;
+    speech = speech-is u two full is b some most inside before behind multiframeFrames
+        (place-stop (indexPart (endGone u) (rowOf (multiframesOf u)) (zeroNotes u (endGone u))) (multiframeFrames * (multiframesOf u - 1)) multiframeFrames (lit< tt)
+        (last (multiframeFrames * (multiframesOf u - 1) + (multiframeFrames - 1)) (omega arith) (omega arith)));
+    end = end-is u two full is b some most inside before behind false (last (multiframeFrames * multiframesOf u - 1) (omega arith) (omega arith));
+  }
+    where
+      is : ℕ → Bool
+      is q = leb (lastFirst u) q
+
+      b : ℕ
+      b = pairsOf u
+
+      some : lastFirst u < b
+      some = omega arith
+
+      most : b ≤ pairsOf u
+      most = omega arith
+
+      inside : (q : ℕ) → lastFirst u ≤ q → q < b → is q ≡ true
+      inside q h l = le-leb (lastFirst u) q h
+
+      before : (q : ℕ) → q < lastFirst u → is q ≡ false
+      before q h = lt-leb (lastFirst u) q h
+
+      behind : (q : ℕ) → b ≤ q → q < pairsOf u → is q ≡ false
+      behind q h l = absurd (omega arith)
+
+      last : (i : ℕ) → firstFrame (lastFirst u) ≤ i → i < multiframeFrames * multiframesOf u
+          → zeroFrame (indexPart (endGone u) (rowOf (multiframesOf u)) (zeroNotes u (endGone u))) i ≡ false
+      last = all-heard u two full is b some most inside before behind refl
+
+      w : N.Wider u (endGone u) zeroBook zeroThresholds (indexFor (multiframesOf u)) (reportFor (multiframesOf u))
+      w = wide u two full is b some most inside before behind
+
+-- so of 24 frames 48 are heard, and no end
+pub gone-24 : NoEnd says24
+gone-24 = no-end says24 (le-of-eq (sym two-multiframes)) filled-24
+
+-- ---- NEVER MISLED NEEDS THE SYNCS: of two multiframes the second is overwritten by inverse syncs. All other premises hold, and one multiframe
+-- less is counted
+abbrev pub inverses : ℕ → List ℕ
+inverses n = octetsOf (replicate n inverse)
+
+length-inverses : (n : ℕ) → length (inverses n) ≡ syncOctets * n
+length-inverses zero = refl
+length-inverses (suc n) = ap (λ (k : ℕ). suc (suc k)) (length-inverses n) ∙ omega arith
+
+no-places : (p n : ℕ) → placesOf p (replicate n inverse) ≡ []
+no-places p zero = refl
+no-places p (suc n) = no-places (p + syncOctets) n
+
+proper-inverses : (n : ℕ) → Proper (replicate n inverse)
+proper-inverses zero = tt
+proper-inverses (suc n) = proper-inverses n
+
+-- 72 of them are as long as a multiframe
+abbrev pub overwritten : Utterance → List ℕ
+overwritten u = image (u .rate) (u .kind) (u .indices) 1 ++ inverses 72
+
+pub record Miscounts (u : Utterance) (s : List ℕ) : Type 0 where
+  pub size : length s ≡ length (imageOf u)
+  pub headers : M.AllButOne u s
+  pub first-sync : syncIn s 0 ≡ syncIn (imageOf u) 0
+  pub second-sync : syncIn s 1 ≡ inverseFirst ∷ inverseSecond ∷ []
+  pub given : Summary
+  pub succeeds : zeroRead u s .answer ≡ Read given
+  pub count : given .multiframes ≡ 1
+  pub misled : M.AsSent u s given → ⊥
+
+module _ (u : Utterance) (twice : multiframesOf u ≡ 2) where
+  abbrev front : List ℕ
+  front = image (u .rate) (u .kind) (u .indices) 1
+
+  abbrev cutUp : List ℕ
+  cutUp = overwritten u
+
+  front-size : length front ≡ multiframeOctets
+  front-size = length-image (u .rate) (u .kind) (u .indices) 1
+
+  front-part : (a v : ℕ) → a + v ≤ multiframeOctets → part a v cutUp ≡ part a v front
+  front-part a v h = part-left front (inverses 72) a v (omega (arith, front-size))
+
+  front-octet : (i : ℕ) → i < 2 → getD front i 0 ≡ getD (syncFirst ∷ syncSecond ∷ []) i 0
+  front-octet i h = sym (getD-take 2 (drop 0 front) i 0 h) ∙ ap (λ (l : List ℕ). getD l i 0) (image-sync (u .rate) (u .kind) (u .indices) 1 0 (lit< tt))
+
+  -- it is cut into one multiframe
+  cut-once : cutting cutUp ≡ record { places = rowOf 1; ending = whole }
+  cut-once =
+      cut-chunks (multiframe front ∷ replicate 72 inverse) (front-size, front-octet 0 (lit< tt), front-octet 1 (lit< tt), proper-inverses 72)
+      (omega (arith, ap length (no-places multiframeOctets 72)))
+      ∙ ap (λ (l : List ℕ). record { places = 0 ∷ l; ending = whole }) (no-places multiframeOctets 72)
+
+  word-there : wordIn cutUp 0 ≡ wordIn (imageOf u) 0
+  word-there =
+      ap (λ (l : List ℕ). value (bits l)) (front-part syncOctets headerOctets (lit< tt)) ∙ image-word (u .rate) (u .kind) (u .indices) 1 0 (lit< tt)
+      ∙ sym (image-word (u .rate) (u .kind) (u .indices) (multiframesOf u) 0 (omega arith))
+
+  no-flip : headerFlips (imageOf u) cutUp 0 ≡ 0
+  no-flip = ap (λ (w : ℕ). ones (bitXor w (wordIn (imageOf u) 0))) word-there ∙ ap ones (xor-self (wordIn (imageOf u) 0)) ∙ none-flipped
+
+  packet-there : packetIn cutUp 0 ≡ packetOf (u .indices) 0
+  packet-there =
+      ap (λ (l : List ℕ). part 0 packetBits (bits l)) (front-part (syncOctets + headerOctets) streamOctets (lit< tt))
+      ∙ image-packet (u .rate) (u .kind) (u .indices) 1 0 (lit< tt)
+
+  settled-once : settling (readings cutUp (rowOf 1)) ≡ Set.Settled (sentCommon u)
+  settled-once =
+      ap settling (readings-are cutUp 1)
+      ∙ ap (λ (h : Header). settling (h ∷ [])) (header-read u cutUp 0 (omega arith) (omega (arith, no-flip)) ∙ ap (Codeword (sentMessage u 0)) no-flip)
+      ∙ only-clean (sentMessage u 0) ∙ ap Set.Settled (common-sent u 0)
+
+  good-once : Good (pairNotes cutUp (rowOf 1) zeroBook zeroThresholds)
+  good-once = good-pair cutUp 1 0 (lit< tt) (ap (right dataBits) packet-there ∙ packetOf-good (u .indices) 0)
+
+  read-once : zeroRead u cutUp .answer ≡ Read (summary cutUp (rowOf 1) (pairNotes cutUp (rowOf 1) zeroBook zeroThresholds) (sentCommon u))
+  unfolding reading
+  read-once =
+      let i = indexFor (multiframesOf u) in
+      let r = reportFor (multiframesOf u) in
+      let lent = lent-zeros (multiframesOf u) in
+      let pl : cutting cutUp .places ≡ rowOf 1 = ap (λ (w : Cutting). w .places) cut-once in
+      let ns = pairNotes cutUp (rowOf 1) zeroBook zeroThresholds in
+      let fit : Fitting 1 (badPairs ns) (pairCount (rowOf 1)) (length i) (length r) (settling (readings cutUp (rowOf 1))) (sentCommon u) =
+      record {
+        settles = settled-once;
+        usable = usable u;
+        roomy = record {
+          index-room = omega (arith, lent .index-room);
+          report-room = omega (arith, lent .report-room);
+          not-all = λ e. none-good ns (e ∙ sym (length-notes cutUp (rowOf 1) zeroBook zeroThresholds)) (good-once .pair) (good-once .within) (good-once .good);
+        };
+      } in
+      ap₂ (λ (ps : List ℕ) (v : Verdict). finished cutUp zeroBook zeroThresholds i r ps v .answer) pl
+      (accepting cutUp zeroBook zeroThresholds (length i) (length r) (sentCommon u)
+      record {
+        codebook-size = lent .codebook-size;
+        thresholds-size = lent .thresholds-size;
+        uncut = ap (λ (w : Cutting). w .ending) cut-once;
+        some = λ e. omega (arith, ap length pl);
+        fitting = subst
+            (λ (ps : List ℕ). Fitting (length ps) (badPairs (pairNotes cutUp ps zeroBook zeroThresholds)) (pairCount ps) (length i) (length r) (settling (readings cutUp ps)) (sentCommon u))
+            (sym pl) fit;
+      })
+
+  pub syncs-miscount : Miscounts u (overwritten u)
+  syncs-miscount = record {
+    size = length-append front (inverses 72) ∙ omega (arith, front-size, length-inverses 72, length-image (u .rate) (u .kind) (u .indices) (multiframesOf u));
+    headers = record {
+      two = omega arith;
+      but = 1;
+      others = λ k h n. let z : k ≡ 0 = omega arith in subst (λ (i : ℕ). headerFlips (imageOf u) cutUp i ≤ 3) (sym z) (omega (arith, no-flip));
+    };
+    first-sync = front-part 0 syncOctets (lit< tt) ∙ image-sync (u .rate) (u .kind) (u .indices) 1 0 (lit< tt)
+        ∙ sym (image-sync (u .rate) (u .kind) (u .indices) (multiframesOf u) 0 (omega arith));
+    second-sync = part-right front (inverses 72) multiframeOctets syncOctets front-size;
+    given = summary cutUp (rowOf 1) (pairNotes cutUp (rowOf 1) zeroBook zeroThresholds) (sentCommon u);
+    succeeds = read-once;
+    count = refl;
+    misled = λ x. let e : 1 ≡ multiframesOf u = x .multiframes in omega arith;
+  }
+
+-- so of 24 frames
+pub miscounted-24 : Miscounts says24 (overwritten says24)
+miscounted-24 = syncs-miscount says24 two-multiframes
