@@ -7,7 +7,7 @@ use mathlib.Core.Path.{_≡_, refl, sym, ap, ap₂, _∙_, subst}
 use mathlib.Core.List.{List, [], _∷_, _++_, append-nil}
 use mathlib.Core.Logic.{inl}
 use mathlib.Core.Bool.{Bool, true, false, xor}
-use native.Mathlib.Nat.{div-div-eq-div-mul}
+use native.Mathlib.Nat.{le-of-eq, div-div-eq-div-mul}
 use native.Mathlib.Omega.{arith}
 use lib.Bits.{bitXor}
 use lib.Count.{ones, onesIn}
@@ -19,13 +19,11 @@ use borrow.Author.Tests.{ltb-true}
 use Rattle.gf2.specs.Light.{ones-in}
 use Rattle.lists.specs.Tests.{all-holds}
 use Rattle.lists.specs.Parts.{part, over}
-use Rattle.lists.specs.Rows.{each}
-use Rattle.layout.specs.Layout.{widths, frameIndices, packetBits, packetStart, multiframePairs, multiframeOctets, streamOctets, indexOctets, reportOctets, firstPair}
+use Rattle.layout.specs.Layout.{widths, frameIndices, packetBits, packetStart, multiframePairs, streamOctets, indexOctets, reportOctets, firstPair}
 use Rattle.bits.specs.Bits.{field, fields, value, laid, numbers, bits, octets}
-use Rattle.bits.specs.Laws.{length-bits, bits-octets}
+use Rattle.bits.specs.Laws.{length-bits}
 use Rattle.crc.specs.Crc.{after, crc}
 use Rattle.packet.specs.Packet.{guarded, packet, row, packetOf, stream}
-use Rattle.packet.specs.Laws.{length-stream}
 use Rattle.header_code.specs.Code.{codeword, flipsTo, syndrome}
 use Rattle.header_code.specs.Code.Syndrome.{syndrome-xor, syndrome-codeword, codeword-of}
 use Rattle.header_code.specs.Code.Examples as E
@@ -49,13 +47,14 @@ use Rattle.writer.specs.Laws.{length-image}
 use Rattle.writer.specs.Made.{Small, syncIn, wordIn, streamIn, packetIn, made, length-made, small-made, made-sync, made-word, made-stream}
 use Rattle.writer.specs.Image.{image-small, image-sync, image-word, image-stream, Utterance, multiframesOf, pairsOf, imageOf}
 use Rattle.writer.specs.declared.Answer.the-variants.{Written}
-use Rattle.demands.specs.Damage.{headerFlips, sentMessage, header-lost}
+use Rattle.demands.specs.Damage.{any-header, headerFlips, header-lost}
 use Rattle.demands.specs.Whole.{Lent, rowOf, readings-are, refuses-16}
 use Rattle.demands.specs.ReadsBack.{spoken, padded, reads-image}
 use Rattle.demands.specs.Met.{zeroBook, zeroThresholds, indexFor, reportFor, lent-zeros}
+use Rattle.promises.specs.Misled as NeverMisled
+use Rattle.promises.specs.Trusted as Trusted
 use Rattle.hunting_demands.specs.Standing.{placeInRow, syncAt, wordAt, streamAt, all-match, passes-there, unlike-fails, lost-fails, InARow, testedInRow}
 use Rattle.hunting_demands.specs.AsRead.{Multiframes, Stands, as-read, shifted-syncs, shifted-stands}
-use Rattle.hunting_demands.specs.HuntsBack.{receivedFlips}
 use Rattle.hunting_demands.specs.Needed.{Premise, Begins, Inside, Syncs, Headers, Streams, NoneBefore, NoneBehind, Low, Settled, TablesAndRoom, Holds}
 
 -- ---- what was sent, and what is heard instead
@@ -267,6 +266,9 @@ module _ (least : ℕ) (codebook thresholds : List ℤ) (index report : List ℕ
     -- three bits are flipped in the first header, eight in the second
     pub first-header : headerFlips (imageOf sent) garbled 0 ≡ 3
     pub second-header : headerFlips (imageOf sent) garbled 1 ≡ 8
+    -- so at the octet reader NEVER MISLED and A LIST WITHOUT A WARNING CAN BE TRUSTED speak of them
+    pub never-misled-met : NeverMisled.Premises sent garbled
+    pub trusted-met : Trusted.Premises sent garbled
     -- all premises of HUNTS BACK hold but the one of the headers
     pub others : (p : Premise) → (p ≡ Headers → ⊥) → Holds sent garbled 0 0 least codebook thresholds index report p
     -- MISLED WITHOUT A NOTE: the hunting reader gives 11 kHz, one multiframe, one frame and end 1, and every note is 0; only the bits outside tell
@@ -277,6 +279,20 @@ module _ (least : ℕ) (codebook thresholds : List ℤ) (index report : List ℕ
     pub refuses : R.reading garbled codebook thresholds index report ≡ R.outcome (RA.Refused Unsettled) index report
 
   module _ (low : fewestMatches ≤ least) (high : least ≤ syncBits) (lent : Lent 2 codebook thresholds index report) where
+    size-came : length garbled ≡ length (imageOf sent)
+    size-came = cut .size ∙ sym (length-image 0 0 (sent .indices) 2)
+
+    syncs-came : (k : ℕ) → k < m → syncIn garbled k ≡ syncIn (imageOf sent) k
+    syncs-came k h = cut .syncs k h ∙ sym (image-sync 0 0 (sent .indices) 2 k h)
+
+    packets-came : (q : ℕ) → q < pairsOf sent → packetIn garbled q ≡ packetIn (imageOf sent) q
+    packets-came q h = ap (λ (x : List ℕ). part (packetStart q) packetBits (bits x)) (stream-came (q / 12) (omega arith))
+
+    -- the first header is the only one but the second
+    first-only : (k : ℕ) → k < m → (k ≡ 1 → ⊥) → headerFlips (imageOf sent) garbled k ≤ 3
+    first-only zero h d = le-of-eq first-flips
+    first-only (suc k) h d = absurd (d (omega arith))
+
     but-headers : (p : Premise) → (p ≡ Headers → ⊥) → Holds sent garbled 0 0 least codebook thresholds index report p
     but-headers Begins other = lit≤ tt
     but-headers Inside other = omega (arith, searched-are)
@@ -314,11 +330,24 @@ module _ (least : ℕ) (codebook thresholds : List ℤ) (index report : List ℕ
       sent-rate = refl;
       sent-multiframes = refl;
       sent-frames = refl;
-      size = cut .size ∙ sym (length-image 0 0 (sent .indices) 2);
-      syncs = λ k h. cut .syncs k h ∙ sym (image-sync 0 0 (sent .indices) 2 k h);
-      packets = λ q h. ap (λ (x : List ℕ). part (packetStart q) packetBits (bits x)) (stream-came (q / 12) (omega arith));
+      size = size-came;
+      syncs = syncs-came;
+      packets = packets-came;
       first-header = first-flips;
       second-header = second-flips;
+      never-misled-met = record { size = size-came; syncs = syncs-came; headers = inl (record { two = lit≤ tt; but = 1; others = first-only }) };
+      trusted-met = record {
+        damage = record {
+          size = size-came;
+          small = cut .small;
+          syncs = syncs-came;
+          headers = λ k h. any-header (imageOf sent) garbled k;
+          packets = λ q h. inl (packets-came q h);
+        };
+        header = 0;
+        within = lit< tt;
+        five = omega (arith, first-flips);
+      };
       others = but-headers;
       answers = answered;
       refuses = refuses-16 garbled 2 (lit≤ tt) (cut .size) (cut .syncs) codebook thresholds index report (lit< tt) lent nothing-settles;
