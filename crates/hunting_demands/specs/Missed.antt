@@ -1,6 +1,6 @@
 -- WHY EVERY HEADER MAY HAVE AT MOST TWO FLIPS at the hunting reader. Of two multiframes the first header has three flips, so that its multiframe is
 -- not found, and the second has eight and is a codeword of another rate; all else is as it was sent. The reading succeeds and every note is 0, yet
--- rate, count and speech are not those sent: only the bits outside tell. The octet reader refuses the same octets.
+-- rate, count and speech are not those sent: only the bits outside and the places tested tell. The octet reader refuses the same octets.
 -- Assumes nothing.
 use Prim.Native.Nat.{ℕ, zero, suc, _+_, _-_, _*_, _/_, _%_, _^_, _≤_, _<_}
 use mathlib.Core.Path.{_≡_, refl, sym, ap, ap₂, _∙_, subst}
@@ -271,7 +271,8 @@ module _ (least : ℕ) (codebook thresholds : List ℤ) (index report : List ℕ
     pub trusted-met : Trusted.Premises sent garbled
     -- all premises of HUNTS BACK hold but the one of the headers
     pub others : (p : Premise) → (p ≡ Headers → ⊥) → Holds sent garbled 0 0 least codebook thresholds index report p
-    -- MISLED WITHOUT A NOTE: the hunting reader gives 11 kHz, one multiframe, one frame and end 1, and every note is 0; only the bits outside tell
+    -- MISLED WITHOUT A NOTE: the hunting reader gives 11 kHz, one multiframe, one frame and end 1, and every note is 0; a multiframe's
+    -- bits outside, and as many places tested before the one found, are all that tells
     pub answers : huntingReading garbled 0 least codebook thresholds index report
         ≡ outcome (Read (record { summary = record { rate = 1; kind = 0; multiframes = 1; speech = 1; bad = 0; end = 1 }; outside = multiframeBits; tested = suc multiframeBits }))
         (over index 0 indexOctets (replicate frameIndices 4 ++ replicate (indexOctets - frameIndices) 0)) (over report 0 reportOctets (replicate reportOctets 0))
