@@ -8,3 +8,4 @@ pub mod Needed
 pub mod Radio
 pub mod Aired
 pub mod NeverLost
+pub mod Missed

@@ -1,0 +1,359 @@
+-- WHY EVERY HEADER MAY HAVE AT MOST TWO FLIPS at the hunting reader. Of two multiframes the first header has three flips, so that its multiframe is
+-- not found, and the second has eight and is a codeword of another rate; all else is as it was sent. The reading succeeds and every note is 0, yet
+-- rate, count and speech are not those sent: only the bits outside and the places tested tell. The octet reader refuses the same octets.
+-- Assumes nothing.
+use Prim.Native.Nat.{ℕ, zero, suc, _+_, _-_, _*_, _/_, _%_, _^_, _≤_, _<_}
+use mathlib.Core.Path.{_≡_, refl, sym, ap, ap₂, _∙_, subst}
+use mathlib.Core.List.{List, [], _∷_, _++_, append-nil}
+use mathlib.Core.Logic.{inl}
+use mathlib.Core.Bool.{Bool, true, false, xor}
+use native.Mathlib.Nat.{le-of-eq, div-div-eq-div-mul}
+use native.Mathlib.Omega.{arith}
+use lib.Bits.{bitXor}
+use lib.Count.{ones, onesIn}
+use lib.Dec.{T, ltb, lit<, lit≤}
+use lib.IntN.{ℤ}
+use lib.ListN.{length, getD, replicate, length-replicate, replicate-append-replicate}
+use lib.Seq.{getD-append-add}
+use borrow.Author.Tests.{ltb-true}
+use Rattle.gf2.specs.Light.{ones-in}
+use Rattle.lists.specs.Tests.{all-holds}
+use Rattle.lists.specs.Parts.{part, over}
+use Rattle.layout.specs.Layout.{widths, frameIndices, packetBits, packetStart, multiframePairs, streamOctets, indexOctets, reportOctets, firstPair}
+use Rattle.bits.specs.Bits.{field, fields, value, laid, numbers, bits, octets}
+use Rattle.bits.specs.Laws.{length-bits}
+use Rattle.crc.specs.Crc.{after, crc}
+use Rattle.packet.specs.Packet.{guarded, packet, row, packetOf, stream}
+use Rattle.header_code.specs.Code.{codeword, flipsTo, syndrome}
+use Rattle.header_code.specs.Code.Syndrome.{syndrome-xor, syndrome-codeword, codeword-of}
+use Rattle.header_code.specs.Code.Examples as E
+use Rattle.header.specs.Message.{message}
+use Rattle.header.specs.Message.Laws.{message-lt, message-counts, packed}
+use Rattle.header.specs.Reading.{reading}
+use Rattle.header.specs.Reading.Laws.{near}
+use Rattle.header.specs.declared.Header.{Header}
+use Rattle.header.specs.declared.Header.the-variants.{Codeword, Lost}
+use Rattle.settling.specs.Settling.{readings, settling, firstAgreeing, onlyOne}
+use Rattle.settling.specs.declared.Settings.the-variants as S
+use Rattle.hunt.specs.Hunt.{syncBits, multiframeBits, fewestMatches, sync, matches, passes, searched}
+use Rattle.hunt.specs.Laws.{searched-all}
+use Rattle.reader.specs.Reading as R
+use Rattle.reader.specs.declared.Answer.the-variants as RA
+use Rattle.reader.specs.declared.Refusal.the-variants.{Unsettled}
+use Rattle.hunting.specs.Hunting.{outsideOf, counted, outcome, huntingReading}
+use Rattle.hunting.specs.declared.Answer.the-variants.{Read}
+use Rattle.writer.specs.Writing.{verdict, roomAnswer, firstFrom, frameCount, needed}
+use Rattle.writer.specs.Laws.{length-image}
+use Rattle.writer.specs.Made.{Small, syncIn, wordIn, streamIn, packetIn, made, length-made, small-made, made-sync, made-word, made-stream}
+use Rattle.writer.specs.Image.{image-small, image-sync, image-word, image-stream, Utterance, multiframesOf, pairsOf, imageOf}
+use Rattle.writer.specs.declared.Answer.the-variants.{Written}
+use Rattle.demands.specs.Damage.{any-header, headerFlips, header-lost}
+use Rattle.demands.specs.Whole.{Lent, rowOf, readings-are, refuses-16}
+use Rattle.demands.specs.ReadsBack.{spoken, padded, reads-image}
+use Rattle.demands.specs.Met.{zeroBook, zeroThresholds, indexFor, reportFor, lent-zeros}
+use Rattle.promises.specs.Misled as NeverMisled
+use Rattle.promises.specs.Trusted as Trusted
+use Rattle.hunting_demands.specs.Standing.{placeInRow, syncAt, wordAt, streamAt, all-match, passes-there, unlike-fails, lost-fails, InARow, testedInRow}
+use Rattle.hunting_demands.specs.AsRead.{Multiframes, Stands, as-read, shifted-syncs, shifted-stands}
+use Rattle.hunting_demands.specs.Needed.{Premise, Begins, Inside, Syncs, Headers, Streams, NoneBefore, NoneBehind, Low, Settled, TablesAndRoom, Holds}
+
+-- ---- what was sent, and what is heard instead
+pub small-fours : (n : ℕ) → Small (replicate n 4)
+small-fours zero i = lit< tt
+small-fours (suc n) zero = lit< tt
+small-fours (suc n) (suc i) = small-fours n i
+
+pub written-25 : verdict 0 0 (replicate 175 4) (needed (replicate 175 4)) ≡ Written (needed (replicate 175 4))
+unfolding verdict roomAnswer firstFrom
+written-25 = refl
+
+pub written-1 : verdict 1 0 (replicate 7 4) (needed (replicate 7 4)) ≡ Written (needed (replicate 7 4))
+unfolding verdict roomAnswer firstFrom
+written-1 = refl
+
+-- sent: 8 kHz, type 0, 25 frames of fours, which take two multiframes
+abbrev pub sent : Utterance
+sent = record { rate = 0; kind = 0; indices = replicate 175 4; small = small-fours 175; written = written-25 }
+
+-- heard: 11 kHz, type 0, the last of those frames, which takes one
+abbrev pub heard : Utterance
+heard = record { rate = 1; kind = 0; indices = replicate 7 4; small = small-fours 7; written = written-1 }
+
+-- ---- what came: 08 00 00 EE for the first header, 08 00 0E EE, and 09 00 0F 3F for the second, 10 00 1D 0D
+abbrev pub words : ℕ → ℕ
+words zero = 0xEE000008
+words (suc k) = 0x3F0F0009
+
+abbrev pub streams : ℕ → List Bool
+streams k = stream (sent .indices) (firstPair k) multiframePairs
+
+abbrev pub garbled : List ℕ
+garbled = made words streams 2
+
+-- ---- the words of the three headers
+word-of : (w a b c d : ℕ) → E.octets w ≡ a ∷ b ∷ c ∷ d ∷ [] → w ≡ a + 256 * b + 65536 * c + 16777216 * d
+word-of w a b c d e =
+    let p : w % 256 ≡ a = ap (λ (l : List ℕ). getD l 0 0) e in
+    let q : w / 256 % 256 ≡ b = ap (λ (l : List ℕ). getD l 1 0) e in
+    let r : w / 256 / 256 % 256 ≡ c = ap (λ (n : ℕ). n % 256) (div-div-eq-div-mul w 256 256) ∙ ap (λ (l : List ℕ). getD l 2 0) e in
+    let s : w / 256 / 256 / 256 ≡ d =
+    ap (λ (n : ℕ). n / 256) (div-div-eq-div-mul w 256 256) ∙ div-div-eq-div-mul w 65536 256 ∙ ap (λ (l : List ℕ). getD l 3 0) e in
+    omega arith
+
+first-word : codeword (message 0 0 1 0) ≡ 0xEE0E0008
+first-word = ap codeword (message-counts .0) ∙ word-of (codeword 8) 0x08 0x00 0x0E 0xEE E.count-1
+
+second-word : codeword (message 0 0 2 0) ≡ 0x0D1D0010
+second-word = ap codeword (message-counts .1) ∙ word-of (codeword 16) 0x10 0x00 0x1D 0x0D E.count-2
+
+-- the sum of two codewords is one
+heard-word : codeword (message 1 0 1 0) ≡ 0x3F0F0009
+heard-word =
+    let e : bitXor (codeword 8) (codeword 1) ≡ 0x3F0F0009 =
+    ap₂ bitXor (word-of (codeword 8) 0x08 0x00 0x0E 0xEE E.count-1) (word-of (codeword 1) 0x01 0x00 0x01 0xD1 E.rate-1) in
+    let m : message 1 0 1 0 ≡ 9 = sym (packed 1 0 1 0) in
+    ap codeword m
+    ∙ codeword-of 0x3F0F0009 (lit< tt) (sym (ap syndrome e) ∙ syndrome-xor (codeword 8) (codeword 1) ∙ ap₂ bitXor (syndrome-codeword 8 (lit< tt)) (syndrome-codeword 1 (lit< tt)))
+
+-- ---- no place from bit 1 to bit 1,151 has twelve matches
+is-true : (b : Bool) → T b → b ≡ true
+is-true true t = refl
+is-true false t = absurd t
+
+few-match : (j : ℕ) → j < 1151 → matches (part (suc j) syncBits (bits garbled)) sync < fewestMatches
+unfolding matches fields field value numbers stream packetOf packet guarded row laid crc after xor
+few-match j h =
+    ltb-true (matches (part (suc j) syncBits (bits garbled)) sync) fewestMatches
+    (is-true (ltb (matches (part (suc j) syncBits (bits garbled)) sync) fewestMatches)
+    (all-holds (λ i. ltb (matches (part (suc i) syncBits (bits garbled)) sync) fewestMatches) 1151 tt j h))
+
+-- ---- the second stream is that of what is heard: it holds what stands behind the first multiframe's frames
+row-on : (a b : List ℕ) (at n i : ℕ) → i ≡ length a + at → row (a ++ b) i n ≡ row b at n
+unfolding row
+row-on a b at zero i e = refl
+row-on a b at (suc n) i e =
+    let z : i + n ≡ length a + (at + n) = omega arith in
+    ap₂ (λ (l : List ℕ) (x : ℕ). l ++ (x ∷ [])) (row-on a b at n i e) (ap (λ (j : ℕ). getD (a ++ b) j 0) z ∙ getD-append-add a b (at + n) 0)
+
+packet-on : (a b : List ℕ) (q : ℕ) → length a ≡ indexOctets → packetOf (a ++ b) (multiframePairs + q) ≡ packetOf b q
+unfolding packetOf
+packet-on a b q e = ap₂ (packet widths) (row-on a b (7 * (2 * q)) 7 (7 * (2 * (12 + q))) (omega arith)) (row-on a b (7 * (2 * q + 1)) 7 (7 * (2 * (12 + q) + 1)) (omega arith))
+
+stream-on : (a b : List ℕ) (n : ℕ) → length a ≡ indexOctets → stream (a ++ b) multiframePairs n ≡ stream b 0 n
+unfolding stream
+stream-on a b zero e = refl
+stream-on a b (suc n) e =
+    let z : n ≡ 0 + n = omega arith in
+    ap₂ (λ (x y : List Bool). x ++ y) (stream-on a b n e) (packet-on a b n e ∙ ap (packetOf b) z)
+
+same-stream : streams 1 ≡ stream (heard .indices) 0 multiframePairs
+same-stream =
+    ap (λ (l : List ℕ). stream l multiframePairs multiframePairs) (sym (replicate-append-replicate 168 7 4))
+    ∙ stream-on (replicate 168 4) (replicate 7 4) multiframePairs (length-replicate {A = ℕ} 168 4)
+
+-- ---- what stands in them
+abbrev m : ℕ
+m = multiframesOf sent
+
+word-small : (k : ℕ) → words k < 2 ^ 32
+word-small zero = lit< tt
+word-small (suc k) = lit< tt
+
+cut : Multiframes garbled 2
+cut = record { size = length-made words streams 2; small = small-made words streams 2; syncs = made-sync words streams 2 }
+
+itself : bits garbled ≡ [] ++ (bits garbled ++ [])
+itself = sym (append-nil (bits garbled))
+
+stands : Stands garbled 2 garbled 0
+stands = shifted-stands garbled 2 cut garbled [] [] itself
+
+word-came : (k : ℕ) → k < 2 → wordIn garbled k ≡ words k
+word-came k h = made-word words streams 2 k h (word-small k)
+
+stream-came : (k : ℕ) → k < 2 → streamIn garbled k ≡ streamIn (imageOf sent) k
+stream-came k h = made-stream words streams 2 k h ∙ sym (image-stream (sent .rate) (sent .kind) (sent .indices) m k h)
+
+searched-are : searched (bits garbled) ≡ 2304
+searched-are = searched-all (bits garbled) (omega (arith, length-bits garbled, cut .size)) ∙ omega (arith, length-bits garbled, cut .size)
+
+-- three flips in the first header, eight in the second
+first-flips : headerFlips (imageOf sent) garbled 0 ≡ 3
+unfolding onesIn
+first-flips =
+    ap₂ (λ (a b : ℕ). ones (bitXor a b)) (word-came 0 (lit< tt)) (image-word (sent .rate) (sent .kind) (sent .indices) m 0 (lit< tt) ∙ first-word)
+    ∙ sym (ones-in 32 0x000E0000 (lit< tt))
+
+second-flips : headerFlips (imageOf sent) garbled 1 ≡ 8
+unfolding onesIn
+second-flips =
+    ap₂ (λ (a b : ℕ). ones (bitXor a b)) (word-came 1 (lit< tt)) (image-word (sent .rate) (sent .kind) (sent .indices) m 1 (lit< tt) ∙ second-word)
+    ∙ sym (ones-in 32 0x32120019 (lit< tt))
+
+-- so the first is lost, and the second is read as a codeword of 11 kHz without a flip
+first-lost : reading (wordIn garbled 0) ≡ Lost
+first-lost = header-lost sent garbled 0 (lit< tt) first-flips
+
+second-read : reading (wordIn garbled 1) ≡ Codeword (message 1 0 1 0) 0
+unfolding flipsTo onesIn
+second-read =
+    let w = wordIn garbled 1 in
+    let c = message 1 0 1 0 in
+    let e : flipsTo w c ≡ 0 = ap₂ (λ (a b : ℕ). ones (bitXor a b)) (word-came 1 (lit< tt)) heard-word ∙ sym (ones-in 1 0 (lit< tt)) in
+    near w c (message-lt 1 0 1 0) (omega arith) ∙ ap (Codeword c) e
+
+-- ---- what the hunting reader finds: the second multiframe alone
+module _ (least : ℕ) (low : fewestMatches ≤ least) (high : least ≤ syncBits) where
+  syncs-match : (k : ℕ) → k < 2 → least ≤ matches (syncAt (bits garbled) (placeInRow 0 k)) sync
+  syncs-match k h = subst (λ (x : List Bool). least ≤ matches x sync) (sym (shifted-syncs garbled 2 cut garbled [] [] itself k h)) (omega (arith, all-match))
+
+  not-before : (t : ℕ) → t < multiframeBits → passes least (bits garbled) t ≡ false
+  not-before zero h = lost-fails least (bits garbled) 0 (ap reading (stands .words 0 (lit< tt)) ∙ first-lost)
+  not-before (suc j) h = unlike-fails least (bits garbled) (suc j) (omega (arith, few-match j (omega arith)))
+
+  second-passes : passes least (bits garbled) multiframeBits ≡ true
+  second-passes = passes-there least (bits garbled) multiframeBits (message 1 0 1 0) 0 (syncs-match 1 (lit< tt)) (ap reading (stands .words 1 (lit< tt)) ∙ second-read)
+
+  second-alone : InARow (bits garbled) 0 multiframeBits least 1
+  second-alone = record {
+    begins = lit≤ tt;
+    inside = omega (arith, searched-are);
+    stand = λ k h. let z : 1152 ≡ 1152 + 1152 * k = omega arith in ap (passes least (bits garbled)) (sym z) ∙ second-passes;
+    none-before = λ t a h. not-before t h;
+    none-behind = λ t a h. absurd (omega (arith, searched-are));
+  }
+
+-- and that is what is heard
+heard-cut : Multiframes (imageOf heard) 1
+heard-cut = record {
+  size = length-image 1 0 (heard .indices) 1;
+  small = image-small 1 0 (heard .indices) 1;
+  syncs = image-sync 1 0 (heard .indices) 1;
+}
+
+heard-stands : Stands (imageOf heard) 1 garbled multiframeBits
+heard-stands = record { words = word; streams = body }
+  where
+    word : (k : ℕ) → k < 1 → wordAt (bits garbled) (placeInRow multiframeBits k) ≡ wordIn (imageOf heard) k
+    word zero h = stands .words 1 (lit< tt) ∙ word-came 1 (lit< tt) ∙ sym (image-word 1 0 (heard .indices) 1 0 h ∙ heard-word)
+    word (suc k) h = absurd (omega arith)
+
+    body : (k : ℕ) → k < 1 → streamAt (bits garbled) (placeInRow multiframeBits k) ≡ bits (streamIn (imageOf heard) k)
+    body zero h =
+        stands .streams 1 (lit< tt)
+        ∙ ap bits (made-stream words streams 2 1 (lit< tt) ∙ ap (octets streamOctets) same-stream ∙ sym (image-stream 1 0 (heard .indices) 1 0 h))
+    body (suc k) h = absurd (omega arith)
+
+-- ---- what the octet reader says: one header is lost, so no two agree
+unsettled : settling (Lost ∷ Codeword (message 1 0 1 0) 0 ∷ []) ≡ S.Unsettled
+unfolding settling firstAgreeing onlyOne
+unsettled = refl
+
+nothing-settles : settling (readings garbled (rowOf 2)) ≡ S.Unsettled
+nothing-settles = ap settling (readings-are garbled 2) ∙ ap₂ (λ (x y : Header). settling (x ∷ y ∷ [])) first-lost second-read ∙ unsettled
+
+module _ (least : ℕ) (codebook thresholds : List ℤ) (index report : List ℕ) where
+  -- THE COUNTEREXAMPLE
+  pub record Misses : Type 0 where
+    -- sent: 8 kHz, two multiframes, 25 frames
+    pub sent-rate : sent .rate ≡ 0
+    pub sent-multiframes : multiframesOf sent ≡ 2
+    pub sent-frames : frameCount (sent .indices) ≡ 25
+    -- no octet is lost or added, and syncs and packets come as they were sent
+    pub size : length garbled ≡ length (imageOf sent)
+    pub syncs : (k : ℕ) → k < multiframesOf sent → syncIn garbled k ≡ syncIn (imageOf sent) k
+    pub packets : (q : ℕ) → q < pairsOf sent → packetIn garbled q ≡ packetIn (imageOf sent) q
+    -- three bits are flipped in the first header, eight in the second
+    pub first-header : headerFlips (imageOf sent) garbled 0 ≡ 3
+    pub second-header : headerFlips (imageOf sent) garbled 1 ≡ 8
+    -- so at the octet reader NEVER MISLED and A LIST WITHOUT A WARNING CAN BE TRUSTED speak of them
+    pub never-misled-met : NeverMisled.Premises sent garbled
+    pub trusted-met : Trusted.Premises sent garbled
+    -- all premises of HUNTS BACK hold but the one of the headers
+    pub others : (p : Premise) → (p ≡ Headers → ⊥) → Holds sent garbled 0 0 least codebook thresholds index report p
+    -- MISLED WITHOUT A NOTE: the hunting reader gives 11 kHz, one multiframe, one frame and end 1, and every note is 0; a multiframe's
+    -- bits outside, and as many places tested before the one found, are all that tells
+    pub answers : huntingReading garbled 0 least codebook thresholds index report
+        ≡ outcome (Read (record { summary = record { rate = 1; kind = 0; multiframes = 1; speech = 1; bad = 0; end = 1 }; outside = multiframeBits; tested = suc multiframeBits }))
+        (over index 0 indexOctets (replicate frameIndices 4 ++ replicate (indexOctets - frameIndices) 0)) (over report 0 reportOctets (replicate reportOctets 0))
+    -- the octet reader is not misled: it refuses them, 16
+    pub refuses : R.reading garbled codebook thresholds index report ≡ R.outcome (RA.Refused Unsettled) index report
+
+  module _ (low : fewestMatches ≤ least) (high : least ≤ syncBits) (lent : Lent 2 codebook thresholds index report) where
+    size-came : length garbled ≡ length (imageOf sent)
+    size-came = cut .size ∙ sym (length-image 0 0 (sent .indices) 2)
+
+    syncs-came : (k : ℕ) → k < m → syncIn garbled k ≡ syncIn (imageOf sent) k
+    syncs-came k h = cut .syncs k h ∙ sym (image-sync 0 0 (sent .indices) 2 k h)
+
+    packets-came : (q : ℕ) → q < pairsOf sent → packetIn garbled q ≡ packetIn (imageOf sent) q
+    packets-came q h = ap (λ (x : List ℕ). part (packetStart q) packetBits (bits x)) (stream-came (q / 12) (omega arith))
+
+    -- the first header is the only one but the second
+    first-only : (k : ℕ) → k < m → (k ≡ 1 → ⊥) → headerFlips (imageOf sent) garbled k ≤ 3
+    first-only zero h d = le-of-eq first-flips
+    first-only (suc k) h d = absurd (d (omega arith))
+
+    but-headers : (p : Premise) → (p ≡ Headers → ⊥) → Holds sent garbled 0 0 least codebook thresholds index report p
+    but-headers Begins other = lit≤ tt
+    but-headers Inside other = omega (arith, searched-are)
+    but-headers Syncs other = syncs-match least low high
+    but-headers Headers other = absurd (other refl)
+    but-headers Streams other = λ k h. stands .streams k h ∙ ap bits (stream-came k h)
+    but-headers NoneBefore other = λ t a h. absurd (omega arith)
+    but-headers NoneBehind other = λ t a h. absurd (omega (arith, searched-are))
+    but-headers Low other = low
+    but-headers Settled other = inl (lit≤ tt)
+    but-headers TablesAndRoom other = lent
+
+    lent-1 : Lent 1 codebook thresholds index report
+    lent-1 = record {
+      codebook-size = lent .codebook-size;
+      thresholds-size = lent .thresholds-size;
+      index-room = omega (arith, lent .index-room);
+      report-room = omega (arith, lent .report-room);
+    }
+
+    answered : huntingReading garbled 0 least codebook thresholds index report
+        ≡ outcome (Read (record { summary = spoken heard; outside = multiframeBits; tested = suc multiframeBits })) (over index 0 indexOctets (padded heard))
+        (over report 0 reportOctets (replicate reportOctets 0))
+    answered =
+        let out : outsideOf (bits garbled) 0 1 ≡ 1152 = omega (arith, searched-are) in
+        let tested : testedInRow (bits garbled) 0 1152 1 ≡ 1153 = omega (arith, searched-are) in
+        as-read (imageOf heard) 1 heard-cut garbled 1152 heard-stands 0 least codebook thresholds index report low high (lent .codebook-size) (lent .thresholds-size)
+        (second-alone least low high) (lit< tt) (lit≤ tt)
+        ∙ ap (λ (o : R.Outcome). counted o (outsideOf (bits garbled) 0 1) (testedInRow (bits garbled) 0 1152 1)) (reads-image heard codebook thresholds index report lent-1)
+        ∙ ap₂ (λ (a b : ℕ). outcome (Read (record { summary = spoken heard; outside = a; tested = b })) (over index 0 indexOctets (padded heard))
+        (over report 0 reportOctets (replicate reportOctets 0))) out tested
+
+    pub missed : Misses
+    missed = record {
+      sent-rate = refl;
+      sent-multiframes = refl;
+      sent-frames = refl;
+      size = size-came;
+      syncs = syncs-came;
+      packets = packets-came;
+      first-header = first-flips;
+      second-header = second-flips;
+      never-misled-met = record { size = size-came; syncs = syncs-came; headers = inl (record { two = lit≤ tt; but = 1; others = first-only }) };
+      trusted-met = record {
+        damage = record {
+          size = size-came;
+          small = cut .small;
+          syncs = syncs-came;
+          headers = λ k h. any-header (imageOf sent) garbled k;
+          packets = λ q h. inl (packets-came q h);
+        };
+        header = 0;
+        within = lit< tt;
+        five = omega (arith, first-flips);
+      };
+      others = but-headers;
+      answers = answered;
+      refuses = refuses-16 garbled 2 (lit≤ tt) (cut .size) (cut .syncs) codebook thresholds index report (lit< tt) lent nothing-settles;
+    }
+
+-- so with the strictest T and tables of zeros
+pub missed-16 : Misses syncBits zeroBook zeroThresholds (indexFor 2) (reportFor 2)
+missed-16 = missed syncBits zeroBook zeroThresholds (indexFor 2) (reportFor 2) (lit≤ tt) (lit≤ tt) (lent-zeros 2)
