@@ -3,3 +3,4 @@ pub mod Images
 pub mod Spoken
 pub mod Written
 pub mod Received
+pub mod Listed

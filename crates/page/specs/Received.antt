@@ -20,7 +20,7 @@ use Rattle.layout.specs.Layout.{multiframeOctets, mostMultiframes, indexOctets,
 use Rattle.bits.specs.Bits.{value, bits, field, fields}
 use Rattle.crc.specs.Crc.{after, crc, alike, right}
 use Rattle.header_code.specs.Code.{codeword}
-use Rattle.header_code.specs.Code.Examples.{octets, count-1, count-2, exp-9, three-from-zero}
+use Rattle.header_code.specs.Code.Examples.{count-1, count-2, exp-9, three-from-zero}
 use Rattle.header.specs.Message.{message, rateOf, expOf, commonBits}
 use Rattle.header.specs.Message.Laws.{message-lt, message-counts, rate-back, rate-masked, exp-shifted, common-rate, common-exp, common-message}
 use Rattle.header.specs.Reading as H
