@@ -6,8 +6,8 @@ use Prim.Native.Nat.{ℕ, zero, suc, _+_, _*_, _/_, _%_, _^_, _≤_, _<_}
 use native.Mathlib.Nat.{mod-eq-of-lt}
 use native.Mathlib.Numerals.{add-one}
 use native.Mathlib.Omega.{arith}
-use lib.Bits.{bitAnd, bitOr, bitXor}
-use lib.Count.{onesIn}
+use lib.Bits.{bitAnd, bitOr, bitXor, xor-self}
+use lib.Count.{ones, onesIn}
 use lib.Dec.{lit<}
 use lib.ListN.{getD}
 use Rattle.gf2.specs.Light.{ones-in}
@@ -15,11 +15,15 @@ use Rattle.layout.specs.Layout.{headerOctets, streamOctets, firstPair, multifra
 use Rattle.bits.specs.Bits.{numbers, value, field, octets}
 use Rattle.bits.specs.Laws.{take-field, drop-field, value-field}
 use Rattle.packet.specs.Packet.{stream}
-use Rattle.header_code.specs.Code.{parity, codeword}
+use Rattle.header_code.specs.Code.{parity, codeword, flipsTo}
+use Rattle.header_code.specs.Code.Distance.{codeword-lt}
 use Rattle.header_code.specs.Code.Parity.{parity-zero, parity-next, words, words-right, codeword-packed}
 use Rattle.header_code.specs.Code.Examples as E
 use Rattle.header.specs.Message.{message, rateOf, typeOf}
-use Rattle.header.specs.Message.Laws.{message-back, rate-masked, type-masked, count-masked, exp-shifted}
+use Rattle.header.specs.Message.Laws.{message-lt, message-back, rate-masked, type-masked, count-masked, exp-shifted}
+use Rattle.header.specs.Reading as R
+use Rattle.header.specs.Reading.Laws.{near, mended}
+use Rattle.header.specs.declared.Header.the-variants.{Codeword}
 use Rattle.writer.specs.Writing.{multiframe}
 
 -- ---- the octets of a word
@@ -94,6 +98,10 @@ pub record Table : Type 0 where
   pub header-1-1 : header 1 1 1 ≡ 0x0D ∷ 0x00 ∷ 0x08 ∷ 0x88 ∷ []
   pub header-3-0 : header 3 0 1 ≡ 0x0B ∷ 0x00 ∷ 0x0C ∷ 0x4C ∷ []
   pub header-3-1 : header 3 1 1 ≡ 0x0F ∷ 0x00 ∷ 0x0B ∷ 0xFB ∷ []
+  -- of rate 2, which is undefined
+  pub header-2-0 : header 2 0 1 ≡ 0x0A ∷ 0x00 ∷ 0x0D ∷ 0x9D ∷ []
+  -- of 11 kHz in the fourth place
+  pub fourth-1-0 : header 1 0 4 ≡ 0x21 ∷ 0x00 ∷ 0x3B ∷ 0xCB ∷ []
   -- and a second header
   pub second-3-1 : header 3 1 2 ≡ 0x17 ∷ 0x00 ∷ 0x18 ∷ 0x18 ∷ []
 
@@ -106,5 +114,38 @@ table = record {
   header-1-1 = header-is 13 (lit< tt) (lit< tt) refl;
   header-3-0 = header-is 11 (lit< tt) (lit< tt) refl;
   header-3-1 = header-is 15 (lit< tt) (lit< tt) refl;
+  header-2-0 = header-is 10 (lit< tt) (lit< tt) refl;
+  fourth-1-0 = header-is 33 (lit< tt) (lit< tt) refl;
   second-3-1 = header-is 23 (lit< tt) (lit< tt) refl;
 }
+
+-- ---- as they are read
+-- a word from its octets
+pub of-octets : (w a b c d : ℕ) → E.octets w ≡ a ∷ b ∷ c ∷ d ∷ [] → w ≡ a + 256 * b + 65536 * c + 16777216 * d
+of-octets w a b c d e =
+    let x : w % 256 ≡ a = ap (λ (l : List ℕ). getD l 0 0) e in
+    let y : w / 256 % 256 ≡ b = ap (λ (l : List ℕ). getD l 1 0) e in
+    let z : w / 65536 % 256 ≡ c = ap (λ (l : List ℕ). getD l 2 0) e in
+    let t : w / 16777216 ≡ d = ap (λ (l : List ℕ). getD l 3 0) e in
+    omega arith
+
+-- the codeword from the header's octets
+pub word-of : (rate kind count a b c d : ℕ) → header rate kind count ≡ a ∷ b ∷ c ∷ d ∷ [] → codeword (message rate kind count 0) ≡ a + 256 * b + 65536 * c + 16777216 * d
+word-of rate kind count a b c d e =
+    let m = message rate kind count 0 in
+    of-octets (codeword m) a b c d (sym (same-octets (codeword m) (codeword-lt m (message-lt rate kind count 0))) ∙ e)
+
+no-ones : ones 0 ≡ 0
+unfolding onesIn
+no-ones = sym (ones-in 1 0 (lit< tt))
+
+-- a codeword is read as itself
+pub clean : (m w : ℕ) → m < 2 ^ 16 → codeword m ≡ w → R.reading w ≡ Codeword m 0
+unfolding flipsTo
+clean m w h e =
+    let z : flipsTo w m ≡ 0 = ap (λ (x : ℕ). ones (bitXor w x)) e ∙ ap ones (xor-self w) ∙ no-ones in
+    near w m h (omega arith) ∙ ap (Codeword m) z
+
+-- and with the bits of f flipped, at most two, as that codeword and their number
+pub flips : (m w f k : ℕ) → m < 2 ^ 16 → codeword m ≡ w → ones f ≡ k → k ≤ 2 → R.reading (bitXor w f) ≡ Codeword m k
+flips m w f k h e o l = ap (λ (x : ℕ). R.reading (bitXor x f)) (sym e) ∙ mended m f h (omega arith) ∙ ap (Codeword m) o

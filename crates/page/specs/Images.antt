@@ -22,7 +22,7 @@ use Rattle.header_code.specs.Code.{codeword}
 use Rattle.header_code.specs.Code.Distance.{codeword-lt}
 use Rattle.header_code.specs.Code.Examples as C
 use Rattle.header.specs.Message.{message}
-use Rattle.header.specs.Message.Laws.{message-lt, message-nothing, count-mod}
+use Rattle.header.specs.Message.Laws.{message-lt, message-nothing, message-rate-1, count-mod}
 use Rattle.writer.specs.Writing.{firstFrom, roomAnswer, verdict, image, outcome, writing}
 use Rattle.writer.specs.declared.Answer.the-variants.{Written}
 use Rattle.writer.specs.Made.{Small, headerIn}
@@ -45,6 +45,10 @@ lent n = replicate n 0xAA
 -- "Input 87 B2 08 00 0E EE 01, ten 00, 04, 126 times 00"
 abbrev pub dsrlistInput : List ℕ
 dsrlistInput = 0x87 ∷ 0xB2 ∷ 0x08 ∷ 0x00 ∷ 0x0E ∷ 0xEE ∷ 0x01 ∷ (replicate 10 0x00 ++ (0x04 ∷ replicate 126 0x00))
+
+-- the same behind any header's four octets
+abbrev pub spokenBehind : List ℕ → List ℕ
+spokenBehind header = 0x87 ∷ 0xB2 ∷ (header ++ (0x01 ∷ (replicate 10 0x00 ++ (0x04 ∷ replicate 126 0x00))))
 
 -- 25 frames, each other than the others; frame k from 0
 abbrev pub said : List ℕ
@@ -81,6 +85,8 @@ pub record Table : Type 0 where
   -- "The counter is 1 in the first multiframe and steps modulo 16": 0 in the sixteenth, 1 in the seventeenth
   pub header-16 : (idx : List ℕ) (m : ℕ) → 15 < m → part 2162 4 (image 0 0 idx m) ≡ 0x00 ∷ 0x00 ∷ 0x00 ∷ 0x00 ∷ []
   pub header-17 : (idx : List ℕ) (m : ℕ) → 16 < m → part 2306 4 (image 0 0 idx m) ≡ 0x08 ∷ 0x00 ∷ 0x0E ∷ 0xEE ∷ []
+  -- "SampRate 1 alone: 01 00 01 D1": so it is in the sixteenth multiframe of 11 kHz, type 0
+  pub rate-1-alone : (idx : List ℕ) (m : ℕ) → 15 < m → part 2162 4 (image 1 0 idx m) ≡ 0x01 ∷ 0x00 ∷ 0x01 ∷ 0xD1 ∷ []
   -- "Frame 1,0,0,0,0,0,0 with a zero frame: the CRC is the single term X, stream bit 90": the stream begins at bit 48 of the image, behind a
   -- sync of 16 and a header of 32, with the packet of the (P) example
   pub first-packet : part 48 92 (bits (image 0 0 oneFrame 1)) ≡ packet widths oneFrame zeroFrame
@@ -107,9 +113,13 @@ unfolding numbers value stream packetOf packet guarded crc after laid field xor 
 second-stream = refl
 
 -- ---- the images
-one-image : image 0 0 oneFrame 1 ≡ dsrlistInput
+-- of 01's one frame, with any settings
+pub spoken-image : (rate kind : ℕ) (h : List ℕ) → H.header rate kind 1 ≡ h → image rate kind oneFrame 1 ≡ spokenBehind h
 unfolding image
-one-image = multiframe-is 0 0 oneFrame 0 (part 2 4 dsrlistInput) (drop 6 dsrlistInput) (H.table .header-0-0) one-stream
+spoken-image rate kind h e = multiframe-is rate kind oneFrame 0 h (drop 6 dsrlistInput) e one-stream
+
+one-image : image 0 0 oneFrame 1 ≡ dsrlistInput
+one-image = spoken-image 0 0 (part 2 4 dsrlistInput) (H.table .header-0-0)
 
 said-image : image 3 1 said 2 ≡ saidFirst ++ saidSecond
 unfolding image
@@ -117,8 +127,13 @@ said-image =
     ap₂ (λ (x y : List ℕ). x ++ y) (multiframe-is 3 1 said 0 (part 2 4 saidFirst) (drop 6 saidFirst) (H.table .header-3-1) first-stream)
     (multiframe-is 3 1 said 1 (part 2 4 saidSecond) (drop 6 saidSecond) (H.table .second-3-1) second-stream)
 
+header-at : (rate kind : ℕ) (idx : List ℕ) (m k : ℕ) → k < m → headerIn (image rate kind idx m) k ≡ C.octets (codeword (message rate kind (k + 1) 0))
+header-at rate kind idx m k h =
+    let x = message rate kind (k + 1) 0 in
+    image-header rate kind idx m k h ∙ same-octets (codeword x) (codeword-lt x (message-lt rate kind (k + 1) 0))
+
 header-in : (idx : List ℕ) (m k : ℕ) → k < m → headerIn (image 0 0 idx m) k ≡ header8 (k + 1)
-header-in idx m k h = image-header 0 0 idx m k h ∙ same-octets (codeword (message 0 0 (k + 1) 0)) (codeword-lt (message 0 0 (k + 1) 0) (message-lt 0 0 (k + 1) 0))
+header-in = header-at 0 0
 
 -- ---- the utterance of 25 frames
 small-list : (l : List ℕ) → T (all (λ i. ltb (getD l i 0) 256) (length l)) → Small l
@@ -154,6 +169,7 @@ table = record {
   header-3 = λ idx m h. header-in idx m 2 h ∙ E.table .header-count-3;
   header-16 = λ idx m h. header-in idx m 15 h ∙ ap (λ (x : ℕ). C.octets (codeword x)) (sym (count-mod 0 0 16 0) ∙ message-nothing) ∙ ap C.octets C.codeword-0;
   header-17 = λ idx m h. header-in idx m 16 h ∙ ap (λ (x : ℕ). C.octets (codeword x)) (sym (count-mod 0 0 17 0)) ∙ E.table .header-count-1;
+  rate-1-alone = λ idx m h. header-at 1 0 idx m 15 h ∙ ap (λ (x : ℕ). C.octets (codeword x)) (sym (count-mod 1 0 16 0) ∙ message-rate-1) ∙ C.rate-1;
   first-packet = ap (λ (i : List ℕ). part 48 92 (bits i)) one-image ∙ packet-in;
   stream-bit-90 = ap (λ (i : List ℕ). getD (bits i) (48 + 90) false) one-image ∙ bit-in;
   octet-17 = ap (λ (i : List ℕ). getD i 17 0) one-image;

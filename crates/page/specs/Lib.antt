@@ -4,3 +4,4 @@ pub mod Spoken
 pub mod Written
 pub mod Received
 pub mod Rules
+pub mod Listed

@@ -5,9 +5,8 @@
 use mathlib.Core.Path.{_≡_, refl, sym, ap, ap₂, _∙_, subst}
 use mathlib.Core.Bool.{Bool, true, xor}
 use mathlib.Core.List.{List, [], _∷_, _++_}
-use Prim.Native.Nat.{ℕ, zero, suc, _+_, _*_, _/_, _%_, _^_, _≤_, _<_}
+use Prim.Native.Nat.{ℕ, zero, suc, _+_, _*_, _≤_, _<_}
 use native.Mathlib.Omega.{arith}
-use lib.Bits.{bitXor, xor-self}
 use lib.Count.{ones, onesIn}
 use lib.Dec.{lit<}
 use lib.IntN.{ℤ}
@@ -20,12 +19,12 @@ use Rattle.lists.specs.Rows.{joined, each, length-each, each-at, same-each, len
 use Rattle.layout.specs.Layout.{multiframeOctets, mostMultiframes, indexOctets, reportOctets}
 use Rattle.bits.specs.Bits.{value, bits, field, fields}
 use Rattle.crc.specs.Crc.{after, crc, alike, right}
-use Rattle.header_code.specs.Code.{codeword, flipsTo}
-use Rattle.header_code.specs.Code.Examples.{octets, count-1, count-2, exp-9, three-from-zero}
+use Rattle.header_code.specs.Code.{codeword}
+use Rattle.header_code.specs.Code.Examples.{count-1, count-2, exp-9, three-from-zero}
 use Rattle.header.specs.Message.{message, rateOf, expOf, commonBits}
 use Rattle.header.specs.Message.Laws.{message-lt, message-counts, rate-back, rate-masked, exp-shifted, common-rate, common-exp, common-message}
 use Rattle.header.specs.Reading as H
-use Rattle.header.specs.Reading.Laws.{near, mended, lost-at-three}
+use Rattle.header.specs.Reading.Laws.{lost-at-three}
 use Rattle.header.specs.declared.Header.{Header}
 use Rattle.header.specs.declared.Header.the-variants.{Codeword, Lost}
 use Rattle.cutting.specs.Cutting.{syncFirst, syncSecond, syncMet, lastMet, pieceBy, pieceOf, Ending, whole, refused, Cutting, walk, cutting}
@@ -43,14 +42,16 @@ use Rattle.reader.specs.Steps.{wrong-codebook, wrong-thresholds, not-cut, whole
 use Rattle.reader.specs.declared.Refusal.{Refusal}
 use Rattle.reader.specs.declared.Refusal.the-variants.{WrongTables, Empty, Unsettled, Unfit, IndexShort, ReportShort, AllBad}
 use Rattle.reader.specs.declared.Answer.the-variants.{Refused}
-use Rattle.writer.specs.Writing.{firstFrom, roomAnswer, verdict, needed, image}
-use Rattle.writer.specs.Laws.{length-image}
+use Rattle.writer.specs.Writing.{firstFrom, roomAnswer, verdict, needed}
 use Rattle.writer.specs.Made.{wordIn, part-within}
-use Rattle.writer.specs.Image.{image-sync, image-word, Utterance}
+use Rattle.writer.specs.Image.{Utterance}
 use Rattle.writer.specs.declared.Answer.the-variants.{Written}
 use Rattle.demands.specs.Whole.{rowOf, cut-is, readings-are}
 use Rattle.demands.specs.ReadsBack.{reads-image}
 use Rattle.demands.specs.Instances.{lone, small-lone}
+use Rattle.page.specs.Headers.{header, of-octets, word-of, clean, flips}
+use Rattle.page.specs.Headers as Headers
+use Rattle.page.specs.Images.{spokenBehind, spoken-image}
 
 -- ---- what a line of the table says
 -- the reading is refused with this number and this place, which `numberOf` and `placeOf` give of its refusal, and both buffers are as they came
@@ -109,6 +110,10 @@ lost = 0x01 ∷ 0x00 ∷ 0x01 ∷ 0x01 ∷ []
 abbrev pub exp9 : List ℕ
 exp9 = 0x00 ∷ 0x80 ∷ 0x80 ∷ 0xE8 ∷ []
 
+-- the header of rate 2, type 0, count 1
+abbrev pub rate2 : List ℕ
+rate2 = 0x0A ∷ 0x00 ∷ 0x0D ∷ 0x9D ∷ []
+
 -- two packets, of each of which the first bit is one and the others are zero
 abbrev pub twoBad : List ℕ
 twoBad = 0x01 ∷ (replicate 10 0x00 ++ (0x10 ∷ replicate 11 0x00))
@@ -154,7 +159,7 @@ pub record Table : Type 0 where
   -- 16, "settings not settled", 0: of an only header with one flip
   pub one-flip : Always (headed flipped) 16 0
   -- 17, "settled rate is 2 or any EXP is 1", 0
-  pub settled-rate-2 : Always (image 2 0 [] 1) 17 0
+  pub settled-rate-2 : Always (headed rate2) 17 0
   pub settled-exp-9 : Always (headed exp9) 17 0
   -- 18, "index buffer under 168m", octets needed
   pub index-167 : Sized one 167 13 18 168
@@ -185,14 +190,14 @@ pub record Table : Type 0 where
   -- 18 before 19, and 19 before 20
   pub index-before-19 : Sized one 167 12 18 168
   pub report-before-20 : Sized allBad 168 12 19 13
-  -- "Success (0) gives settings; m; speech, ..; the number of bad pairs; end, ..": the frame 1,0,0,0,0,0,0 comes back at each rate and type, and
-  -- all notes are 0
-  pub rate-0-type-0 : Succeeds (image 0 0 (lone 1) 1) (0 ∷ 0 ∷ 1 ∷ 1 ∷ 0 ∷ 1 ∷ []) (1 ∷ replicate 167 0) (replicate 13 0)
-  pub rate-1-type-0 : Succeeds (image 1 0 (lone 1) 1) (1 ∷ 0 ∷ 1 ∷ 1 ∷ 0 ∷ 1 ∷ []) (1 ∷ replicate 167 0) (replicate 13 0)
-  pub rate-3-type-0 : Succeeds (image 3 0 (lone 1) 1) (3 ∷ 0 ∷ 1 ∷ 1 ∷ 0 ∷ 1 ∷ []) (1 ∷ replicate 167 0) (replicate 13 0)
-  pub rate-0-type-1 : Succeeds (image 0 1 (lone 1) 1) (0 ∷ 1 ∷ 1 ∷ 1 ∷ 0 ∷ 1 ∷ []) (1 ∷ replicate 167 0) (replicate 13 0)
-  pub rate-1-type-1 : Succeeds (image 1 1 (lone 1) 1) (1 ∷ 1 ∷ 1 ∷ 1 ∷ 0 ∷ 1 ∷ []) (1 ∷ replicate 167 0) (replicate 13 0)
-  pub rate-3-type-1 : Succeeds (image 3 1 (lone 1) 1) (3 ∷ 1 ∷ 1 ∷ 1 ∷ 0 ∷ 1 ∷ []) (1 ∷ replicate 167 0) (replicate 13 0)
+  -- "Success (0) gives settings; m; speech, ..; the number of bad pairs; end, ..": 87 B2, the header of each rate and type, 01, ten 00, 04, 126
+  -- times 00 give the frame 1,0,0,0,0,0,0, and all notes are 0
+  pub rate-0-type-0 : Succeeds (spokenBehind (0x08 ∷ 0x00 ∷ 0x0E ∷ 0xEE ∷ [])) (0 ∷ 0 ∷ 1 ∷ 1 ∷ 0 ∷ 1 ∷ []) (1 ∷ replicate 167 0) (replicate 13 0)
+  pub rate-1-type-0 : Succeeds (spokenBehind (0x09 ∷ 0x00 ∷ 0x0F ∷ 0x3F ∷ [])) (1 ∷ 0 ∷ 1 ∷ 1 ∷ 0 ∷ 1 ∷ []) (1 ∷ replicate 167 0) (replicate 13 0)
+  pub rate-3-type-0 : Succeeds (spokenBehind (0x0B ∷ 0x00 ∷ 0x0C ∷ 0x4C ∷ [])) (3 ∷ 0 ∷ 1 ∷ 1 ∷ 0 ∷ 1 ∷ []) (1 ∷ replicate 167 0) (replicate 13 0)
+  pub rate-0-type-1 : Succeeds (spokenBehind (0x0C ∷ 0x00 ∷ 0x09 ∷ 0x59 ∷ [])) (0 ∷ 1 ∷ 1 ∷ 1 ∷ 0 ∷ 1 ∷ []) (1 ∷ replicate 167 0) (replicate 13 0)
+  pub rate-1-type-1 : Succeeds (spokenBehind (0x0D ∷ 0x00 ∷ 0x08 ∷ 0x88 ∷ [])) (1 ∷ 1 ∷ 1 ∷ 1 ∷ 0 ∷ 1 ∷ []) (1 ∷ replicate 167 0) (replicate 13 0)
+  pub rate-3-type-1 : Succeeds (spokenBehind (0x0F ∷ 0x00 ∷ 0x0B ∷ 0xFB ∷ [])) (3 ∷ 1 ∷ 1 ∷ 1 ∷ 0 ∷ 1 ∷ []) (1 ∷ replicate 167 0) (replicate 13 0)
 
 -- ---- from an outcome to a line
 refuses : (s : List ℕ) (codebook thresholds : List ℤ) (index report : List ℕ) (r : Refusal) → reading s codebook thresholds index report ≡ outcome (Refused r) index report
@@ -302,28 +307,9 @@ module _ (s ps : List ℕ) (cut : cutting s ≡ record { places = ps; ending = w
             ))
 
 -- ---- the headers, by the laws of their code: it is shut here
-of-octets : (w a b c d : ℕ) → octets w ≡ a ∷ b ∷ c ∷ d ∷ [] → w ≡ a + 256 * b + 65536 * c + 16777216 * d
-of-octets w a b c d e =
-    let x : w % 256 ≡ a = ap (λ (l : List ℕ). getD l 0 0) e in
-    let y : w / 256 % 256 ≡ b = ap (λ (l : List ℕ). getD l 1 0) e in
-    let z : w / 65536 % 256 ≡ c = ap (λ (l : List ℕ). getD l 2 0) e in
-    let t : w / 16777216 ≡ d = ap (λ (l : List ℕ). getD l 3 0) e in
-    omega arith
-
-no-ones : ones 0 ≡ 0
-unfolding onesIn
-no-ones = sym (ones-in 1 0 (lit< tt))
-
 one-one : ones 1 ≡ 1
 unfolding onesIn
 one-one = sym (ones-in 1 1 (lit< tt))
-
--- a codeword is read as itself
-clean : (m w : ℕ) → m < 2 ^ 16 → codeword m ≡ w → H.reading w ≡ Codeword m 0
-unfolding flipsTo
-clean m w h e =
-    let z : flipsTo w m ≡ 0 = ap (λ (x : ℕ). ones (bitXor w x)) e ∙ ap ones (xor-self w) ∙ no-ones in
-    near w m h (omega arith) ∙ ap (Codeword m) z
 
 read-1 : H.reading 0xEE0E0008 ≡ Codeword 8 0
 read-1 = clean 8 0xEE0E0008 (lit< tt) (of-octets (codeword 8) 0x08 0x00 0x0E 0xEE count-1)
@@ -335,9 +321,10 @@ read-exp : H.reading 0xE8808000 ≡ Codeword 32768 0
 read-exp = clean 32768 0xE8808000 (lit< tt) (of-octets (codeword 32768) 0x00 0x80 0x80 0xE8 exp-9)
 
 read-flipped : H.reading 0xEE0E0009 ≡ Codeword 8 1
-read-flipped =
-    ap (λ (w : ℕ). H.reading (bitXor w 1)) (sym (of-octets (codeword 8) 0x08 0x00 0x0E 0xEE count-1)) ∙ mended 8 1 (lit< tt) (omega (arith, one-one))
-    ∙ ap (Codeword 8) one-one
+read-flipped = flips 8 0xEE0E0008 1 1 (lit< tt) (of-octets (codeword 8) 0x08 0x00 0x0E 0xEE count-1) one-one (lit< tt)
+
+read-rate-2 : H.reading 0x9D0D000A ≡ Codeword (message 2 0 1 0) 0
+read-rate-2 = clean (message 2 0 1 0) 0x9D0D000A (message-lt 2 0 1 0) (word-of 2 0 1 0x0A 0x00 0x0D 0x9D (Headers.table .header-2-0))
 
 read-lost : H.reading 0x01010001 ≡ Lost
 read-lost = lost-at-three 0x01010001 0 (lit< tt) three-from-zero
@@ -370,6 +357,10 @@ settles-one = ap settling (head-one 0x08 0x00 0x0E 0xEE ∙ ap (λ (h : Header).
 settles-flipped : settling (readings (headed flipped) (0 ∷ [])) ≡ S.Unsettled
 unfolding value fields field
 settles-flipped = ap settling (head-one 0x09 0x00 0x0E 0xEE ∙ ap (λ (h : Header). h ∷ []) read-flipped) ∙ only-mended 8 1 (λ e. omega arith)
+
+settles-rate-2 : settling (readings (headed rate2) (0 ∷ [])) ≡ S.Settled (commonBits (message 2 0 1 0))
+unfolding value fields field
+settles-rate-2 = ap settling (head-one 0x0A 0x00 0x0D 0x9D ∙ ap (λ (h : Header). h ∷ []) read-rate-2) ∙ only-clean (message 2 0 1 0)
 
 settles-exp : settling (readings (headed exp9) (0 ∷ [])) ≡ S.Settled (commonBits 32768)
 unfolding value fields field
@@ -407,17 +398,6 @@ fails-bad = refl
 bad-bad : (codebook thresholds : List ℤ) → badPairs (pairNotes allBad (0 ∷ []) codebook thresholds) ≡ 12
 unfolding pairNotes noteBy
 bad-bad codebook thresholds = ap (λ (l : List Bool). badPairs (notes l (each (pairOdd allBad (0 ∷ []) codebook thresholds) 12))) fails-bad
-
--- ---- an image of rate 2, which no writer writes
-read-rate : (k : ℕ) → k < 1 → H.reading (wordIn (image 2 0 [] 1) k) ≡ Codeword (message 2 0 (k + 1) 0) 0
-read-rate k h = clean (message 2 0 (k + 1) 0) (wordIn (image 2 0 [] 1) k) (message-lt 2 0 (k + 1) 0) (sym (image-word 2 0 [] 1 k h))
-
-rate-2 : Always (image 2 0 [] 1) 17 0
-rate-2 =
-    let s = image 2 0 [] 1 in
-    let m = message 2 0 1 0 in
-    is-17-rate s (rowOf 1) (cut-is s 1 (lit< tt) (length-image 2 0 [] 1) (image-sync 2 0 [] 1)) (λ e. omega arith) (commonBits m)
-    (ap settling (readings-are s 1 ∙ ap (λ (h : Header). h ∷ []) (read-rate 0 (lit< tt))) ∙ only-clean m) (common-rate m ∙ rate-back 2 0 1 0)
 
 -- ---- behind n multiframes alike
 module _ (f : List ℕ) (size : length f ≡ multiframeOctets) where
@@ -512,11 +492,13 @@ many-lost n h few =
     (ap settling (readings-are s n ∙ same-each (λ k. H.reading (wordIn s k)) (λ k. Lost) n (word-lost n)) ∙ lost-unsettled n)
 
 -- ---- success, by the theorem "reads back"
-speaks : (rate kind : ℕ) → verdict rate kind (lone 1) (needed (lone 1)) ≡ Written (needed (lone 1))
-    → Succeeds (image rate kind (lone 1) 1) (rate ∷ kind ∷ 1 ∷ 1 ∷ 0 ∷ 1 ∷ []) (1 ∷ replicate 167 0) (replicate 13 0)
-speaks rate kind w codebook thresholds sc st index report hi hr =
+speaks : (rate kind : ℕ) (h : List ℕ) → header rate kind 1 ≡ h → verdict rate kind (lone 1) (needed (lone 1)) ≡ Written (needed (lone 1))
+    → Succeeds (spokenBehind h) (rate ∷ kind ∷ 1 ∷ 1 ∷ 0 ∷ 1 ∷ []) (1 ∷ replicate 167 0) (replicate 13 0)
+speaks rate kind h x w codebook thresholds sc st index report hi hr =
     let u : Utterance = record { rate = rate; kind = kind; indices = lone 1; small = small-lone 1 (lit< tt); written = w } in
-    let e = reads-image u codebook thresholds index report record { codebook-size = sc; thresholds-size = st; index-room = hi; report-room = hr } in
+    let e =
+    ap (λ (i : List ℕ). reading i codebook thresholds index report) (sym (spoken-image rate kind h x))
+    ∙ reads-image u codebook thresholds index report record { codebook-size = sc; thresholds-size = st; index-room = hi; report-room = hr } in
     record {
       number-is = ap (λ (o : Outcome). answerNumber (o .answer)) e;
       values-are = ap (λ (o : Outcome). answerValues (o .answer)) e;
@@ -527,6 +509,11 @@ speaks rate kind w codebook thresholds sc st index report hi hr =
 -- ---- the lines
 flipped-16 : Always (headed flipped) 16 0
 flipped-16 = is-16 (headed flipped) (0 ∷ []) (cut-one 0x09 0x00 0x0E 0xEE) (λ e. omega arith) settles-flipped
+
+rate-17 : Always (headed rate2) 17 0
+rate-17 =
+    let m = message 2 0 1 0 in
+    is-17-rate (headed rate2) (0 ∷ []) (cut-one 0x0A 0x00 0x0D 0x9D) (λ e. omega arith) (commonBits m) settles-rate-2 (common-rate m ∙ rate-back 2 0 1 0)
 
 exp-17 : Always (headed exp9) 17 0
 exp-17 =
@@ -561,7 +548,7 @@ table = record {
   multiframe-256 = is-cut (again 255 one ++ one) _ (behind count1 refl 255 one (lit< tt));
   cut-256 = is-cut (again 255 one ++ (0x87 ∷ 0xB2 ∷ [])) _ (behind count1 refl 255 (0x87 ∷ 0xB2 ∷ []) (lit< tt));
   one-flip = flipped-16;
-  settled-rate-2 = rate-2;
+  settled-rate-2 = rate-17;
   settled-exp-9 = exp-17;
   index-167 = one-18 167 13 (lit< tt);
   index-335 = is-18 two (0 ∷ 144 ∷ []) cut-two (λ e. omega arith) (commonBits 8) settles-two usable-8 335 26 (lit< tt);
@@ -582,10 +569,10 @@ table = record {
   unfit-before-18 = sized exp-17 0 0;
   index-before-19 = one-18 167 12 (lit< tt);
   report-before-20 = bad-19;
-  rate-0-type-0 = speaks 0 0 refl;
-  rate-1-type-0 = speaks 1 0 refl;
-  rate-3-type-0 = speaks 3 0 refl;
-  rate-0-type-1 = speaks 0 1 refl;
-  rate-1-type-1 = speaks 1 1 refl;
-  rate-3-type-1 = speaks 3 1 refl;
+  rate-0-type-0 = speaks 0 0 (0x08 ∷ 0x00 ∷ 0x0E ∷ 0xEE ∷ []) (Headers.table .header-0-0) refl;
+  rate-1-type-0 = speaks 1 0 (0x09 ∷ 0x00 ∷ 0x0F ∷ 0x3F ∷ []) (Headers.table .header-1-0) refl;
+  rate-3-type-0 = speaks 3 0 (0x0B ∷ 0x00 ∷ 0x0C ∷ 0x4C ∷ []) (Headers.table .header-3-0) refl;
+  rate-0-type-1 = speaks 0 1 (0x0C ∷ 0x00 ∷ 0x09 ∷ 0x59 ∷ []) (Headers.table .header-0-1) refl;
+  rate-1-type-1 = speaks 1 1 (0x0D ∷ 0x00 ∷ 0x08 ∷ 0x88 ∷ []) (Headers.table .header-1-1) refl;
+  rate-3-type-1 = speaks 3 1 (0x0F ∷ 0x00 ∷ 0x0B ∷ 0xFB ∷ []) (Headers.table .header-3-1) refl;
 }
