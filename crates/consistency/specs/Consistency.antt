@@ -1,4 +1,4 @@
--- Inconsistent pairs (01, "Reading" and "Bad pairs"; 001, 7.2 and 7.3).
+-- Inconsistent pairs (01, "Reading" and "Bad pairs"; ES 201 108, (7.2) and (7.3)).
 -- Codebook and thresholds are lists of signed numbers, a frame a list of seven indices.
 -- Assumes nothing.
 use Prim.Native.Nat.{ℕ, zero, suc, _+_, _*_, _<_}

@@ -144,7 +144,7 @@ module _ (u : Utterance) (s : List ℕ) (from least : ℕ) (front behind : List 
     there : Stands img (multiframesOf u) s (length front)
     there = shifted-stands img (multiframesOf u) cut s front behind (h .same)
 
-    no-flips : (k : ℕ) → k < multiframesOf u → receivedFlips u s (length front) k ≡ 0
+    pub no-flips : (k : ℕ) → k < multiframesOf u → receivedFlips u s (length front) k ≡ 0
     no-flips k l =
         ap (λ (x : ℕ). ones (bitXor x (wordIn img k))) (there .words k l) ∙ ap ones (xor-self (wordIn img k)) ∙ omega (arith, ones-le 0 0 (lit< tt))
 

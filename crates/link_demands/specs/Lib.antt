@@ -8,3 +8,4 @@ pub mod Met
 pub mod Cut
 pub mod Hunted
 pub mod Linked
+pub mod Told
