@@ -1,6 +1,6 @@
 -- NAMES THE DAMAGE AT ANY BIT, said of the bits received: an accepted utterance stands at any bit, up to 16 - T bits are flipped in each sync, at
--- most two in each header, and its packets are damaged as demand 3 says; no place before it and none behind it passes the test. Then the hunting
--- reader says of it all that demand 3 asks.
+-- most two in each header, and its packets are damaged as demand 3 says; no place before it and none behind it passes the test. Then, with demand 3's
+-- premises (two multiframes or an untouched only header, one pair not bad), the hunting reader says of it all that demand 3 asks.
 -- Assumes nothing.
 use Prim.Native.Nat.{ℕ, _+_, _*_, _/_, _≤_, _<_}
 use mathlib.Core.Path.{_≡_, sym, ap, _∙_, subst}

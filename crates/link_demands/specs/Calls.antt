@@ -35,8 +35,8 @@ use Rattle.hunting.specs.declared.Refusal as GR
 use Rattle.hunting.specs.declared.Refusal.the-variants as GV
 use Rattle.hunting.specs.declared.Answer as GA
 use Rattle.hunting.specs.declared.Answer.the-variants as GW
-use Rattle.link.specs.Link.{answerNumbers, summaryNumbers, Returned, returned, answered, returning, WriteReturned, dsrWrite, dsrRead}
-use Rattle.link.specs.Bits.{countedNumbers, numbersOf, BitsReturned, bitsReturned, bitsAnswered, bitsReturning, dsrReadBits}
+use Rattle.link.specs.Link.{answerNumbers, summaryNumbers, returned, answered, returning, dsrWrite, dsrRead}
+use Rattle.link.specs.Bits.{countedNumbers, numbersOf, bitsReturned, bitsAnswered, bitsReturning, dsrReadBits}
 
 -- octets beyond what is laid over a buffer's front stay
 pub beyond : (l f : List ℕ) (w : ℕ) → w ≤ length l → length f ≡ w → drop w (over l 0 w f) ≡ drop w l

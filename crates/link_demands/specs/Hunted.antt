@@ -1,11 +1,10 @@
--- THE HUNT AT dsr_hunt: 0 gives the smallest place from the first bit on that passes the test, and how many were tested; 22 comes exactly if none does,
--- and 21 exactly if T is not 12 to 16. What is not named stays.
+-- THE HUNT AT dsr_hunt: 0 gives the smallest place from the first bit on that passes the test, and how many were tested; 21 comes exactly if T is not 12
+-- to 16, and else 22 exactly if none does. What is not named stays.
 -- Assumes nothing.
 use mathlib.Core.Path.{_≡_, refl, sym, ap, _∙_, subst}
 use mathlib.Core.Bool.{Bool, true, false}
 use mathlib.Core.List.{List}
 use Prim.Native.Nat.{ℕ, suc, _+_, _-_, _≤_, _<_}
-use native.Mathlib.Omega.{arith}
 use Rattle.lists.specs.Tests.{true-false}
 use Rattle.bits.specs.Bits.{bits}
 use Rattle.hunt.specs.Hunt.{multiframeBits, inRange, passes, searched, placesLeft, hunted, huntedFrom}

@@ -9,10 +9,9 @@ use lib.IntN.{ℤ}
 use lib.ListN.{length, getD}
 use Rattle.layout.specs.Layout.{reportOctets}
 use Rattle.writer.specs.Made.{syncIn}
-use Rattle.writer.specs.Image.{Utterance, multiframesOf, imageOf}
+use Rattle.writer.specs.Image.{Utterance, imageOf}
 use Rattle.link.specs.Link.{Returned, dsrRead}
 use Rattle.demands.specs.Damage.{DamageUpTo, headerBits, headerFlips}
-use Rattle.promises.specs.Misled as M
 use Rattle.link_demands.specs.Called.{Call, octetsOf, countOf, called, octets-are}
 use Rattle.link_demands.specs.Named.{Tells, HearsAll, c-names-if-read, c-trusted, c-never-misled}
 

@@ -95,7 +95,7 @@ module _ (u : Utterance) (b c : ℕ) (lb : b < 2 ^ 32) (lc : c < 2 ^ 32) (f : �
     headers = inl (record { two = two; but = 1; others = λ k h n. subst (λ (i : ℕ). i ≤ 3) (sym (flips-in-others k h n)) few });
   }
 
--- the incident: the second header is that of 11 kHz, six flips from the one sent, every other has three, and the packets are garbage
+-- the incident: the second header is that of 11 kHz (if 8 kHz was sent), six flips from the one sent, every other has three, and the packets are garbage
 abbrev pub garbled : Utterance → (ℕ → List Bool) → List ℕ
 garbled u f = flipped u (inSecond rateBits 7) f
 

@@ -1,4 +1,4 @@
--- Why the premises of what the yards are told are there: without each of them the sentence is false, and this is what happens instead.
+-- What happens without a premise of what the yards are told, for the premises tried here; Inverse, CutOff and CutDamaged have their own.
 -- Assumes nothing.
 use mathlib.Core.Path.{_≡_, refl, sym, ap, ap₂, _∙_, subst}
 use mathlib.Core.Bool.{Bool, true, false}
