@@ -9,3 +9,4 @@ pub mod Cut
 pub mod Hunted
 pub mod Linked
 pub mod Told
+pub mod Answers
