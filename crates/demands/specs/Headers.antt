@@ -21,7 +21,7 @@ use Rattle.header.specs.declared.Header.{Header}
 use Rattle.header.specs.declared.Header.the-variants.{Codeword, Lost}
 use Rattle.settling.specs.Settling.{among, readings, settling, headerNote}
 use Rattle.settling.specs.Laws.{Has, Earlier, First, settled-first, has-read, read-has, settled-same, two-settle, note-lost, only-clean, only-mended, only-lost}
-use Rattle.settling.specs.declared.Settings.the-variants.{Settled, Unsettled}
+use Rattle.settling.specs.declared.Settlement.the-variants.{Settled, Unsettled}
 use Rattle.writer.specs.Made.{wordIn}
 use Rattle.writer.specs.Image.{Utterance, multiframesOf, imageOf, rate-small, kind-small}
 use Rattle.demands.specs.Damage.{Damage, headerFlips, sentMessage, header-read, header-lost}

@@ -34,7 +34,7 @@ use Rattle.header.specs.Reading.Laws.{near}
 use Rattle.header.specs.declared.Header.{Header}
 use Rattle.header.specs.declared.Header.the-variants.{Codeword, Lost}
 use Rattle.settling.specs.Settling.{readings, settling, firstAgreeing, onlyOne}
-use Rattle.settling.specs.declared.Settings.the-variants as S
+use Rattle.settling.specs.declared.Settlement.the-variants as S
 use Rattle.hunt.specs.Hunt.{syncBits, multiframeBits, fewestMatches, sync, matches, passes, searched}
 use Rattle.hunt.specs.Laws.{searched-all}
 use Rattle.reader.specs.Reading as R

@@ -30,7 +30,7 @@ use Rattle.header.specs.declared.Header.the-variants.{Codeword, Lost}
 use Rattle.cutting.specs.Cutting.{syncMet, lastMet, pieceBy, whole, Cutting, walk, cutting}
 use Rattle.settling.specs.Settling.{readings, firstAgreeing, settling, headerNote}
 use Rattle.settling.specs.Laws.{all-agree, note-lost}
-use Rattle.settling.specs.declared.Settings.the-variants as S
+use Rattle.settling.specs.declared.Settlement.the-variants as S
 use Rattle.consistency.specs.Consistency.{flagged, flags, inconsistent}
 use Rattle.pairs.specs.Pairs.{pairCount, pairFails, pairOdd, framesOf, allFrames, pairNotes}
 use Rattle.pairs.specs.Laws.{length-notes, no-failed-crc}

@@ -32,8 +32,8 @@ use Rattle.cutting.specs.declared.Piece.the-variants.{Multiframe}
 use Rattle.cutting.specs.Laws.{multiframe-met, at-place, every-length}
 use Rattle.settling.specs.Settling.{readings, firstAgreeing, onlyOne, settling}
 use Rattle.settling.specs.Laws.{only-clean, only-mended, all-agree}
-use Rattle.settling.specs.declared.Settings.{Settings}
-use Rattle.settling.specs.declared.Settings.the-variants as S
+use Rattle.settling.specs.declared.Settlement.{Settlement}
+use Rattle.settling.specs.declared.Settlement.the-variants as S
 use Rattle.pairs.specs.Pairs.{pairCount, pairFails, pairOdd, pairNotes}
 use Rattle.judging.specs.Judging.{noteBy, notes, badPairs}
 use Rattle.reader.specs.Reading.{numberOf, placeOf, answerNumber, answerValues, cutRefusal, roomVerdict, settledVerdict, wholeVerdict, Outcome, outcome, finished, reading}
@@ -243,7 +243,7 @@ module _ (s ps : List ℕ) (cut : cutting s ≡ record { places = ps; ending = w
       (sym (whole-reading s codebook thresholds index report sc st (outcome (Refused (Empty (length s))) index report) ps
       (ap (λ (w : Cutting). w .ending) cut) (sym (ap (λ (w : Cutting). w .places) cut)) (rw (eq-eqb (length ps) 0 z))))
 
-  module _ (some : length ps ≡ 0 → ⊥) (x : Settings) (settles : settling (readings s ps) ≡ x) where
+  module _ (some : length ps ≡ 0 → ⊥) (x : Settlement) (settles : settling (readings s ps) ≡ x) where
     -- past 11 to 15 the settings decide
     next : (codebook thresholds : List ℤ) → length codebook ≡ 1280 → length thresholds ≡ 14 → (index report : List ℕ)
         → reading s codebook thresholds index report

@@ -14,7 +14,7 @@ use Rattle.header.specs.Message.Laws.{rate-back, count-back, common-rate, commo
 use Rattle.header.specs.declared.Header.{Header}
 use Rattle.header.specs.declared.Header.the-variants.{Codeword, Lost}
 use Rattle.settling.specs.Settling.{firstAgreeing, onlyOne, settling, headerNote}
-use Rattle.settling.specs.declared.Settings.the-variants.{Settled, Unsettled}
+use Rattle.settling.specs.declared.Settlement.the-variants.{Settled, Unsettled}
 use Rattle.consistency.specs.Consistency.{exceeding, risen, flagged, flags, inconsistent}
 use Rattle.replacing.specs.Replacing.{source, sourceBy, runStart, leading}
 use Rattle.replacing.specs.Examples.{standIns}

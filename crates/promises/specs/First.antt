@@ -25,7 +25,7 @@ use Rattle.header.specs.declared.Header.{Header}
 use Rattle.header.specs.declared.Header.the-variants.{Codeword, Lost}
 use Rattle.settling.specs.Settling.{readings, settling}
 use Rattle.settling.specs.Laws.{AllHave, all-agree, only-clean}
-use Rattle.settling.specs.declared.Settings.the-variants.{Settled}
+use Rattle.settling.specs.declared.Settlement.the-variants.{Settled}
 use Rattle.pairs.specs.Pairs.{packetAt, pairCount, pairFails, framesOf, allFrames, pairOdd, pairNotes}
 use Rattle.pairs.specs.Laws.{length-notes, length-all, frames-at}
 use Rattle.judging.specs.Judging.{noteBy, notes}

@@ -37,7 +37,7 @@ use Rattle.header.specs.declared.Header.{Header}
 use Rattle.header.specs.declared.Header.the-variants.{Codeword, Lost}
 use Rattle.settling.specs.Settling.{readings, settling, headerNote}
 use Rattle.settling.specs.Laws.{Has, read-has}
-use Rattle.settling.specs.declared.Settings.the-variants.{Settled}
+use Rattle.settling.specs.declared.Settlement.the-variants.{Settled}
 use Rattle.cutting.specs.Laws.{every-length}
 use Rattle.pairs.specs.Pairs.{pairCount, pairFails, pairOdd, framesOf, pairNotes}
 use Rattle.pairs.specs.Laws.{length-notes}

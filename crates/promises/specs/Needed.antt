@@ -33,7 +33,7 @@ use Rattle.header.specs.declared.Header.{Header}
 use Rattle.header.specs.declared.Header.the-variants.{Codeword, Lost}
 use Rattle.settling.specs.Settling.{readings, settling, firstAgreeing, onlyOne}
 use Rattle.settling.specs.Laws.{only-clean}
-use Rattle.settling.specs.declared.Settings.the-variants as Set
+use Rattle.settling.specs.declared.Settlement.the-variants as Set
 use Rattle.pairs.specs.Pairs.{pairCount, allFrames, pairNotes}
 use Rattle.pairs.specs.Laws.{length-notes, length-all}
 use Rattle.judging.specs.Judging.{badPairs}

@@ -15,8 +15,8 @@ use Rattle.header.specs.Message.{countOf, commonBits}
 use Rattle.header.specs.declared.Header.{Header}
 use Rattle.header.specs.declared.Header.the-variants.{Codeword, Lost}
 use Rattle.settling.specs.Settling.{among, firstAgreeing, onlyOne, orElse, settling, headerNote}
-use Rattle.settling.specs.declared.Settings.{Settings}
-use Rattle.settling.specs.declared.Settings.the-variants.{Settled, Unsettled}
+use Rattle.settling.specs.declared.Settlement.{Settlement}
+use Rattle.settling.specs.declared.Settlement.the-variants.{Settled, Unsettled}
 
 -- the note says how many flips were mended, whether the counter is in step and whether the common bits are the settled ones
 module _ (c k m f : ℕ) (mended : f ≤ 2) where
@@ -147,11 +147,11 @@ module _ (seen : List ℕ) (hs : List Header) where
       from (suc j) l h = inr (record { at = j; less = omega arith; has = h })
 
 -- what `firstAgreeing` gives
-abbrev pub Says : List ℕ → List Header → Settings → Type 0
+abbrev pub Says : List ℕ → List Header → Settlement → Type 0
 Says seen hs (Settled c) = First seen hs c
 Says seen hs Unsettled = (k d : ℕ) → Agrees seen hs k d → ⊥
 
-lost-on : (seen : List ℕ) (hs : List Header) (s : Settings) → Says seen hs s → Says seen (Lost ∷ hs) s
+lost-on : (seen : List ℕ) (hs : List Header) (s : Settlement) → Says seen hs s → Says seen (Lost ∷ hs) s
 lost-on seen hs (Settled c) r = record { at = suc (r .at); agrees = past seen hs (r .at) c (r .agrees); none = λ i d h a. before i d h a }
   where
     before : (i d : ℕ) → i < suc (r .at) → Agrees seen (Lost ∷ hs) i d → ⊥
@@ -163,7 +163,7 @@ lost-on seen hs Unsettled r = λ k d a. nowhere k d a
     nowhere zero d a = a .has
     nowhere (suc k) d a = r k d (over-lost seen hs k d a)
 
-read-on : (m f : ℕ) (seen : List ℕ) (hs : List Header) (s : Settings) → among (commonBits m) seen ≡ false → Says (commonBits m ∷ seen) hs s → Says seen (Codeword m f ∷ hs) s
+read-on : (m f : ℕ) (seen : List ℕ) (hs : List Header) (s : Settlement) → among (commonBits m) seen ≡ false → Says (commonBits m ∷ seen) hs s → Says seen (Codeword m f ∷ hs) s
 read-on m f seen hs (Settled c) new r = record { at = suc (r .at); agrees = back m f seen hs (r .at) c (r .agrees); none = λ i d h a. before i d h a }
   where
     before : (i d : ℕ) → i < suc (r .at) → Agrees seen (Codeword m f ∷ hs) i d → ⊥
@@ -210,7 +210,7 @@ unfolding settling firstAgreeing
 all-agree [] c n a = absurd (omega arith)
 all-agree (Lost ∷ hs) c n a = absurd a
 all-agree (Codeword m f ∷ hs) c n a =
-    ap (λ (s : Settings). orElse s (onlyOne (Codeword m f ∷ hs)))
+    ap (λ (s : Settlement). orElse s (onlyOne (Codeword m f ∷ hs)))
     (again hs (commonBits m ∷ []) c (omega arith) (a .1) (seen-true c [] (commonBits m) (sym (a .0))))
 
 -- an only header settles them exactly if it is a codeword
@@ -227,7 +227,7 @@ unfolding settling firstAgreeing onlyOne
 only-lost = refl
 
 -- ---- what is settled
-isSettled : Settings → Bool
+isSettled : Settlement → Bool
 isSettled (Settled c) = true
 isSettled Unsettled = false
 
@@ -235,7 +235,7 @@ not-settled : (d : ℕ) → Unsettled ≡ Settled d → ⊥
 unfolding isSettled
 not-settled d e = true-false (sym (ap isSettled e))
 
-bitsIn : Settings → ℕ
+bitsIn : Settlement → ℕ
 bitsIn (Settled c) = c
 bitsIn Unsettled = 0
 
@@ -256,7 +256,7 @@ pub settled-first : (hs : List Header) (c : ℕ) → 2 ≤ length hs → settlin
 unfolding settling
 settled-first hs c two e = by (firstAgreeing [] hs) (first-agreeing [] hs) e
   where
-    by : (s : Settings) → Says [] hs s → orElse s (onlyOne hs) ≡ Settled c → First [] hs c
+    by : (s : Settlement) → Says [] hs s → orElse s (onlyOne hs) ≡ Settled c → First [] hs c
     by Unsettled x e = absurd (not-settled c (sym (more-than-one hs two) ∙ e))
     by (Settled x) f e = subst (First [] hs) (settled-bits x c e) f
 
@@ -282,7 +282,7 @@ module _ (hs : List Header) (c j : ℕ) (same : (k d : ℕ) → (k ≡ j → ⊥
   unfolding settling
   two-settle a b h ha hb = by (firstAgreeing [] hs) (first-agreeing [] hs)
     where
-      by : (s : Settings) → Says [] hs s → orElse s (onlyOne hs) ≡ Settled c
+      by : (s : Settlement) → Says [] hs s → orElse s (onlyOne hs) ≡ Settled c
       by Unsettled x = absurd (x b c (record { has = hb; with = inr (record { at = a; less = h; has = ha }) }))
       by (Settled x) f = ap Settled (agreed x f)
 

@@ -26,8 +26,8 @@ use Rattle.header.specs.Reading.Laws.{reads}
 use Rattle.header.specs.declared.Header.{Header}
 use Rattle.header.specs.declared.Header.the-variants.{Codeword, Lost}
 use Rattle.settling.specs.Settling.{headerWord, readings, among, firstAgreeing, onlyOne, orElse, headerNote}
-use Rattle.settling.specs.declared.Settings.{Settings}
-use Rattle.settling.specs.declared.Settings.the-variants.{Settled, Unsettled}
+use Rattle.settling.specs.declared.Settlement.{Settlement}
+use Rattle.settling.specs.declared.Settlement.the-variants.{Settled, Unsettled}
 
 -- ---- a reading as one number: the message, and above it the flips, of which a lost header has three
 abbrev pub packed : Header → ℕ
@@ -97,7 +97,7 @@ seenBefore hs zero = []
 seenBefore hs (suc k) = withSeen (getD hs k Lost) (seenBefore hs k)
 
 -- what one header settles
-abbrev pub settledBy : Header → List ℕ → Settings
+abbrev pub settledBy : Header → List ℕ → Settlement
 settledBy Lost seen = Unsettled
 settledBy (Codeword m f) seen = when (among (commonBits m) seen) (Settled (commonBits m)) Unsettled
 
@@ -117,7 +117,7 @@ agreeing-step (Codeword m f) hs seen = by (among (commonBits m) seen)
     by false = refl
 
 -- what is left to settle from header k on
-pub agreeing-on : (hs : List Header) (k : ℕ) (s : Settings) → k < length hs → s ≡ settledBy (getD hs k Lost) (seenBefore hs k)
+pub agreeing-on : (hs : List Header) (k : ℕ) (s : Settlement) → k < length hs → s ≡ settledBy (getD hs k Lost) (seenBefore hs k)
     → firstAgreeing (seenBefore hs k) (drop k hs) ≡ orElse s (firstAgreeing (seenBefore hs (k + 1)) (drop (k + 1) hs))
 unfolding seenBefore
 agreeing-on hs k s h e = rw (drop-cons hs k Lost h, add-one k, e) (agreeing-step (getD hs k Lost) (drop (suc k) hs) (seenBefore hs k))
@@ -140,7 +140,7 @@ unfolding seenBefore
 among-none hs c = refl
 
 -- ---- an only header
-abbrev pub onlyBy : Header → Settings
+abbrev pub onlyBy : Header → Settlement
 onlyBy Lost = Unsettled
 onlyBy (Codeword m f) = when (eqb f 0) (Settled (commonBits m)) Unsettled
 

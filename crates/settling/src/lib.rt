@@ -13,7 +13,7 @@ ghost use Rattle.settling.specs.Settling.{headerWord, among, firstAgreei
 ghost use Rattle.settling.specs.Stored.{packed, opened, Mended, openAll, packAll, seenBefore, settledBy, hasCommon, stepNote, commonNote};
 
 // What the headers settle: common bits, SampRate, feType and EXP, as a message with its counter 0; or nothing.
-pub enum Settings {
+pub enum Settlement {
     Settled { common: u16 },
     Unsettled,
 }
@@ -105,58 +105,58 @@ fn was_seen(headers: &[u32], k: usize, common: u16) -> bool
 }
 
 // What header k settles: its common bits, if an earlier readable one has the same.
-fn agreed(headers: &[u32], k: usize) -> Settings
+fn agreed(headers: &[u32], k: usize) -> Settlement
     requires { ⌜ k < length (now headers) ⌝ }
     ensures { λ r. ⌜ r ≡ settledBy (getD (openAll (now (headers .entry))) k Lost) (seenBefore (openAll (now (headers .entry))) k) ⌝ }
 {
     let Header::Codeword { message, flips: _ } = open_reading(headers[k]) else {
-        return Settings::Unsettled;
+        return Settlement::Unsettled;
     };
     let common = header::common_of(message);
     if was_seen(headers, k, common) {
-        return Settings::Settled { common };
+        return Settlement::Settled { common };
     }
-    Settings::Unsettled
+    Settlement::Unsettled
 }
 
-fn first_agreeing(headers: &[u32]) -> Settings
+fn first_agreeing(headers: &[u32]) -> Settlement
     ensures { λ r. ⌜ r ≡ firstAgreeing [] (openAll (now (headers .entry))) ⌝ }
 {
     let mut k = 0;
     while k < headers.len() {
-        if let Settings::Settled { common } = agreed(headers, k) {
-            return Settings::Settled { common };
+        if let Settlement::Settled { common } = agreed(headers, k) {
+            return Settlement::Settled { common };
         }
         k += 1;
     }
-    Settings::Unsettled
+    Settlement::Unsettled
 }
 
 // An only header settles its common bits if it is itself a codeword (house).
-fn only_one(headers: &[u32]) -> Settings
+fn only_one(headers: &[u32]) -> Settlement
     ensures { λ r. ⌜ r ≡ onlyOne (openAll (now (headers .entry))) ⌝ }
 {
     if headers.len() != 1 {
-        return Settings::Unsettled;
+        return Settlement::Unsettled;
     }
     let Header::Codeword { message, flips } = open_reading(headers[0]) else {
-        return Settings::Unsettled;
+        return Settlement::Unsettled;
     };
     if flips == 0 {
-        return Settings::Settled {
+        return Settlement::Settled {
             common: header::common_of(message),
         };
     }
-    Settings::Unsettled
+    Settlement::Unsettled
 }
 
 // settle gives what the readings of all headers settle.
-pub fn settle(headers: &[u32]) -> Settings
+pub fn settle(headers: &[u32]) -> Settlement
     ensures { λ r. ⌜ r ≡ settling (openAll (now (headers .entry))) ⌝ }
 {
     match first_agreeing(headers) {
-        Settings::Settled { common } => Settings::Settled { common },
-        Settings::Unsettled => only_one(headers),
+        Settlement::Settled { common } => Settlement::Settled { common },
+        Settlement::Unsettled => only_one(headers),
     }
 }
 
