@@ -1,4 +1,5 @@
 // Settings and header notes: every header of an utterance read once, what the readings settle, and what the report says of each.
+use header::Decoded;
 use header::Header;
 use layout::MultiframeLayout;
 ghost use mathlib.Core.Path.{_≡_};
@@ -45,10 +46,10 @@ fn pack_reading(h: Header) -> u32
     requires { ⌜ Mended h ⌝ }
     ensures { λ r. ⌜ r ≡ packed h ⌝ }
 {
-    let Header::Codeword { message, flips } = h else {
+    let Header::Codeword(d) = h else {
         return LOST_FLIPS * ABOVE;
     };
-    flips * ABOVE + message as u32
+    d.flips * ABOVE + d.message as u32
 }
 
 fn open_reading(x: u32) -> Header
@@ -58,10 +59,10 @@ fn open_reading(x: u32) -> Header
     if flips == LOST_FLIPS {
         return Header::Lost;
     }
-    Header::Codeword {
+    Header::Codeword(Decoded {
         message: (x % ABOVE) as u16,
         flips,
-    }
+    })
 }
 
 // read_headers puts the reading of every header to the front of headers; the rest of headers stays.
@@ -83,10 +84,10 @@ pub fn read_headers(octets: &[u8], places: &[usize], headers: &mut [u32])
 fn has_common(h: Header, common: u16) -> bool
     ensures { λ r. ⌜ r ≡ hasCommon h common ⌝ }
 {
-    let Header::Codeword { message, flips: _ } = h else {
+    let Header::Codeword(d) = h else {
         return false;
     };
-    common == header::common_of(message)
+    common == header::common_of(d.message)
 }
 
 // Whether one of the first k headers was read with these common bits: the nearest is tried first.
@@ -109,10 +110,10 @@ fn agreed(headers: &[u32], k: usize) -> Settlement
     requires { ⌜ k < length (now headers) ⌝ }
     ensures { λ r. ⌜ r ≡ settledBy (getD (openAll (now (headers .entry))) k Lost) (seenBefore (openAll (now (headers .entry))) k) ⌝ }
 {
-    let Header::Codeword { message, flips: _ } = open_reading(headers[k]) else {
+    let Header::Codeword(d) = open_reading(headers[k]) else {
         return Settlement::Unsettled;
     };
-    let common = header::common_of(message);
+    let common = header::common_of(d.message);
     if was_seen(headers, k, common) {
         return Settlement::Settled { common };
     }
@@ -139,12 +140,12 @@ fn only_one(headers: &[u32]) -> Settlement
     if headers.len() != 1 {
         return Settlement::Unsettled;
     }
-    let Header::Codeword { message, flips } = open_reading(headers[0]) else {
+    let Header::Codeword(d) = open_reading(headers[0]) else {
         return Settlement::Unsettled;
     };
-    if flips == 0 {
+    if d.flips == 0 {
         return Settlement::Settled {
-            common: header::common_of(message),
+            common: header::common_of(d.message),
         };
     }
     Settlement::Unsettled
@@ -186,12 +187,12 @@ fn note_of(h: Header, k: usize, common: u16) -> u8
     requires { ⌜ Mended h × (k < 65536) ⌝ }
     ensures { λ r. ⌜ r ≡ headerNote common k h ⌝ }
 {
-    let Header::Codeword { message, flips } = h else {
+    let Header::Codeword(d) = h else {
         return LOST;
     };
-    let step = step_note(header::fields_of(message).count, k);
-    let like = common_note(header::common_of(message), common);
-    flips as u8 + step + like
+    let step = step_note(header::fields_of(d.message).count, k);
+    let like = common_note(header::common_of(d.message), common);
+    d.flips as u8 + step + like
 }
 
 // note_at gives the note of header k of the readings in an array, as read_headers puts them there.
