@@ -32,7 +32,7 @@ use Rattle.header_code.specs.Code.Distance.{codeword-lt}
 use Rattle.header.specs.Message.{message, rateOf, expOf, commonBits}
 use Rattle.header.specs.Message.Laws.{message-lt, rate-back, common-rate}
 use Rattle.header.specs.Reading.{decodedAs, reading}
-use Rattle.header.specs.Reading.Laws.{flips-of, mended}
+use Rattle.header.specs.Reading.Laws.{mended}
 use Rattle.header.specs.declared.Decoded.{Decoded}
 use Rattle.header.specs.declared.Header.{Header}
 use Rattle.header.specs.declared.Header.the-variants.{Codeword}
@@ -462,7 +462,7 @@ module _ (codebook thresholds : List ℤ) (index report : List ℕ) where
           let size = H.searched-are says1 falseStart (λ k. sync) (λ k. 0) [] 6 f in
           let e : reading (wordAt (bits swallowed) 0) ≡ Codeword (decodedAs flippedWord (sentMessage says1 0)) =
           ap (λ (x : List Bool). reading (value x)) (H.front-there says1 falseStart (λ k. sync) (λ k. 0) [] 6 f 16 32 (omega (arith, start-size)))
-          ∙ ap reading (word-in sync flippedWord [] sync-size flipped-lt) ∙ mended (sentMessage says1 0) 1 (message-lt 0 0 1 0) one-few in
+          ∙ ap reading (word-in sync flippedWord [] sync-size flipped-lt) ∙ mended (sentMessage says1 0) 1 (message-lt 0 0 1 0) one-few .0 in
           let match : least ≤ matches (syncAt (bits swallowed) 0) sync =
           subst (λ (x : List Bool). least ≤ matches x sync)
           (sym (H.front-there says1 falseStart (λ k. sync) (λ k. 0) [] 6 f 0 16 (omega (arith, start-size)) ∙ sync-in sync flippedWord [] sync-size)) (sync-enough least high) in
@@ -474,7 +474,7 @@ module _ (codebook thresholds : List ℤ) (index report : List ℕ) where
                 (λ other. low) (λ other. inr no-ones) (λ other. lent);
             fails = λ h. true-false (sym taken ∙ h 0 (lit≤ tt) (omega (arith, start-size)));
             instead = mended-alone swallowed 0 0 least 1 (first-alone swallowed least (omega arith) taken (λ t a h. absurd (omega arith)))
-                (lit< tt) (lit≤ tt) low high codebook thresholds index report lent (decodedAs flippedWord (sentMessage says1 0)) refl e (λ q. omega (arith, sym (flips-of (sentMessage says1 0) 1) ∙ q, one-one));
+                (lit< tt) (lit≤ tt) low high codebook thresholds index report lent (decodedAs flippedWord (sentMessage says1 0)) refl e (λ q. omega (arith, sym (mended (sentMessage says1 0) 1 (message-lt 0 0 1 0) one-few .1) ∙ q, one-one));
           })
 
   -- NONE BEHIND: where a multiframe at 11 kHz follows the image, both are found, and nothing settles: 16
@@ -486,7 +486,7 @@ module _ (codebook thresholds : List ℤ) (index report : List ℕ) where
       let first = H.mended-there says1 [] (λ k. sync) (λ k. 0) other 144 f 0 (lit< tt) none-few in
       let second : reading (wordAt (bits followed) 1152) ≡ Codeword (decodedAs otherWord (sentMessage says1At11 0)) =
       ap (λ (x : List Bool). reading (value x)) (H.behind-there says1 [] (λ k. sync) (λ k. 0) other 144 f 1168 32 (lit≤ tt))
-      ∙ ap reading (word-in sync otherWord (stream (lone 1) 0 multiframePairs) sync-size other-lt) ∙ mended (sentMessage says1At11 0) 0 (message-lt 1 0 1 0) none-few in
+      ∙ ap reading (word-in sync otherWord (stream (lone 1) 0 multiframePairs) sync-size other-lt) ∙ mended (sentMessage says1At11 0) 0 (message-lt 1 0 1 0) none-few .0 in
       let match : least ≤ matches (syncAt (bits followed) 1152) sync =
       subst (λ (x : List Bool). least ≤ matches x sync)
       (sym (H.behind-there says1 [] (λ k. sync) (λ k. 0) other 144 f 1152 16 (lit≤ tt) ∙ sync-in sync otherWord (stream (lone 1) 0 multiframePairs) sync-size)) (sync-enough least high) in

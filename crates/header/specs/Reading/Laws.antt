@@ -155,10 +155,11 @@ flips-of m e =
     ap ones (ap (λ (x : ℕ). bitXor x (codeword m)) (xor-comm (codeword m) e) ∙ xor-twice e (codeword m))
 
 -- MENDED: a codeword with up to two flips is read as that codeword, with their number
-pub mended : (m e : ℕ) → m < 2 ^ 16 → ones e ≤ 2 → reading (bitXor (codeword m) e) ≡ Codeword (decodedAs (bitXor (codeword m) e) m)
+pub mended : (m e : ℕ) → m < 2 ^ 16 → ones e ≤ 2
+    → (reading (bitXor (codeword m) e) ≡ Codeword (decodedAs (bitXor (codeword m) e) m)) × (decodedAs (bitXor (codeword m) e) m .flips ≡ ones e)
 mended m e h l =
     let f = flips-of m e in
-    near (bitXor (codeword m) e) m h (omega arith)
+    (near (bitXor (codeword m) e) m h (omega arith), f)
 
 -- THREE: three flips of a codeword are always lost
 pub three-lost : (m e : ℕ) → m < 2 ^ 16 → ones e ≡ 3 → reading (bitXor (codeword m) e) ≡ Lost
