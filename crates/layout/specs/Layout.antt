@@ -83,9 +83,6 @@ multiframeOf pair = pair / multiframePairs
 abbrev pub firstPair : ℕ → ℕ
 firstPair multiframe = multiframePairs * multiframe
 
-abbrev pub multiframeOfFrame : ℕ → ℕ
-multiframeOfFrame frame = frame / multiframeFrames
-
 abbrev pub firstFrameOf : ℕ → ℕ
 firstFrameOf multiframe = multiframeFrames * multiframe
 

@@ -2,7 +2,7 @@
 // standard keeps apart. A second layout (the extended front end) gets types of its own beside these.
 ghost use mathlib.Core.Path.{_≡_};
 ghost use Prim.Native.Nat.{_<_};
-ghost use Rattle.layout.specs.Layout.{frameIndices, frameBits, crcBits, dataBits, packetBits, multiframePairs, multiframeFrames, headerOctets, streamOctets, multiframeOctets, mostMultiframes, mostFrames, indexOctets, reportOctets, codebookNumbers, thresholdNumbers, pairOf, firstFrame, secondFrame, multiframeOf, firstPair, multiframeOfFrame, firstFrameOf, packetStart};
+ghost use Rattle.layout.specs.Layout.{frameIndices, frameBits, crcBits, dataBits, packetBits, multiframePairs, multiframeFrames, headerOctets, streamOctets, multiframeOctets, mostMultiframes, mostFrames, indexOctets, reportOctets, codebookNumbers, thresholdNumbers, firstFrame, secondFrame, multiframeOf, firstPair, firstFrameOf, packetStart};
 
 // Six indices of 6 bits, then one of 8.
 pub struct FrameLayout;
@@ -124,20 +124,6 @@ pub struct Frame(pub usize);
 pub struct Pair(pub usize);
 
 pub struct Multiframe(pub usize);
-
-impl Frame {
-    pub fn pair(self) -> Pair
-        ensures { λ r. ⌜ r .0 ≡ pairOf (self .0) ⌝ }
-    {
-        Pair(self.0 / PacketLayout::FRAMES)
-    }
-
-    pub fn multiframe(self) -> Multiframe
-        ensures { λ r. ⌜ r .0 ≡ multiframeOfFrame (self .0) ⌝ }
-    {
-        Multiframe(self.0 / MultiframeLayout::FRAMES)
-    }
-}
 
 impl Pair {
     // A pair of a recording: far more than an utterance has, few enough that its frames' numbers fit.
