@@ -27,7 +27,7 @@ use Rattle.gf2.specs.Xor.{xor-swap}
 use Rattle.lists.specs.Tests.{true-false}
 use Rattle.lists.specs.Parts.{part}
 use Rattle.lists.specs.Rows.{each, joined, length-joined, joined-part}
-use Rattle.layout.specs.Layout.{frameIndices, multiframeFrames, indexOctets, packetBits, multiframePairs, multiframeOctets, mostMultiframes, streamOctets, firstPair, packetStart, multiframeOf}
+use Rattle.layout.specs.Layout.{frameIndices, multiframeFrames, indexOctets, packetBits, multiframePairs, multiframeOctets, mostMultiframes, streamOctets, firstPair, packetStart, multiframeOf, sync}
 use Rattle.bits.specs.Bits.{field, laid}
 use Rattle.crc.specs.Crc.{crc, after, flip, Damaged}
 use Rattle.crc.specs.Damage.{length-flip, flip-burst}
@@ -72,7 +72,7 @@ module _ (u : Utterance) (s : List ℕ) (d : Damage (multiframesOf u) (imageOf u
   size : length s ≡ multiframeOctets * m
   size = d .size ∙ length-image (u .rate) (u .kind) (u .indices) m
 
-  syncs : (k : ℕ) → k < m → syncIn s k ≡ 0x87 ∷ 0xB2 ∷ []
+  syncs : (k : ℕ) → k < m → syncIn s k ≡ sync
   syncs k h = d .syncs k h ∙ image-sync (u .rate) (u .kind) (u .indices) m k h
 
   pub mended-unsettles : m ≡ 1 → (headerFlips (imageOf u) s 0 ≡ 0 → ⊥) → reading s codebook thresholds index report ≡ outcome (Refused Unsettled) index report

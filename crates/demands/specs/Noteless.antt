@@ -17,7 +17,7 @@ use borrow.Author.Tests.{eqb-true}
 use Rattle.lists.specs.Tests.{when, true-false}
 use Rattle.lists.specs.Parts.{part, length-part, part-right}
 use Rattle.lists.specs.Rows.{joined, same-joined}
-use Rattle.layout.specs.Layout.{widths, frameIndices, dataBits, packetBits, multiframeFrames, multiframePairs, multiframeOctets, firstPair}
+use Rattle.layout.specs.Layout.{widths, frameIndices, dataBits, packetBits, multiframeFrames, multiframePairs, multiframeOctets, firstPair, sync}
 use Rattle.bits.specs.Bits.{bits, total}
 use Rattle.bits.specs.Laws.{length-bits, length-numbers}
 use Rattle.crc.specs.Crc.{Right}
@@ -80,7 +80,7 @@ in-a-row idx q zero = refl
 in-a-row idx q (suc n) = ap (λ (l : List Bool). l ++ packetOf idx (q + n)) (in-a-row idx q n)
 
 -- ---- the octets are the image
-module _ (s : List ℕ) (m : ℕ) (size : length s ≡ multiframeOctets * m) (small : Small s) (syncs : (k : ℕ) → k < m → syncIn s k ≡ 0x87 ∷ 0xB2 ∷ [])
+module _ (s : List ℕ) (m : ℕ) (size : length s ≡ multiframeOctets * m) (small : Small s) (syncs : (k : ℕ) → k < m → syncIn s k ≡ sync)
     (rate kind : ℕ) (idx : List ℕ) (headers : (k : ℕ) → k < m → wordIn s k ≡ codeword (message rate kind (k + 1) 0))
     (packets : (q : ℕ) → q < multiframePairs * m → packetOf idx q ≡ packetIn s q) where
   stream-is : (k : ℕ) → k < m → stream idx (firstPair k) multiframePairs ≡ bits (streamIn s k)

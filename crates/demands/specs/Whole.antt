@@ -17,9 +17,9 @@ use lib.ListN.{length, drop, getD, List·getD-append}
 use lib.Seq.{ext-getD, getD-take, getD-drop}
 use Rattle.lists.specs.Parts.{part, over, part-left}
 use Rattle.lists.specs.Rows.{each, same-each}
-use Rattle.layout.specs.Layout.{multiframePairs, multiframeOctets, syncOctets, headerOctets, streamOctets, mostMultiframes, indexOctets, reportOctets, codebookNumbers, thresholdNumbers, pairOf, multiframeOf, firstPair}
+use Rattle.layout.specs.Layout.{multiframePairs, multiframeOctets, syncOctets, headerOctets, streamOctets, mostMultiframes, indexOctets, reportOctets, codebookNumbers, thresholdNumbers, pairOf, multiframeOf, firstPair, sync}
 use Rattle.bits.specs.Bits.{bits}
-use Rattle.cutting.specs.Cutting.{Cutting, whole, cutting, syncFirst, syncSecond}
+use Rattle.cutting.specs.Cutting.{Cutting, whole, cutting}
 use Rattle.cutting.specs.Laws.{every, every-length, every-at, whole-image}
 use Rattle.header.specs.Reading as H
 use Rattle.header.specs.declared.Header.the-variants.{Lost}
@@ -66,8 +66,8 @@ readings-are s m =
     ∙ same-each (λ k. H.reading (headerWord s (getD (rowOf m) k 0))) (λ k. H.reading (wordIn s k)) m (λ k h. ap H.reading (word-at s m k h))
 
 module _ (s : List ℕ) (m : ℕ) (few : m ≤ mostMultiframes) (size : length s ≡ multiframeOctets * m)
-    (syncs : (k : ℕ) → k < m → syncIn s k ≡ syncFirst ∷ syncSecond ∷ []) where
-  in-sync : (k i : ℕ) → k < m → i < 2 → getD s (multiframeOctets * k + i) 0 ≡ getD (syncFirst ∷ syncSecond ∷ []) i 0
+    (syncs : (k : ℕ) → k < m → syncIn s k ≡ sync) where
+  in-sync : (k i : ℕ) → k < m → i < 2 → getD s (multiframeOctets * k + i) 0 ≡ getD sync i 0
   in-sync k i h l =
       sym (getD-take 2 (drop (144 * k) s) i 0 l ∙ getD-drop (144 * k) s i 0) ∙ ap (λ (x : List ℕ). getD x i 0) (syncs k h)
 
@@ -157,7 +157,7 @@ all-zero-at (x ∷ l) j e = by (eqb x 0) refl e j (λ i z. all-zero-at l i z)
     by false z e j f = absurd (true-false (sym e))
 
 -- ---- refusals that damage can bring: 16 and 20
-module _ (s : List ℕ) (m : ℕ) (few : m ≤ mostMultiframes) (size : length s ≡ multiframeOctets * m) (syncs : (k : ℕ) → k < m → syncIn s k ≡ syncFirst ∷ syncSecond ∷ [])
+module _ (s : List ℕ) (m : ℕ) (few : m ≤ mostMultiframes) (size : length s ≡ multiframeOctets * m) (syncs : (k : ℕ) → k < m → syncIn s k ≡ sync)
     (codebook thresholds : List ℤ) (index report : List ℕ) (some : 0 < m) (lent : Lent m codebook thresholds index report) where
   -- past 11 to 15 the settings decide
   settled-next : verdict s codebook thresholds (length index) (length report)

@@ -16,7 +16,7 @@ use borrow.Author.Tests.{eq-eqb, ne-eqb, lt-ltb, le-ltb}
 use Rattle.gf2.specs.Light.{ones-in}
 use Rattle.lists.specs.Parts.{part}
 use Rattle.lists.specs.Rows.{joined, each, length-each, each-at, same-each, length-joined, joined-part}
-use Rattle.layout.specs.Layout.{multiframeOctets, mostMultiframes, indexOctets, reportOctets}
+use Rattle.layout.specs.Layout.{multiframeOctets, mostMultiframes, indexOctets, reportOctets, syncFirst, syncSecond}
 use Rattle.bits.specs.Bits.{value, bits, field, fields}
 use Rattle.crc.specs.Crc.{after, crc, alike, right}
 use Rattle.header_code.specs.Code.{codeword}
@@ -27,7 +27,7 @@ use Rattle.header.specs.Reading as H
 use Rattle.header.specs.Reading.Laws.{lost-at-three}
 use Rattle.header.specs.declared.Header.{Header}
 use Rattle.header.specs.declared.Header.the-variants.{Codeword, Lost}
-use Rattle.cutting.specs.Cutting.{syncFirst, syncSecond, syncMet, lastMet, pieceBy, pieceOf, Ending, whole, refused, Cutting, walk, cutting}
+use Rattle.cutting.specs.Cutting.{syncMet, lastMet, pieceBy, pieceOf, Ending, whole, refused, Cutting, walk, cutting}
 use Rattle.cutting.specs.declared.Piece.the-variants.{Multiframe}
 use Rattle.cutting.specs.Laws.{multiframe-met, at-place, every-length}
 use Rattle.settling.specs.Settling.{readings, firstAgreeing, onlyOne, settling}

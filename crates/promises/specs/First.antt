@@ -13,11 +13,11 @@ use lib.ListN.{length, take, drop, getD, take-append-drop}
 use lib.Seq.{length-take-le, take-at, take-all}
 use Rattle.lists.specs.Parts.{part, over, part-left, part-right}
 use Rattle.lists.specs.Rows.{each, length-each, each-at, same-each}
-use Rattle.layout.specs.Layout.{widths, frameIndices, packetBits, multiframeFrames, multiframePairs, multiframeOctets, mostMultiframes, indexOctets, reportOctets, pairOf, firstFrame, secondFrame, packetStart}
+use Rattle.layout.specs.Layout.{widths, frameIndices, packetBits, multiframeFrames, multiframePairs, multiframeOctets, mostMultiframes, indexOctets, reportOctets, pairOf, firstFrame, secondFrame, packetStart, sync}
 use Rattle.bits.specs.Bits.{value, bits}
 use Rattle.packet.specs.Packet.{apart, frameAt, packetOf}
 use Rattle.packet.specs.Laws.{length-row, getD-row, packetOf-back}
-use Rattle.cutting.specs.Cutting.{whole, cutting, syncFirst, syncSecond}
+use Rattle.cutting.specs.Cutting.{whole, cutting}
 use Rattle.cutting.specs.Laws.{every-length}
 use Rattle.header.specs.Message.{commonBits}
 use Rattle.header.specs.Reading as H
@@ -121,10 +121,10 @@ module _ (u : Utterance) (s : List ℕ) (d : Damage (multiframesOf u) (imageOf u
   pub few : m ≤ mostMultiframes
   few = few-multiframes (u .rate) (u .kind) (u .indices) (is-accepted u .sizes)
 
-  pub syncs : (i : ℕ) → i < m → syncIn s i ≡ syncFirst ∷ syncSecond ∷ []
+  pub syncs : (i : ℕ) → i < m → syncIn s i ≡ sync
   syncs i h = d .syncs i h ∙ image-sync (u .rate) (u .kind) (u .indices) m i h
 
-  pub syncs-first : (i : ℕ) → i < k → syncIn first i ≡ syncFirst ∷ syncSecond ∷ []
+  pub syncs-first : (i : ℕ) → i < k → syncIn first i ≡ sync
   syncs-first i h = part-first (144 * i) 2 (omega arith) ∙ syncs i (omega arith)
 
   pub cut-first : cutting first ≡ record { places = rowOf k; ending = whole }

@@ -20,12 +20,12 @@ use Rattle.gf2.specs.Xor.{xor-twice}
 use Rattle.lists.specs.Tests.{when, by-test, true-false}
 use Rattle.lists.specs.Parts.{part, part-left, part-right}
 use Rattle.lists.specs.Rows.{each}
-use Rattle.layout.specs.Layout.{frameIndices, dataBits, multiframeFrames, multiframePairs, multiframeOctets, syncOctets, headerOctets, streamOctets, packetBits, pairOf, firstFrame, secondFrame, firstPair}
+use Rattle.layout.specs.Layout.{frameIndices, dataBits, multiframeFrames, multiframePairs, multiframeOctets, syncOctets, headerOctets, streamOctets, packetBits, pairOf, firstFrame, secondFrame, firstPair, sync, inverseFirst, inverseSecond}
 use Rattle.bits.specs.Bits.{value, bits}
 use Rattle.crc.specs.Crc.{right}
 use Rattle.packet.specs.Packet.{frameAt, packetOf}
 use Rattle.packet.specs.Laws.{getD-row, row-past, packetOf-good}
-use Rattle.cutting.specs.Cutting.{Cutting, whole, cutting, syncFirst, syncSecond, inverseFirst, inverseSecond}
+use Rattle.cutting.specs.Cutting.{Cutting, whole, cutting}
 use Rattle.cutting.specs.Laws.{every-length, multiframe, inverse, octetsOf, placesOf, Proper, cut-chunks}
 use Rattle.header_code.specs.Code.{codeword}
 use Rattle.header.specs.Message.{message}
@@ -727,7 +727,7 @@ module _ (u : Utterance) (twice : multiframesOf u ≡ 2) where
   front-part : (a v : ℕ) → a + v ≤ multiframeOctets → part a v cutUp ≡ part a v front
   front-part a v h = part-left front (inverses 72) a v (omega (arith, front-size))
 
-  front-octet : (i : ℕ) → i < 2 → getD front i 0 ≡ getD (syncFirst ∷ syncSecond ∷ []) i 0
+  front-octet : (i : ℕ) → i < 2 → getD front i 0 ≡ getD sync i 0
   front-octet i h = sym (getD-take 2 (drop 0 front) i 0 h) ∙ ap (λ (l : List ℕ). getD l i 0) (image-sync (u .rate) (u .kind) (u .indices) 1 0 (lit< tt))
 
   -- it is cut into one multiframe

@@ -14,7 +14,7 @@ use lib.Seq.{ext-getD}
 use borrow.Author.Tests.{eqb-false, ltb-false}
 use Rattle.lists.specs.Tests.{when, true-false, not-true}
 use Rattle.lists.specs.Parts.{part, over}
-use Rattle.layout.specs.Layout.{widths, frameIndices, multiframeFrames, multiframePairs, multiframeOctets, headerOctets, streamOctets, firstFrame, secondFrame, firstPair}
+use Rattle.layout.specs.Layout.{widths, frameIndices, multiframeFrames, multiframePairs, multiframeOctets, headerOctets, streamOctets, firstFrame, secondFrame, firstPair, sync}
 use Rattle.bits.specs.Bits.{field, octets, Fits}
 use Rattle.packet.specs.Packet.{stream, packetOf, frameAt}
 use Rattle.packet.specs.Laws.{stream-part, length-stream, fits-frame, getD-row, packetOf-same}
@@ -52,7 +52,7 @@ module _ (rate type : ℕ) (idx : List ℕ) where
 
   module _ (m k : ℕ) (h : k < m) where
     -- EACH MULTIFRAME BEGINS WITH THE SYNC
-    pub image-sync : syncIn (image rate type idx m) k ≡ 0x87 ∷ 0xB2 ∷ []
+    pub image-sync : syncIn (image rate type idx m) k ≡ sync
     image-sync = ap (λ (s : List ℕ). syncIn s k) (image-made m) ∙ made-sync words streams m k h
 
     -- ITS HEADER IS THE CODEWORD of the settings and the counter, 1 in the first

@@ -12,7 +12,7 @@ use lib.Dec.{eqb, ltb}
 use borrow.Author.Tests.{eq-eqb, ne-eqb, lt-ltb, le-ltb, eqb-true, ltb-false}
 use Rattle.lists.specs.Tests.{when, by-test}
 use Rattle.lists.specs.Parts.{over, over-none, behind}
-use Rattle.layout.specs.Layout.{frameIndices, multiframeFrames, multiframePairs, multiframeOctets, syncOctets, headerOctets, streamOctets, mostFrames, mostMultiframes, firstPair}
+use Rattle.layout.specs.Layout.{frameIndices, multiframeFrames, multiframePairs, multiframeOctets, syncOctets, headerOctets, streamOctets, mostFrames, mostMultiframes, firstPair, sync, syncWord}
 use Rattle.bits.specs.Bits.{field, octets, numbers, value}
 use Rattle.bits.specs.Laws.{length-octets}
 use Rattle.packet.specs.Packet.{stream}
@@ -136,20 +136,19 @@ module _ (rate type : ℕ) (idx : List ℕ) (out : ℕ) where
   accepts s e g h = narrow s e ∙ ap (earlyAnswer out (needed idx)) g ∙ rw (le-ltb out (needed idx) h)
 
 -- ---- a multiframe laid down in three stores: sync, header, stream
-sync-octets : octets syncOctets (field 16 0xB287) ≡ 0x87 ∷ 0xB2 ∷ []
+sync-octets : octets syncOctets (field (8 * syncOctets) syncWord) ≡ sync
 unfolding field numbers value
 sync-octets = refl
 
 pub laid-multiframe : (rate type : ℕ) (idx : List ℕ) (k word q : ℕ) (out synced headed done : List ℕ)
     → multiframeOctets * k + multiframeOctets ≤ length out → word ≡ codeword (message rate type (k + 1) 0) → q ≡ firstPair k
-    → synced ≡ over out (multiframeOctets * k) syncOctets (octets syncOctets (field 16 0xB287))
+    → synced ≡ over out (multiframeOctets * k) syncOctets (octets syncOctets (field (8 * syncOctets) syncWord))
     → headed ≡ over synced (multiframeOctets * k + 2) headerOctets (octets headerOctets (field 32 word))
     → done ≡ over headed (multiframeOctets * k + 2 + 4) streamOctets (octets streamOctets (stream idx q multiframePairs))
     → done ≡ over out (multiframeOctets * k) multiframeOctets (multiframe rate type idx k)
 unfolding multiframe
 laid-multiframe rate type idx k word q out synced headed done room ew eq es eh ed =
     let at = multiframeOctets * k in
-    let sync : List ℕ = 0x87 ∷ 0xB2 ∷ [] in
     let head = octets headerOctets (field 32 (codeword (message rate type (k + 1) 0))) in
     let body = octets streamOctets (stream idx (firstPair k) multiframePairs) in
     let r₁ : at + 2 ≤ length out = omega arith in

@@ -8,7 +8,7 @@ use lib.Dec.{eqb, ltb}
 use lib.ListN.{length, getD}
 use Rattle.lists.specs.Tests.{when}
 use Rattle.lists.specs.Parts.{over}
-use Rattle.layout.specs.Layout.{frameIndices, multiframeFrames, multiframePairs, multiframeOctets, headerOctets, streamOctets, mostFrames, firstPair}
+use Rattle.layout.specs.Layout.{frameIndices, multiframeFrames, multiframePairs, multiframeOctets, headerOctets, streamOctets, mostFrames, firstPair, sync}
 use Rattle.bits.specs.Bits.{field, octets}
 use Rattle.packet.specs.Packet.{stream}
 use Rattle.header_code.specs.Code.{codeword}
@@ -118,7 +118,7 @@ verdict rate type idx out =
 -- the last are zeros
 unfoldable pub multiframe : ℕ → ℕ → List ℕ → ℕ → List ℕ
 multiframe rate type idx k =
-    (0x87 ∷ 0xB2 ∷ [])
+    sync
     ++ (octets headerOctets (field 32 (codeword (message rate type (k + 1) 0))) ++ octets streamOctets (stream idx (firstPair k) multiframePairs))
 
 -- m multiframes, one behind the other

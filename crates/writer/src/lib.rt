@@ -13,9 +13,6 @@ ghost use Rattle.layout.specs.Layout.{frameIndices, multiframeOctets, mostFrame
 ghost use Rattle.writer.specs.Writing.{settingsRight, frameCount, isWide, isZero, endsEarly, firstWide, firstEarly, verdict, multiframe, image, outcome, writing, numberOf, placeOf};
 ghost use Rattle.writer.specs.Laws.{foundAs};
 
-// The sync, 87 B2 in sending order, as a word.
-const SYNC: u64 = 0xb287;
-
 // The largest index of six bits.
 const LARGEST: u8 = 63;
 
@@ -169,7 +166,7 @@ fn put_multiframe(rate: u8, kind: u8, indices: &[u8], k: Multiframe, out: &mut [
         exp: 0,
     });
     let word = header::encode(message) as u64;
-    bits::store(out, at, SYNC, MultiframeLayout::SYNC);
+    bits::store(out, at, MultiframeLayout::SYNC_WORD, MultiframeLayout::SYNC);
     bits::store(
         out,
         at + MultiframeLayout::SYNC,
