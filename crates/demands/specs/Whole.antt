@@ -1,16 +1,12 @@
 -- Octets of m whole multiframes and nothing else, as the reader meets them: where it finds each header word and each packet, and what it gives
 -- once the settings are settled, a pair is good and there is room.
 -- Assumes nothing.
-use mathlib.Core.Path.{_≡_, refl, sym, ap, ap₂, _∙_, subst}
-use mathlib.Core.Bool.{Bool, true, false}
-use lib.Dec.{eqb}
-use borrow.Author.Tests.{eq-eqb, ne-eqb, le-ltb, eqb-true}
-use Rattle.lists.specs.Tests.{when, true-false}
+use mathlib.Core.Path.{_≡_, sym, ap, ap₂, _∙_, subst}
+use borrow.Author.Tests.{eq-eqb, ne-eqb, le-ltb}
 use Rattle.replacing.specs.Replacing.{source, pairsOctets, replaced}
 use Rattle.replacing.specs.Laws.{good-stays, replaced-length, replaced-at}
-use Rattle.replacing.specs.Speech.{allZero}
-use mathlib.Core.List.{List, [], _∷_}
-use Prim.Native.Nat.{ℕ, zero, suc, _+_, _*_, _/_, _%_, _≤_, _<_}
+use mathlib.Core.List.{List, _∷_}
+use Prim.Native.Nat.{ℕ, suc, _+_, _*_, _/_, _%_, _≤_, _<_}
 use native.Mathlib.Omega.{arith}
 use lib.IntN.{ℤ}
 use lib.ListN.{length, drop, getD, List·getD-append}
@@ -145,16 +141,6 @@ nothing-replaced ns l good size =
     let e : source ns (t / 7) ≡ t / 7 = good-stays ns (t / 7) (good (pairOf (t / 7)) (omega (arith, lr))) in
     let z : 7 * (t / 7) + t % 7 ≡ t = omega arith in
     replaced-at ns l t (omega (arith, lr)) ∙ ap (λ (k : ℕ). getD l (7 * k + t % 7) 0) e ∙ ap (λ (k : ℕ). getD l k 0) z)
-
--- a zero frame is zero at each index
-pub all-zero-at : (l : List ℕ) (j : ℕ) → allZero l ≡ true → getD l j 0 ≡ 0
-all-zero-at [] j e = refl
-all-zero-at (x ∷ l) j e = by (eqb x 0) refl e j (λ i z. all-zero-at l i z)
-  where
-    by : (t : Bool) → eqb x 0 ≡ t → when t (allZero l) false ≡ true → (j : ℕ) → ((i : ℕ) → allZero l ≡ true → getD l i 0 ≡ 0) → getD (x ∷ l) j 0 ≡ 0
-    by true z e zero f = eqb-true x 0 z
-    by true z e (suc j) f = f j e
-    by false z e j f = absurd (true-false (sym e))
 
 -- ---- refusals that damage can bring: 16 and 20
 module _ (s : List ℕ) (m : ℕ) (few : m ≤ mostMultiframes) (size : length s ≡ multiframeOctets * m) (syncs : (k : ℕ) → k < m → syncIn s k ≡ sync)

@@ -18,6 +18,7 @@ use lib.Seq.{length-take-le, take-all, take-add, ext-getD, getD-take, getD-drop}
 use Rattle.lists.specs.Parts.{part, over, length-part}
 use Rattle.lists.specs.Rows.{each-at, same-joined}
 use Rattle.layout.specs.Layout.{dataBits, multiframeFrames, multiframePairs, multiframeOctets, mostMultiframes, indexOctets, reportOctets, firstPair, sync, syncFirst, syncSecond}
+use Rattle.frames.specs.Frames.{zeroFrame}
 use Rattle.crc.specs.Crc.{right}
 use Rattle.packet.specs.Packet.{packetOf}
 use Rattle.packet.specs.Laws.{getD-row, packetOf-good}
@@ -34,7 +35,7 @@ use Rattle.pairs.specs.Pairs.{pairCount, pairFails, allFrames, pairNotes}
 use Rattle.pairs.specs.Laws.{length-notes, length-all, no-failed-crc}
 use Rattle.judging.specs.Judging.{badPairs}
 use Rattle.judging.specs.Laws.{Good}
-use Rattle.replacing.specs.Speech.{zeroFrame, speechOf, endOf, place-stop}
+use Rattle.replacing.specs.Speech.{speechOf, endOf, place-stop}
 use Rattle.reader.specs.Reading.{indexPart, reportPart, summary, Outcome, outcome, reading}
 use Rattle.reader.specs.ReadingLaws.{Accepted}
 use Rattle.reader.specs.declared.Summary.{Summary}

@@ -21,6 +21,7 @@ use Rattle.lists.specs.Tests.{when, by-test, true-false}
 use Rattle.lists.specs.Parts.{part, part-left, part-right}
 use Rattle.lists.specs.Rows.{each}
 use Rattle.layout.specs.Layout.{frameIndices, dataBits, multiframeFrames, multiframePairs, multiframeOctets, syncOctets, headerOctets, streamOctets, packetBits, pairOf, firstFrame, secondFrame, firstPair, sync, inverseFirst, inverseSecond}
+use Rattle.frames.specs.Frames.{allZero, zeroFrame, all-zero-at, Nonzero}
 use Rattle.bits.specs.Bits.{value, bits}
 use Rattle.crc.specs.Crc.{right}
 use Rattle.packet.specs.Packet.{frameAt, packetOf}
@@ -40,7 +41,7 @@ use Rattle.judging.specs.Judging.{badPairs}
 use Rattle.judging.specs.Laws.{Good, none-good}
 use Rattle.replacing.specs.Replacing.{frameBefore, frameAfter, source}
 use Rattle.replacing.specs.Laws.{Run, at-the-end, first-half, second-half, frame-replaced}
-use Rattle.replacing.specs.Speech.{allZero, zeroFrame, lastNonzero, speechOf, endOf, place-le, zero-behind, nonzero-at, place-stop}
+use Rattle.replacing.specs.Speech.{lastNonzero, speechOf, endOf, place-le, zero-behind, nonzero-at, place-stop}
 use Rattle.reader.specs.Reading.{indexPart, summary, finished, Outcome, outcome, reading}
 use Rattle.reader.specs.ReadingLaws.{Fitting, accepting}
 use Rattle.reader.specs.declared.Verdict.{Verdict}
@@ -50,9 +51,9 @@ use Rattle.reader.specs.declared.Answer.the-variants.{Read, Refused}
 use Rattle.writer.specs.Writing.{frameCount, needed, image}
 use Rattle.writer.specs.Laws.{few-multiframes, length-image}
 use Rattle.writer.specs.Made.{syncIn, wordIn, packetIn}
-use Rattle.writer.specs.Image.{image-sync, image-word, image-packet, image-small, Nonzero, last-speaks, Utterance, multiframesOf, pairsOf, imageOf, is-accepted, whole-frames}
+use Rattle.writer.specs.Image.{image-sync, image-word, image-packet, image-small, last-speaks, Utterance, multiframesOf, pairsOf, imageOf, is-accepted, whole-frames}
 use Rattle.demands.specs.Damage.{DamageUpTo, headerBits, loosened, headerFlips, sentMessage, header-read}
-use Rattle.demands.specs.Whole.{rowOf, Lent, headerNoteIn, pairNoteIn, all-zero-at, readings-are, refuses-16}
+use Rattle.demands.specs.Whole.{rowOf, Lent, headerNoteIn, pairNoteIn, readings-are, refuses-16}
 use Rattle.demands.specs.Headers.{sentCommon, common-sent, TwoReadable, heardAs, headers-read}
 use Rattle.demands.specs.Received.{BadPair, touched-note}
 use Rattle.demands.specs.NamesTheDamage as N

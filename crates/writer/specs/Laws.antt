@@ -2,7 +2,7 @@
 -- Assumes nothing.
 use mathlib.Core.Path.{_≡_, refl, sym, ap, ap₂, _∙_, subst}
 use mathlib.Core.Bool.{Bool, true, false}
-use mathlib.Core.List.{List, [], _∷_, _++_, append-assoc}
+use mathlib.Core.List.{List, _++_, append-assoc}
 use Prim.Native.Nat.{ℕ, zero, suc, _+_, _-_, _*_, _/_, _%_, _≤_, _<_}
 use native.Mathlib.Numerals.{add-one}
 use native.Mathlib.Decide.{ℕ-discrete}
@@ -13,12 +13,13 @@ use borrow.Author.Tests.{eq-eqb, ne-eqb, lt-ltb, le-ltb, eqb-true, ltb-false}
 use Rattle.lists.specs.Tests.{when, by-test}
 use Rattle.lists.specs.Parts.{over, over-none, behind}
 use Rattle.layout.specs.Layout.{frameIndices, multiframeFrames, multiframePairs, multiframeOctets, syncOctets, headerOctets, streamOctets, mostFrames, mostMultiframes, firstPair, sync, syncWord}
+use Rattle.frames.specs.Frames.{zeroFrame}
 use Rattle.bits.specs.Bits.{field, octets, numbers, value}
 use Rattle.bits.specs.Laws.{length-octets}
 use Rattle.packet.specs.Packet.{stream}
 use Rattle.header_code.specs.Code.{codeword}
 use Rattle.header.specs.Message.{message}
-use Rattle.writer.specs.Writing.{Search, at, nowhere, firstFrom, isFound, settingsRight, frameCount, isZero, endsEarly, firstWide, firstEarly, roomAnswer, earlyAnswer, wideAnswer, needed, verdict, multiframesFor, multiframe, image, outcome, writing, Outcome, numberOf, placeOf}
+use Rattle.writer.specs.Writing.{Search, at, nowhere, firstFrom, settingsRight, frameCount, endsEarly, firstWide, firstEarly, roomAnswer, earlyAnswer, wideAnswer, needed, verdict, multiframesFor, multiframe, image, outcome, writing, Outcome, numberOf, placeOf}
 use Rattle.writer.specs.declared.Refusal.{Refusal}
 use Rattle.writer.specs.declared.Answer.{Answer}
 use Rattle.writer.specs.declared.Refusal.the-variants.{Settings, PartFrame, TooMany, WideIndex, ZeroFrame, OutputShort}
@@ -58,10 +59,10 @@ search-end f k n i p h = let e : n - i ≡ 0 = omega arith in p .1 ∙ ap (first
 
 -- ---- when a zero frame ends the utterance too early
 module _ (idx : List ℕ) (k : ℕ) where
-  pub early-last : k + 1 ≡ frameCount idx → endsEarly idx k ≡ isZero idx k
+  pub early-last : k + 1 ≡ frameCount idx → endsEarly idx k ≡ zeroFrame idx k
   early-last e = rw (eq-eqb (k + 1) (frameCount idx) e)
 
-  pub early-boundary : (k + 1 ≡ frameCount idx → ⊥) → (k + 1) % multiframeFrames ≡ 0 → endsEarly idx k ≡ isZero idx k
+  pub early-boundary : (k + 1 ≡ frameCount idx → ⊥) → (k + 1) % multiframeFrames ≡ 0 → endsEarly idx k ≡ zeroFrame idx k
   early-boundary n e = rw (ne-eqb (k + 1) (frameCount idx) n, eq-eqb ((k + 1) % multiframeFrames) 0 e)
 
   pub early-never : (k + 1 ≡ frameCount idx → ⊥) → ((k + 1) % multiframeFrames ≡ 0 → ⊥) → endsEarly idx k ≡ false
