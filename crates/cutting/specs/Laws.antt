@@ -10,31 +10,33 @@ use lib.Seq.{drop-drop, drop-at, drop-length, getD-drop}
 use native.Mathlib.Numerals.{add-one}
 use lib.Dec.{ltb, eqb}
 use native.Mathlib.Omega.{arith}
-use borrow.Author.Tests.{le-ltb, ne-eqb, ltb-false, eqb-true, eqb-false}
+use borrow.Author.Tests.{le-ltb, ne-eqb, ltb-true, ltb-false, eqb-true, eqb-false}
 use Rattle.lists.specs.Tests.{by-test}
 use Rattle.layout.specs.Layout.{multiframeOctets, syncOctets, mostMultiframes}
+use Rattle.refusals.specs.declared.Reading.{Reading}
+use Rattle.refusals.specs.declared.Reading.the-variants as R
 use Rattle.cutting.specs.declared.Piece.{Piece}
-use Rattle.cutting.specs.declared.Piece.the-variants.{End, Multiframe, Inverse, Bad}
+use Rattle.cutting.specs.declared.Piece.the-variants.{End, Multiframe, Inverse, Unknown, CutShort, TooMany}
 use Rattle.cutting.specs.Cutting.{syncFirst, syncSecond, inverseFirst, inverseSecond, syncMet, lastMet, pieceBy, pieceOf, Ending, whole, refused, Cutting, prepend, step, walk, cutting}
 
 -- ---- the pieces
 
 -- a sync after 255 multiframes is 15, however few octets follow
-pub one-too-many : (n : ℕ) → 2 ≤ n → pieceBy n syncFirst syncSecond mostMultiframes ≡ Bad 15
+pub one-too-many : (n : ℕ) → 2 ≤ n → pieceBy n syncFirst syncSecond mostMultiframes ≡ TooMany
 unfolding pieceBy lastMet syncMet
 one-too-many n h = rw (ne-eqb n 0 (λ e. omega arith), ne-eqb n 1 (λ e. omega arith))
 
 -- a lone last 87 or 78 is 13, wherever it stands
-pub lone-sync : (b m : ℕ) → pieceBy 1 syncFirst b m ≡ Bad 13
+pub lone-sync : (b m : ℕ) → pieceBy 1 syncFirst b m ≡ CutShort
 unfolding pieceBy lastMet
 lone-sync b m = refl
 
-pub lone-inverse : (b m : ℕ) → pieceBy 1 inverseFirst b m ≡ Bad 13
+pub lone-inverse : (b m : ℕ) → pieceBy 1 inverseFirst b m ≡ CutShort
 unfolding pieceBy lastMet
 lone-inverse b m = refl
 
 -- 87 and something else than B2 begins nothing known
-pub half-sync : (n b m : ℕ) → 2 ≤ n → (b ≡ syncSecond → ⊥) → pieceBy n syncFirst b m ≡ Bad 12
+pub half-sync : (n b m : ℕ) → 2 ≤ n → (b ≡ syncSecond → ⊥) → pieceBy n syncFirst b m ≡ Unknown
 unfolding pieceBy lastMet
 half-sync n b m h k = rw (ne-eqb n 0 (λ e. omega arith), ne-eqb n 1 (λ e. omega arith), ne-eqb b syncSecond k)
 
@@ -53,7 +55,14 @@ abbrev pub Says : ℕ → ℕ → ℕ → ℕ → Piece → Type 0
 Says n a b m End = n ≡ 0
 Says n a b m Multiframe = (multiframeOctets ≤ n) × (m ≡ mostMultiframes → ⊥) × (a ≡ syncFirst) × (b ≡ syncSecond)
 Says n a b m Inverse = (syncOctets ≤ n) × (a ≡ inverseFirst) × (b ≡ inverseSecond)
-Says n a b m (Bad k) = (0 < n) × ((k ≡ 12) ⊎ ((k ≡ 13) ⊎ (k ≡ 15)))
+-- 12, "octets at p begin nothing known": neither a sync nor its inverse, and no lone first octet of one
+Says n a b m Unknown = (0 < n) × (a ≡ syncFirst → (2 ≤ n) × (b ≡ syncSecond → ⊥)) × (a ≡ inverseFirst → (2 ≤ n) × (b ≡ inverseSecond → ⊥))
+-- 13, "sync with too few octets, or a lone last 87 or 78"
+Says n a b m CutShort =
+    (0 < n) × (((n ≡ 1) × ((a ≡ syncFirst) ⊎ (a ≡ inverseFirst)))
+    ⊎ ((2 ≤ n) × (n < multiframeOctets) × (m ≡ mostMultiframes → ⊥) × (a ≡ syncFirst) × (b ≡ syncSecond)))
+-- 15, "a sync after 255 multiframes, even a cut one"
+Says n a b m TooMany = (0 < n) × (2 ≤ n) × (m ≡ mostMultiframes) × (a ≡ syncFirst) × (b ≡ syncSecond)
 
 pub says : (n a b m : ℕ) → Says n a b m (pieceBy n a b m)
 unfolding pieceBy lastMet syncMet
@@ -61,24 +70,40 @@ says n a b m =
     let P = Says n a b m in
     by-test P (eqb n 0) (λ h. eqb-true n 0 h) (λ n0.
     let some : 0 < n = more n (eqb-false n 0 n0) in
-    let unknown : (0 < n) × ((12 ≡ 12) ⊎ ((12 ≡ 13) ⊎ (12 ≡ 15))) = (some, inl refl) in
-    let short : (0 < n) × ((13 ≡ 12) ⊎ ((13 ≡ 13) ⊎ (13 ≡ 15))) = (some, inr (inl refl)) in
-    by-test P (eqb n 1) (λ h. by-test P (eqb a syncFirst) (λ h. short) (λ h. by-test P (eqb a inverseFirst) (λ h. short) (λ h. unknown))) (λ n1.
+    by-test P (eqb n 1)
+    (λ n1.
+    let lone = eqb-true n 1 n1 in
+    by-test P (eqb a syncFirst) (λ h. (some, inl (lone, inl (eqb-true a syncFirst h))))
+    (λ h. by-test P (eqb a inverseFirst) (λ k. (some, inl (lone, inr (eqb-true a inverseFirst k))))
+    (λ k. (some, λ e. absurd (eqb-false a syncFirst h e), λ e. absurd (eqb-false a inverseFirst k e)))))
+    (λ n1.
+    let more = two n (eqb-false n 0 n0) (eqb-false n 1 n1) in
     by-test P (eqb a syncFirst)
-    (λ ha. by-test P (eqb b syncSecond)
-    (λ hb. by-test P (eqb m mostMultiframes) (λ h. (some, inr (inr refl)))
-    (λ few. by-test P (ltb n multiframeOctets) (λ h. short)
-    (λ h. (ltb-false n multiframeOctets h, eqb-false m mostMultiframes few, eqb-true a syncFirst ha, eqb-true b syncSecond hb))))
-    (λ h. unknown))
-    (λ h. by-test P (eqb a inverseFirst)
-    (λ ha. by-test P (eqb b inverseSecond)
-    (λ hb. (two n (eqb-false n 0 n0) (eqb-false n 1 n1), eqb-true a inverseFirst ha, eqb-true b inverseSecond hb)) (λ h. unknown)) (λ h. unknown))))
+    (λ ha.
+    let first = eqb-true a syncFirst ha in
+    by-test P (eqb b syncSecond)
+    (λ hb.
+    let second = eqb-true b syncSecond hb in
+    by-test P (eqb m mostMultiframes) (λ h. (some, more, eqb-true m mostMultiframes h, first, second))
+    (λ few.
+    by-test P (ltb n multiframeOctets) (λ h. (some, inr (more, ltb-true n multiframeOctets h, eqb-false m mostMultiframes few, first, second)))
+    (λ h. (ltb-false n multiframeOctets h, eqb-false m mostMultiframes few, first, second))))
+    (λ h. (some, λ e. (more, eqb-false b syncSecond h), λ e. absurd (apart (sym first ∙ e)))))
+    (λ h.
+    by-test P (eqb a inverseFirst)
+    (λ ha.
+    by-test P (eqb b inverseSecond) (λ hb. (more, eqb-true a inverseFirst ha, eqb-true b inverseSecond hb))
+    (λ hb. (some, λ e. absurd (eqb-false a syncFirst h e), λ e. (more, eqb-false b inverseSecond hb))))
+    (λ k. (some, λ e. absurd (eqb-false a syncFirst h e), λ e. absurd (eqb-false a inverseFirst k e))))))
   where
     more : (n : ℕ) → (n ≡ 0 → ⊥) → 0 < n
     more n h = omega arith
 
     two : (n : ℕ) → (n ≡ 0 → ⊥) → (n ≡ 1 → ⊥) → 2 ≤ n
     two n h k = omega arith
+
+    apart : syncFirst ≡ inverseFirst → ⊥
+    apart e = omega arith
 
 -- ---- the recursion as 01 has it: 144 octets on, and 2 octets on
 pub walk-skip : (k : ℕ) (l : List ℕ) (p m : ℕ) → walk k l p m ≡ walk 0 (drop k l) (p + k) m
@@ -113,7 +138,9 @@ few-next Multiframe n a b m p v w h s f g = let k = f (next m h (s .1)) in omega
     next : (m : ℕ) → m ≤ 255 → (m ≡ 255 → ⊥) → m + 1 ≤ 255
     next m h k = omega arith
 few-next Inverse n a b m p v w h s f g = g
-few-next (Bad k) n a b m p v w h s f g = omega arith
+few-next Unknown n a b m p v w h s f g = omega arith
+few-next CutShort n a b m p v w h s f g = omega arith
+few-next TooMany n a b m p v w h s f g = omega arith
 
 few : (k : ℕ) (l : List ℕ) (p m : ℕ) → m ≤ mostMultiframes → m + length (walk k l p m .places) ≤ mostMultiframes
 unfolding walk
@@ -138,10 +165,22 @@ earlier : (s : List ℕ) (q r : ℕ) (ps : List ℕ) → q ≤ r → Stand s r p
 earlier s q r [] h a = tt
 earlier s q r (p ∷ ps) h a = (omega arith, a .1, a .2, a .3, a .4)
 
--- a refusal's number is 12, 13 or 15, and its place is that of an octet
+-- a refusal is 12, 13 or 15, and its place is that of an octet
+abbrev pub Met : List ℕ → Reading → Type 0
+Met s R.WrongTables = ⊥
+Met s (R.Unknown p) = p < length s
+Met s (R.CutShort p) = p < length s
+Met s (R.Empty n) = ⊥
+Met s (R.TooMany p) = p < length s
+Met s R.Unsettled = ⊥
+Met s R.Unfit = ⊥
+Met s (R.IndexShort n) = ⊥
+Met s (R.ReportShort n) = ⊥
+Met s R.AllBad = ⊥
+
 abbrev pub Ended : List ℕ → Ending → Type 0
 Ended s whole = Unit
-Ended s (refused n p) = (p < length s) × ((n ≡ 12) ⊎ ((n ≡ 13) ⊎ (n ≡ 15)))
+Ended s (refused r) = Met s r
 
 pub record Sound (s : List ℕ) (q : ℕ) (w : Cutting) : Type 0 where
   pub stand : Stand s q (w .places)
@@ -164,7 +203,9 @@ module _ (s l : List ℕ) (p : ℕ) (within : p ≤ length s) (left : drop p s �
         close = f .close;
       }
   sound-next Inverse m v w h f g = record { stand = earlier s p (p + 2) (w .places) (omega arith) (g .stand); close = g .close }
-  sound-next (Bad n) m v w h f g = record { stand = tt; close = (omega (arith, h .0, left-length), h .1) }
+  sound-next Unknown m v w h f g = record { stand = tt; close = omega (arith, h .0, left-length) }
+  sound-next CutShort m v w h f g = record { stand = tt; close = omega (arith, h .0, left-length) }
+  sound-next TooMany m v w h f g = record { stand = tt; close = omega (arith, h .0, left-length) }
 
 sound-walk : (s : List ℕ) (k : ℕ) (l : List ℕ) (p m : ℕ) → p ≤ length s → drop p s ≡ l → Sound s (p + k) (walk k l p m)
 unfolding walk
