@@ -19,7 +19,7 @@ use Rattle.header_code.specs.Code.Examples.{count-1, three-from-zero}
 use Rattle.header.specs.Reading.{reading}
 use Rattle.header.specs.Reading.Laws.{near, lost-at-three}
 use Rattle.hunt.specs.Hunt.{syncBits, headerBits, multiframeBits, sync, inRange, matches, readable, passes, numberOf, placeOf, testedOf}
-use Rattle.hunt.specs.declared.Refusal.the-variants.{MatchRange, Nowhere}
+use Rattle.refusals.specs.declared.Hunt.the-variants.{MatchRange, Nowhere}
 
 -- a sync and the header 8 kHz, type 0, count 1 of 01's examples; and the same from bit 3 on, behind three bits that are 0
 abbrev pub opening : List ℕ

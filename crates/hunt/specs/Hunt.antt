@@ -13,8 +13,8 @@ use Rattle.cutting.specs.Cutting.{syncFirst, syncSecond}
 use Rattle.header.specs.Reading.{reading}
 use Rattle.header.specs.declared.Header.{Header}
 use Rattle.header.specs.declared.Header.the-variants.{Codeword, Lost}
-use Rattle.hunt.specs.declared.Refusal.{Refusal}
-use Rattle.hunt.specs.declared.Refusal.the-variants.{MatchRange, Nowhere}
+use Rattle.refusals.specs.declared.Hunt.{Hunt as Refusal}
+use Rattle.refusals.specs.declared.Hunt.the-variants.{MatchRange, Nowhere}
 use Rattle.hunt.specs.declared.Hunted.{Hunted}
 use Rattle.hunt.specs.declared.Hunted.the-variants.{Found, Refused}
 

@@ -13,8 +13,8 @@ use Rattle.hunt.specs.Hunt.{multiframeBits, searched, huntedFrom, testedOf}
 use Rattle.hunt.specs.Laws.{Says, says}
 use Rattle.hunt.specs.declared.Hunted.{Hunted}
 use Rattle.hunt.specs.declared.Hunted.the-variants as H
-use Rattle.hunt.specs.declared.Refusal.{Refusal}
-use Rattle.hunt.specs.declared.Refusal.the-variants as HR
+use Rattle.refusals.specs.declared.Hunt.{Hunt as Refusal}
+use Rattle.refusals.specs.declared.Hunt.the-variants as HR
 use Rattle.hunting.specs.Hunting.{Ending, whole, tooMany, Gathering, ended, prepend, step, last, gathering, aligned, imageOf, answeredBy, answered, LaidBy, Laid}
 use Rattle.hunting.specs.Laws.{length-aligned, image-more}
 use Rattle.hunting.specs.declared.Gathered.{Gathered}

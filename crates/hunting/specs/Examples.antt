@@ -10,9 +10,9 @@ use Rattle.bits.specs.Bits.{bits, fields}
 use Rattle.bits.specs.Laws.{length-bits}
 use Rattle.hunt.specs.Hunt.{inRange, found, misses}
 use Rattle.hunt.specs.Laws.{searched-all}
-use Rattle.reader.specs.declared.Refusal.the-variants as RR
+use Rattle.refusals.specs.declared.Reading.the-variants as RR
 use Rattle.hunting.specs.Hunting.{gathering, outsideOf, outcome, readingFound, huntingReading, numberOf, placeOf}
-use Rattle.hunting.specs.declared.Refusal.the-variants.{Octets, MatchRange, Nowhere, TooMany}
+use Rattle.refusals.specs.declared.Hunting.the-variants.{Octets, MatchRange, Nowhere, TooMany}
 use Rattle.hunting.specs.declared.Answer.the-variants.{Refused}
 
 -- tables of zeros

@@ -18,11 +18,11 @@ use Rattle.hunt.specs.declared.Hunted.the-variants as H
 use Rattle.reader.specs.Reading as R
 use Rattle.reader.specs.declared.Answer.the-variants as RA
 use Rattle.reader.specs.declared.Answer.{Answer as OctetAnswer}
-use Rattle.reader.specs.declared.Refusal.the-variants.{WrongTables}
+use Rattle.refusals.specs.declared.Reading.the-variants.{WrongTables}
 use Rattle.hunting.specs.declared.Gathered.{Gathered}
 use Rattle.hunting.specs.declared.Gathered.the-variants as G
-use Rattle.hunting.specs.declared.Refusal.{Refusal}
-use Rattle.hunting.specs.declared.Refusal.the-variants.{Octets, MatchRange, Nowhere, TooMany}
+use Rattle.refusals.specs.declared.Hunting.{Hunting as Refusal}
+use Rattle.refusals.specs.declared.Hunting.the-variants.{Octets, MatchRange, Nowhere, TooMany}
 use Rattle.hunting.specs.declared.Answer.{Answer}
 use Rattle.hunting.specs.declared.Answer.the-variants.{Read, Refused}
 

@@ -24,21 +24,21 @@ use Rattle.hunt.specs.Hunt.{multiframeBits, inRange, searched, passes, placesLe
 use Rattle.hunt.specs.Laws as Hunt
 use Rattle.hunt.specs.declared.Hunted.{Hunted}
 use Rattle.hunt.specs.declared.Hunted.the-variants as H
-use Rattle.hunt.specs.declared.Refusal.the-variants as HR
+use Rattle.refusals.specs.declared.Hunt.the-variants as HR
 use Rattle.reader.specs.Reading as R
 use Rattle.reader.specs.Reading.{roomVerdict, settledVerdict, wholeVerdict}
 use Rattle.reader.specs.declared.Verdict.{Verdict}
 use Rattle.reader.specs.declared.Verdict.the-variants.{Refuse, Accept}
-use Rattle.reader.specs.declared.Refusal.{Refusal as OctetRefusal}
-use Rattle.reader.specs.declared.Refusal.the-variants as RR
+use Rattle.refusals.specs.declared.Reading.{Reading as OctetRefusal}
+use Rattle.refusals.specs.declared.Reading.the-variants as RR
 use Rattle.reader.specs.declared.Summary.{Summary}
 use Rattle.reader.specs.declared.Answer.{Answer as OctetAnswer}
 use Rattle.reader.specs.declared.Answer.the-variants as RA
 use Rattle.hunting.specs.Hunting.{Ending, whole, tooMany, Gathering, ended, step, last, gathering, outsideOf, aligned, imageOf, withCounts, counted, Outcome, outcome, readingBy, readingFound, huntingReading, numberOf}
 use Rattle.hunting.specs.Laws.{Among, Overlapped, Apart, Ends, taken, apart, at-most, room-for, length-aligned, length-image}
 use Rattle.hunting.specs.declared.Counted.{Counted}
-use Rattle.hunting.specs.declared.Refusal.{Refusal}
-use Rattle.hunting.specs.declared.Refusal.the-variants.{Octets, MatchRange, Nowhere, TooMany}
+use Rattle.refusals.specs.declared.Hunting.{Hunting as Refusal}
+use Rattle.refusals.specs.declared.Hunting.the-variants.{Octets, MatchRange, Nowhere, TooMany}
 use Rattle.hunting.specs.declared.Answer.{Answer}
 use Rattle.hunting.specs.declared.Answer.the-variants.{Read, Refused}
 

@@ -14,11 +14,11 @@ use Rattle.lists.specs.Parts.{over, behind, set-over, length-over}
 use Rattle.hunt.specs.Hunt as H
 use Rattle.hunt.specs.declared.Hunted.{Hunted}
 use Rattle.hunt.specs.declared.Hunted.the-variants as HA
-use Rattle.hunt.specs.declared.Refusal.{Refusal as HuntRefusal}
+use Rattle.refusals.specs.declared.Hunt.{Hunt as HuntRefusal}
 use Rattle.hunting.specs.Hunting.{Outcome, outcome, huntingReading, numberOf, placeOf}
 use Rattle.hunting.specs.Says.{never-12-to-14}
 use Rattle.hunting.specs.declared.Counted.{Counted}
-use Rattle.hunting.specs.declared.Refusal.{Refusal}
+use Rattle.refusals.specs.declared.Hunting.{Hunting as Refusal}
 use Rattle.hunting.specs.declared.Answer.{Answer}
 use Rattle.hunting.specs.declared.Answer.the-variants.{Read, Refused}
 use Rattle.link.specs.Link.{answerNumbers, summaryNumbers}

@@ -17,7 +17,7 @@ use Rattle.packet.specs.Packet.{stream, apart, indices}
 use Rattle.bits.specs.Laws.{length-numbers}
 use Rattle.reader.specs.Reading.{Outcome, outcome, numberOf, placeOf}
 use Rattle.reader.specs.declared.Summary.{Summary}
-use Rattle.reader.specs.declared.Refusal.{Refusal}
+use Rattle.refusals.specs.declared.Reading.{Reading as Refusal}
 use Rattle.reader.specs.declared.Answer.{Answer}
 use Rattle.reader.specs.declared.Answer.the-variants.{Read, Refused}
 use Rattle.writer.specs.Writing.{Search, at, nowhere, firstWide}

@@ -17,13 +17,13 @@ use Rattle.writer.specs.Writing.{writing}
 use Rattle.writer.specs.declared.Answer as WA
 use Rattle.writer.specs.declared.Answer.the-variants.{Written}
 use Rattle.writer.specs.declared.Answer.the-variants as WV
-use Rattle.writer.specs.declared.Refusal.{Refusal as WriterRefusal}
-use Rattle.writer.specs.declared.Refusal.the-variants as WR
+use Rattle.refusals.specs.declared.Writing.{Writing as WriterRefusal}
+use Rattle.refusals.specs.declared.Writing.the-variants as WR
 use Rattle.reader.specs.Reading as R
 use Rattle.reader.specs.Reading.{reading}
 use Rattle.reader.specs.declared.Summary.{Summary}
-use Rattle.reader.specs.declared.Refusal.{Refusal}
-use Rattle.reader.specs.declared.Refusal.the-variants.{WrongTables, Unknown, CutShort, Empty, TooMany, Unsettled, Unfit, IndexShort, ReportShort, AllBad}
+use Rattle.refusals.specs.declared.Reading.{Reading as Refusal}
+use Rattle.refusals.specs.declared.Reading.the-variants.{WrongTables, Unknown, CutShort, Empty, TooMany, Unsettled, Unfit, IndexShort, ReportShort, AllBad}
 use Rattle.reader.specs.ReadingLaws.{refusal-keeps}
 use Rattle.reader.specs.declared.Answer.{Answer}
 use Rattle.reader.specs.declared.Answer.the-variants.{Read, Refused}
@@ -31,8 +31,8 @@ use Rattle.hunting.specs.Hunting as G
 use Rattle.hunting.specs.Hunting.{huntingReading}
 use Rattle.hunting.specs.Says as F
 use Rattle.hunting.specs.declared.Counted.{Counted}
-use Rattle.hunting.specs.declared.Refusal as GR
-use Rattle.hunting.specs.declared.Refusal.the-variants as GV
+use Rattle.refusals.specs.declared.Hunting as GR
+use Rattle.refusals.specs.declared.Hunting.the-variants as GV
 use Rattle.hunting.specs.declared.Answer as GA
 use Rattle.hunting.specs.declared.Answer.the-variants as GW
 use Rattle.link.specs.Link.{answerNumbers, summaryNumbers, returned, answered, returning, dsrWrite, dsrRead}
@@ -142,7 +142,7 @@ unfolding returning
 read-no-room octets codebook thresholds index report answer h = rw (lt-ltb (length answer) answerNumbers h)
 
 -- ---- dsr_read_bits
-not-zero-bits : (r : GR.Refusal) → G.numberOf r ≡ 0 → ⊥
+not-zero-bits : (r : GR.Hunting) → G.numberOf r ≡ 0 → ⊥
 not-zero-bits (GV.Octets r) e = not-zero r e
 not-zero-bits (GV.MatchRange n) e = omega arith
 not-zero-bits (GV.Nowhere n t) e = omega arith
@@ -164,7 +164,7 @@ module _ (a : List ℕ) (p : ℕ) (i r : List ℕ) (o : G.Outcome) where
       by false (GW.Read c) s q e = (ltb-false (length a) countedNumbers s, (c, q))
       by false (GW.Refused x) s q e = absurd (not-zero-bits x e)
 
-  bits-keep : ((x : GR.Refusal) → o .answer ≡ GW.Refused x → (o .index ≡ i) × (o .report ≡ r)) → (bitsReturning a p i r o .number ≡ 0 → ⊥)
+  bits-keep : ((x : GR.Hunting) → o .answer ≡ GW.Refused x → (o .index ≡ i) × (o .report ≡ r)) → (bitsReturning a p i r o .number ≡ 0 → ⊥)
       → (bitsReturning a p i r o .index ≡ i) × ((bitsReturning a p i r o .report ≡ r) × (bitsReturning a p i r o .answer ≡ a))
   unfolding bitsReturning
   bits-keep stays n = by (ltb (length a) countedNumbers) (o .answer) refl n
@@ -182,10 +182,10 @@ module _ (s : List ℕ) (from least : ℕ) (codebook thresholds : List ℤ) (ind
   abbrev found : G.Outcome
   found = huntingReading s from least codebook thresholds index report
 
-  bits-stay : (x : GR.Refusal) → found .answer ≡ GW.Refused x → (found .index ≡ index) × (found .report ≡ report)
+  bits-stay : (x : GR.Hunting) → found .answer ≡ GW.Refused x → (found .index ≡ index) × (found .report ≡ report)
   bits-stay x e = by (F.fate s from least codebook thresholds index report)
     where
-      kept : (y : GR.Refusal) → found ≡ G.outcome (GW.Refused y) index report → (found .index ≡ index) × (found .report ≡ report)
+      kept : (y : GR.Hunting) → found ≡ G.outcome (GW.Refused y) index report → (found .index ≡ index) × (found .report ≡ report)
       kept y q = (ap (λ (o : G.Outcome). o .index) q, ap (λ (o : G.Outcome). o .report) q)
 
       counted-stays : (o : R.Outcome) (n t : ℕ) → ((y : Refusal) → o .answer ≡ Refused y → (o .index ≡ index) × (o .report ≡ report)) → found ≡ G.counted o n t
@@ -213,7 +213,7 @@ module _ (s : List ℕ) (from least : ℕ) (codebook thresholds : List ℤ) (ind
   bits-kept answer place = bits-keep answer place index report found bits-stay
 
   -- a refusal gives its number and its place; with no room for eight numbers it is 99, and all stays
-  pub bits-refused : (answer : List ℕ) (place : ℕ) (x : GR.Refusal) → countedNumbers ≤ length answer → found .answer ≡ GW.Refused x
+  pub bits-refused : (answer : List ℕ) (place : ℕ) (x : GR.Hunting) → countedNumbers ≤ length answer → found .answer ≡ GW.Refused x
       → dsrReadBits s from least codebook thresholds index report answer place ≡ bitsReturned (G.numberOf x) index report answer (G.placeOf x)
   unfolding bitsReturning
   bits-refused answer place x room e =

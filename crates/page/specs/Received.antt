@@ -39,8 +39,8 @@ use Rattle.judging.specs.Judging.{noteBy, notes, badPairs}
 use Rattle.reader.specs.Reading.{numberOf, placeOf, answerNumber, answerValues, cutRefusal, roomVerdict, settledVerdict, wholeVerdict, Outcome, outcome, finished, reading}
 use Rattle.reader.specs.ReadingLaws.{Usable}
 use Rattle.reader.specs.Steps.{wrong-codebook, wrong-thresholds, not-cut, whole-reading}
-use Rattle.reader.specs.declared.Refusal.{Refusal}
-use Rattle.reader.specs.declared.Refusal.the-variants.{WrongTables, Empty, Unsettled, Unfit, IndexShort, ReportShort, AllBad}
+use Rattle.refusals.specs.declared.Reading.{Reading as Refusal}
+use Rattle.refusals.specs.declared.Reading.the-variants.{WrongTables, Empty, Unsettled, Unfit, IndexShort, ReportShort, AllBad}
 use Rattle.reader.specs.declared.Answer.the-variants.{Refused}
 use Rattle.writer.specs.Writing.{firstFrom, roomAnswer, verdict, needed}
 use Rattle.writer.specs.Made.{wordIn, part-within}

@@ -19,8 +19,8 @@ use Rattle.cutting.specs.Cutting.{syncFirst, syncSecond, inverseFirst, inverseS
 use Rattle.cutting.specs.Laws.{multiframe-met, inverse-met, Says, says, walk-step, Ended, sound, Chunk, multiframe, inverse, octetsOf, placesOf, Proper}
 use Rattle.reader.specs.Reading.{numberOf, placeOf, cutRefusal, wholeVerdict, endVerdict, verdict, Outcome, outcome, reading}
 use Rattle.reader.specs.ReadingLaws.{refused-keeps}
-use Rattle.reader.specs.declared.Refusal.{Refusal}
-use Rattle.reader.specs.declared.Refusal.the-variants.{Empty}
+use Rattle.refusals.specs.declared.Reading.{Reading as Refusal}
+use Rattle.refusals.specs.declared.Reading.the-variants.{Empty}
 use Rattle.reader.specs.declared.Answer.the-variants.{Refused}
 
 -- ---- chunks

@@ -19,9 +19,9 @@ use Rattle.packet.specs.Packet.{stream}
 use Rattle.header_code.specs.Code.{codeword}
 use Rattle.header.specs.Message.{message}
 use Rattle.writer.specs.Writing.{Search, at, nowhere, firstFrom, isFound, settingsRight, frameCount, isZero, endsEarly, firstWide, firstEarly, roomAnswer, earlyAnswer, wideAnswer, needed, verdict, multiframesFor, multiframe, image, outcome, writing, Outcome, numberOf, placeOf}
-use Rattle.writer.specs.declared.Refusal.{Refusal}
+use Rattle.refusals.specs.declared.Writing.{Writing as Refusal}
 use Rattle.writer.specs.declared.Answer.{Answer}
-use Rattle.writer.specs.declared.Refusal.the-variants.{Settings, PartFrame, TooMany, WideIndex, ZeroFrame, OutputShort}
+use Rattle.refusals.specs.declared.Writing.the-variants.{Settings, PartFrame, TooMany, WideIndex, ZeroFrame, OutputShort}
 use Rattle.writer.specs.declared.Answer.the-variants.{Written, Refused}
 use Rattle.writer.specs.declared.Found.{Found}
 use Rattle.writer.specs.declared.Found.the-variants.{At, Nowhere}
