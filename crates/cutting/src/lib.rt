@@ -7,15 +7,6 @@ ghost use lib.ListN.{length};
 ghost use Rattle.layout.specs.Layout.{mostMultiframes};
 ghost use Rattle.cutting.specs.Cutting.{pieceOf, syncMet, cutting, answered, laid};
 
-// The sync in sending order, and its inverse.
-pub const SYNC_FIRST: u8 = 0x87;
-
-pub const SYNC_SECOND: u8 = 0xB2;
-
-const INVERSE_FIRST: u8 = 0x78;
-
-const INVERSE_SECOND: u8 = 0x4D;
-
 // What stands at the front of the octets that are left: one of three that cutting goes on with or ends at, or what 12, 13 or 15 is about.
 pub enum Piece {
     End,
@@ -41,23 +32,23 @@ pub fn piece_of(rest: &[u8], count: usize) -> Piece
     }
     let a = rest[0];
     if rest.len() == 1 {
-        if a == SYNC_FIRST {
+        if a == MultiframeLayout::SYNC_FIRST {
             return Piece::CutShort;
         }
-        if a == INVERSE_FIRST {
+        if a == MultiframeLayout::INVERSE_FIRST {
             return Piece::CutShort;
         }
         return Piece::Unknown;
     }
     let b = rest[1];
-    if a == SYNC_FIRST {
-        if b == SYNC_SECOND {
+    if a == MultiframeLayout::SYNC_FIRST {
+        if b == MultiframeLayout::SYNC_SECOND {
             return sync_met(rest.len(), count);
         }
         return Piece::Unknown;
     }
-    if a == INVERSE_FIRST {
-        if b == INVERSE_SECOND {
+    if a == MultiframeLayout::INVERSE_FIRST {
+        if b == MultiframeLayout::INVERSE_SECOND {
             return Piece::Inverse;
         }
     }
