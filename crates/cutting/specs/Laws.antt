@@ -10,8 +10,9 @@ use lib.Seq.{drop-drop, drop-at, drop-length, getD-drop}
 use native.Mathlib.Numerals.{add-one}
 use lib.Dec.{ltb, eqb}
 use native.Mathlib.Omega.{arith}
-use borrow.Author.Tests.{le-ltb, ne-eqb, ltb-true, ltb-false, eqb-true, eqb-false}
-use Rattle.lists.specs.Tests.{by-test}
+use native.Mathlib.Decide.{ℕ-discrete}
+use borrow.Author.Tests.{lt-ltb, le-ltb, eq-eqb, ne-eqb, ltb-true, ltb-false, eqb-true, eqb-false}
+use Rattle.lists.specs.Tests.{when, by-test}
 use Rattle.layout.specs.Layout.{multiframeOctets, syncOctets, mostMultiframes, syncFirst, syncSecond, inverseFirst, inverseSecond}
 use Rattle.refusals.specs.declared.Reading.{Reading}
 use Rattle.refusals.specs.declared.Reading.the-variants as R
@@ -105,6 +106,46 @@ says n a b m =
     apart : syncFirst ≡ inverseFirst → ⊥
     apart e = omega arith
 
+-- and says of no other: what it says is met is met
+module _ (n a b m : ℕ) where
+  many : 2 ≤ n → pieceBy n a b m ≡ when (eqb a syncFirst) (when (eqb b syncSecond) (syncMet n m) Unknown) (when (eqb a inverseFirst) (when (eqb b inverseSecond) Inverse Unknown) Unknown)
+  unfolding pieceBy
+  many h = rw (ne-eqb n 0 (λ e. omega arith), ne-eqb n 1 (λ e. omega arith))
+
+  sync-there : 2 ≤ n → a ≡ syncFirst → b ≡ syncSecond → pieceBy n a b m ≡ syncMet n m
+  sync-there h ea eb = many h ∙ rw (eq-eqb a syncFirst ea, eq-eqb b syncSecond eb)
+
+  nothing-known : 2 ≤ n → (a ≡ syncFirst → (2 ≤ n) × (b ≡ syncSecond → ⊥)) → (a ≡ inverseFirst → (2 ≤ n) × (b ≡ inverseSecond → ⊥)) → pieceBy n a b m ≡ Unknown
+  nothing-known h f g =
+      let P : Piece → Type 0 = λ q. q ≡ Unknown in
+      many h ∙ by-test P (eqb a syncFirst) (λ e. rw (ne-eqb b syncSecond (f (eqb-true a syncFirst e) .1)))
+      (λ e. by-test P (eqb a inverseFirst) (λ k. rw (ne-eqb b inverseSecond (g (eqb-true a inverseFirst k) .1))) (λ k. refl))
+
+  lone-unknown : n ≡ 1 → (a ≡ syncFirst → ⊥) → (a ≡ inverseFirst → ⊥) → pieceBy n a b m ≡ Unknown
+  unfolding pieceBy lastMet
+  lone-unknown e f g = rw (e, ne-eqb a syncFirst f, ne-eqb a inverseFirst g)
+
+  lone-cut : n ≡ 1 → (a ≡ syncFirst) ⊎ (a ≡ inverseFirst) → pieceBy n a b m ≡ CutShort
+  lone-cut e (inl h) = ap₂ (λ (k c : ℕ). pieceBy k c b m) e h ∙ lone-sync b m
+  lone-cut e (inr h) = ap₂ (λ (k c : ℕ). pieceBy k c b m) e h ∙ lone-inverse b m
+
+  pub said : (q : Piece) → Says n a b m q → pieceBy n a b m ≡ q
+  unfolding pieceBy syncMet
+  said End h = rw h
+  said Multiframe h = sync-there (omega (arith, h .0)) (h .2) (h .3) ∙ rw (ne-eqb m mostMultiframes (h .1), le-ltb n multiframeOctets (h .0))
+  said Inverse h = many (h .0) ∙ rw (h .1, h .2)
+  said TooMany h = sync-there (h .1) (h .3) (h .4) ∙ rw (eq-eqb m mostMultiframes (h .2))
+  said CutShort h = cut (h .1)
+    where
+      cut : ((n ≡ 1) × ((a ≡ syncFirst) ⊎ (a ≡ inverseFirst))) ⊎ ((2 ≤ n) × (n < multiframeOctets) × (m ≡ mostMultiframes → ⊥) × (a ≡ syncFirst) × (b ≡ syncSecond)) → pieceBy n a b m ≡ CutShort
+      cut (inl l) = lone-cut (l .0) (l .1)
+      cut (inr s) = sync-there (s .0) (s .3) (s .4) ∙ rw (ne-eqb m mostMultiframes (s .2), lt-ltb n multiframeOctets (s .1))
+  said Unknown h =
+      elim (ℕ-discrete n 1) [
+        | yes e ↦ lone-unknown e (λ f. omega (arith, h .1 f .0)) (λ f. omega (arith, h .2 f .0))
+        | no d ↦ nothing-known (omega (arith, h .0)) (h .1) (h .2)
+      ]
+
 -- ---- the recursion as 01 has it: 144 octets on, and 2 octets on
 pub walk-skip : (k : ℕ) (l : List ℕ) (p m : ℕ) → walk k l p m ≡ walk 0 (drop k l) (p + k) m
 unfolding walk
@@ -165,13 +206,17 @@ earlier : (s : List ℕ) (q r : ℕ) (ps : List ℕ) → q ≤ r → Stand s r p
 earlier s q r [] h a = tt
 earlier s q r (p ∷ ps) h a = (omega arith, a .1, a .2, a .3, a .4)
 
--- a refusal is 12, 13 or 15, and its place is that of an octet
+-- the piece stands at octet p, behind some number of multiframes
+abbrev pub StandsAt : List ℕ → ℕ → Piece → Type 0
+StandsAt s p q = (p < length s) × ((m : ℕ) × Says (length (drop p s)) (getD (drop p s) 0 0) (getD (drop p s) 1 0) m q)
+
+-- a refusal is 12, 13 or 15, and what it is about stands at its place
 abbrev pub Met : List ℕ → Reading → Type 0
 Met s R.WrongTables = ⊥
-Met s (R.Unknown p) = p < length s
-Met s (R.CutShort p) = p < length s
+Met s (R.Unknown p) = StandsAt s p Unknown
+Met s (R.CutShort p) = StandsAt s p CutShort
 Met s (R.Empty n) = ⊥
-Met s (R.TooMany p) = p < length s
+Met s (R.TooMany p) = StandsAt s p TooMany
 Met s R.Unsettled = ⊥
 Met s R.Unfit = ⊥
 Met s (R.IndexShort n) = ⊥
@@ -193,6 +238,9 @@ module _ (s l : List ℕ) (p : ℕ) (within : p ≤ length s) (left : drop p s �
   left-at : (i : ℕ) → getD s (p + i) 0 ≡ getD l i 0
   left-at i = sym (getD-drop p s i 0) ∙ ap (λ (x : List ℕ). getD x i 0) left
 
+  stands : (q : Piece) (m : ℕ) → 0 < length l → Says (length l) (getD l 0 0) (getD l 1 0) m q → StandsAt s p q
+  stands q m some h = (omega (arith, some, left-length), (m, subst (λ (x : List ℕ). Says (length x) (getD x 0 0) (getD x 1 0) m q) (sym left) h))
+
   sound-next : (q : Piece) (m : ℕ) (v w : Cutting) → Says (length l) (getD l 0 0) (getD l 1 0) m q
       → Sound s (p + multiframeOctets) v → Sound s (p + syncOctets) w → Sound s p (step q p v w)
   sound-next End m v w h f g = record { stand = tt; close = tt }
@@ -203,9 +251,9 @@ module _ (s l : List ℕ) (p : ℕ) (within : p ≤ length s) (left : drop p s �
         close = f .close;
       }
   sound-next Inverse m v w h f g = record { stand = earlier s p (p + 2) (w .places) (omega arith) (g .stand); close = g .close }
-  sound-next Unknown m v w h f g = record { stand = tt; close = omega (arith, h .0, left-length) }
-  sound-next CutShort m v w h f g = record { stand = tt; close = omega (arith, h .0, left-length) }
-  sound-next TooMany m v w h f g = record { stand = tt; close = omega (arith, h .0, left-length) }
+  sound-next Unknown m v w h f g = record { stand = tt; close = stands Unknown m (h .0) h }
+  sound-next CutShort m v w h f g = record { stand = tt; close = stands CutShort m (h .0) h }
+  sound-next TooMany m v w h f g = record { stand = tt; close = stands TooMany m (h .0) h }
 
 sound-walk : (s : List ℕ) (k : ℕ) (l : List ℕ) (p m : ℕ) → p ≤ length s → drop p s ≡ l → Sound s (p + k) (walk k l p m)
 unfolding walk

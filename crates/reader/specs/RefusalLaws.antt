@@ -62,7 +62,7 @@ module _ (octets : List ℕ) (codebook thresholds : List ℤ) (index report : �
   -- 11: codebook not 1,280 or thresholds not 14. It comes first
   Given WrongTables = Tables → ⊥
   -- 12, 13 and 15 come as cutting meets them: octets at p begin nothing known; sync with too few octets, or a lone last 87 or 78; a sync after 255
-  -- multiframes, even a cut one (`says` of cutting has these words)
+  -- multiframes, even a cut one (`Says` of cutting has these words, and by `sound` they hold at the place)
   Given (Unknown p) = Tables × (cutting octets .ending ≡ refused (Unknown p))
   Given (CutShort p) = Tables × (cutting octets .ending ≡ refused (CutShort p))
   Given (TooMany p) = Tables × (cutting octets .ending ≡ refused (TooMany p))
