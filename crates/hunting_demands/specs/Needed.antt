@@ -17,11 +17,10 @@ use borrow.Author.Tests.{eq-eqb, ne-eqb, lt-ltb}
 use Rattle.gf2.specs.Light.{ones-in}
 use Rattle.lists.specs.Tests.{true-false}
 use Rattle.lists.specs.Rows.{each, joined, length-joined, joined-part}
-use Rattle.layout.specs.Layout.{multiframePairs, multiframeOctets, mostMultiframes, indexOctets, reportOctets, codebookNumbers, thresholdNumbers}
+use Rattle.layout.specs.Layout.{multiframePairs, multiframeOctets, mostMultiframes, indexOctets, reportOctets, codebookNumbers, thresholdNumbers, syncFirst, syncSecond}
 use Rattle.bits.specs.Bits.{field, fields, value, bits}
 use Rattle.bits.specs.Laws.{length-field, length-bits}
 use Rattle.carrier.specs.Carrier.{streamPacket}
-use Rattle.cutting.specs.Cutting.{syncFirst, syncSecond}
 use Rattle.cutting.specs.Laws.{every-length}
 use Rattle.crc.specs.Crc.{flip}
 use Rattle.crc.specs.Damage.{length-flip, flips-burst}

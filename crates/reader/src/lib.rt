@@ -12,7 +12,7 @@ ghost use Rattle.lists.specs.Parts.{part, over};
 ghost use Rattle.layout.specs.Layout.{multiframePairs, mostMultiframes, indexOctets, reportOctets, codebookNumbers, thresholdNumbers};
 ghost use Rattle.cutting.specs.Laws.{Placed};
 ghost use Rattle.settling.specs.Stored.{packAll, Mended, opened};
-ghost use Rattle.carrier.specs.Carrier.{received, pairCount};
+ghost use Rattle.carrier.specs.Carrier.{pairCount};
 ghost use Rattle.judging.specs.Judging.{badPairs};
 ghost use Rattle.judging.specs.Laws.{Good};
 ghost use Rattle.reader.specs.Reading.{numberOf, placeOf, answerNumber, answerValues, indexPart, reportPart, summary, cutRefusal, wholeVerdict, settledVerdict, outcome, finished, reading, receivedNotes};
