@@ -10,8 +10,8 @@ use lib.Bits.{bitXor, xor-self}
 use lib.Count.{ones, ones-le}
 use lib.Dec.{lit<}
 use lib.ListN.{length}
-use Rattle.lists.specs.Parts.{part}
-use Rattle.layout.specs.Layout.{packetBits, streamOctets, multiframeOf, packetStart}
+use Rattle.layout.specs.Layout.{streamOctets, multiframeOf}
+use Rattle.carrier.specs.Carrier.{streamPacket}
 use Rattle.crc.specs.Crc.{Damaged}
 use Rattle.packet.specs.Packet.{packetOf}
 use Rattle.header_code.specs.Code.{flipsTo}
@@ -27,7 +27,7 @@ module _ (most : ℕ) (u : Utterance) (w : ℕ → ℕ) (x : ℕ → List Bool) 
     pub near-words : (k : ℕ) → k < multiframesOf u → flipsTo (w k) (sentMessage u k) ≤ most
     pub sizes : (k : ℕ) → k < multiframesOf u → length (x k) ≡ 8 * streamOctets
     pub each : (q : ℕ) → q < pairsOf u
-        → (part (packetStart q) packetBits (x (multiframeOf q)) ≡ packetOf (u .indices) q) ⊎ Damaged (packetOf (u .indices) q) (part (packetStart q) packetBits (x (multiframeOf q)))
+        → (streamPacket (x (multiframeOf q)) q ≡ packetOf (u .indices) q) ⊎ Damaged (packetOf (u .indices) q) (streamPacket (x (multiframeOf q)) q)
 
   pub damage-up-to : PartsUpTo → DamageUpTo most (multiframesOf u) (imageOf u) (made w x (multiframesOf u))
   unfolding flipsTo
@@ -46,7 +46,7 @@ module _ (most : ℕ) (u : Utterance) (w : ℕ → ℕ) (x : ℕ → List Bool) 
       m = multiframesOf u
 
       packet : (q : ℕ) → q < pairsOf u
-          → (part (packetStart q) packetBits (x (multiframeOf q)) ≡ packetOf (u .indices) q) ⊎ Damaged (packetOf (u .indices) q) (part (packetStart q) packetBits (x (multiframeOf q)))
+          → (streamPacket (x (multiframeOf q)) q ≡ packetOf (u .indices) q) ⊎ Damaged (packetOf (u .indices) q) (streamPacket (x (multiframeOf q)) q)
           → (packetIn (made w x m) q ≡ packetIn (imageOf u) q) ⊎ Damaged (packetIn (imageOf u) q) (packetIn (made w x m) q)
       packet q h e =
           let got = made-packet w x m q h (p .sizes (q / 12) (omega arith)) in

@@ -14,9 +14,10 @@ use lib.ListN.{length, take, drop, getD, replicate, length-append}
 use lib.Seq.{take-at, drop-append-add}
 use Rattle.gf2.specs.Light.{ones-in}
 use Rattle.lists.specs.Parts.{part}
-use Rattle.layout.specs.Layout.{widths, frameIndices, firstFrame, packetBits, streamOctets, packetStart}
+use Rattle.layout.specs.Layout.{widths, frameIndices, firstFrame, packetBits, streamOctets}
 use Rattle.frames.specs.Frames.{zeroFrame}
 use Rattle.bits.specs.Bits.{field, laid}
+use Rattle.carrier.specs.Carrier.{streamPacket}
 use Rattle.crc.specs.Crc.{crc, after, flip, Damaged}
 use Rattle.crc.specs.Damage.{length-flip, flips-burst}
 use Rattle.packet.specs.Packet.{guarded, packet, row, packetOf, stream}
@@ -94,8 +95,8 @@ module _ (u : Utterance) (single : multiframesOf u ≡ 1) (p : List Bool) (d : D
   two-flips k = let e : ones 3 ≡ 2 = sym (ones-in 2 3 (lit< tt)) in le-of-eq (flips-of (sentMessage u k) 3 ∙ e)
 
   each-packet : (q : ℕ) → q < pairsOf u
-      → (part (packetStart q) packetBits (firstSwapped (u .indices) p) ≡ packetOf (u .indices) q)
-      ⊎ Damaged (packetOf (u .indices) q) (part (packetStart q) packetBits (firstSwapped (u .indices) p))
+      → (streamPacket (firstSwapped (u .indices) p) q ≡ packetOf (u .indices) q)
+      ⊎ Damaged (packetOf (u .indices) q) (streamPacket (firstSwapped (u .indices) p) q)
   each-packet zero h = inr (subst (Damaged (packetOf (u .indices) 0)) (sym (swapped-first (u .indices) p size)) d)
   each-packet (suc q) h =
       let e : suc q % 12 ≡ suc q = omega (arith, single) in

@@ -16,8 +16,9 @@ use lib.Seq.{take-at, drop-at, drop-append-add}
 use Rattle.gf2.specs.Light.{ones-in}
 use Rattle.lists.specs.Tests.{true-false}
 use Rattle.lists.specs.Parts.{part, over}
-use Rattle.layout.specs.Layout.{frameIndices, packetBits, streamOctets, indexOctets, reportOctets, codebookNumbers, thresholdNumbers, firstPair, packetStart}
+use Rattle.layout.specs.Layout.{frameIndices, packetBits, streamOctets, indexOctets, reportOctets, codebookNumbers, thresholdNumbers, firstPair}
 use Rattle.frames.specs.Frames.{zeroFrame}
+use Rattle.carrier.specs.Carrier.{streamPacket}
 use Rattle.crc.specs.Crc.{flip, Damaged}
 use Rattle.crc.specs.Damage.{length-flip, flips-burst, flips-double}
 use Rattle.packet.specs.Packet.{frameAt, packetOf, stream}
@@ -210,7 +211,7 @@ module _ (u : Utterance) where
         each = λ q h.
             let e : 12 * (q / 12) + q % 12 ≡ q = omega arith in
             subst
-            (λ (p : ℕ). (part (packetStart q) packetBits (hurtStream (q / 12)) ≡ packetOf (u .indices) p) ⊎ Damaged (packetOf (u .indices) p) (part (packetStart q) packetBits (hurtStream (q / 12))))
+            (λ (p : ℕ). (streamPacket (hurtStream (q / 12)) q ≡ packetOf (u .indices) p) ⊎ Damaged (packetOf (u .indices) p) (streamPacket (hurtStream (q / 12)) q))
             e (packet-of (q / 12) (q % 12) (omega arith));
       }
 

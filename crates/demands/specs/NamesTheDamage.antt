@@ -23,12 +23,12 @@ use Rattle.packet.specs.Packet.{frameAt}
 use Rattle.packet.specs.Laws.{length-row, row-inside, row-past}
 use Rattle.cutting.specs.Laws.{every-length}
 use Rattle.settling.specs.Settling.{readings, settling}
-use Rattle.pairs.specs.Pairs.{pairCount, allFrames, pairNotes}
+use Rattle.carrier.specs.Carrier.{received, pairCount}
 use Rattle.pairs.specs.Laws.{length-notes, length-all, frames-at}
 use Rattle.judging.specs.Judging.{bad, badPairs}
 use Rattle.judging.specs.Laws.{Good, none-good}
 use Rattle.replacing.specs.Laws.{good-kept}
-use Rattle.reader.specs.Reading.{indexPart, reportPart, summary, Outcome, outcome, reading}
+use Rattle.reader.specs.Reading.{indexPart, reportPart, summary, Outcome, outcome, reading, receivedFrames, receivedNotes}
 use Rattle.reader.specs.ReadingLaws.{Fitting, length-index}
 use Rattle.reader.specs.declared.Summary.{Summary}
 use Rattle.reader.specs.declared.Answer.the-variants.{Read}
@@ -113,13 +113,13 @@ module _ (u : Utterance) (s : List ℕ) (codebook thresholds : List ℤ) (index 
     d = p .damage
 
     abbrev ns : List ℕ
-    ns = pairNotes s (rowOf m) codebook thresholds
+    ns = receivedNotes s (rowOf m) codebook thresholds
 
     rows : length (rowOf m) ≡ m
     rows = every-length 0 m
 
     notes-size : length ns ≡ pairCount (rowOf m)
-    notes-size = length-notes s (rowOf m) codebook thresholds
+    notes-size = length-notes (received s (rowOf m)) (pairCount (rowOf m)) codebook thresholds
 
     -- the good pair's note is 0
     good : Good ns
@@ -156,7 +156,7 @@ module _ (u : Utterance) (s : List ℕ) (codebook thresholds : List ℤ) (index 
         (λ k h. d .syncs k h ∙ image-sync (u .rate) (u .kind) (u .indices) m k h) codebook thresholds index report (sentCommon u) (omega arith) (p .lent) fits-in
 
     -- the report's octets are the notes
-    pub pair-note : (q : ℕ) → q < pairsOf u → pairNoteIn (result .report) q ≡ getD (pairNotes s (rowOf (multiframesOf u)) codebook thresholds) q 0
+    pub pair-note : (q : ℕ) → q < pairsOf u → pairNoteIn (result .report) q ≡ getD (receivedNotes s (rowOf (multiframesOf u)) codebook thresholds) q 0
     pair-note q h =
         ap (λ (o : Outcome). pairNoteIn (o .report) q) read-is
         ∙ pair-note-is s (rowOf m) ns report (sentCommon u) (reportOctets * length (rowOf m)) notes-size q (omega (arith, rows))
@@ -172,16 +172,16 @@ module _ (u : Utterance) (s : List ℕ) (codebook thresholds : List ℤ) (index 
 
     -- its frames, before replacing
     pub frame-in-pair : (q : ℕ) → q < pairsOf u → getD ns q 0 ≡ 0
-        → (part (frameIndices * firstFrame q) frameIndices (allFrames s (rowOf m)) ≡ frameAt (u .indices) (firstFrame q))
-        × (part (frameIndices * secondFrame q) frameIndices (allFrames s (rowOf m)) ≡ frameAt (u .indices) (secondFrame q))
+        → (part (frameIndices * firstFrame q) frameIndices (receivedFrames s (rowOf m)) ≡ frameAt (u .indices) (firstFrame q))
+        × (part (frameIndices * secondFrame q) frameIndices (receivedFrames s (rowOf m)) ≡ frameAt (u .indices) (secondFrame q))
     frame-in-pair q h z =
-        let all = allFrames s (rowOf m) in
+        let all = receivedFrames s (rowOf m) in
         let f = frameAt (u .indices) (firstFrame q) in
         let g = frameAt (u .indices) (secondFrame q) in
         let lf : length f ≡ 7 = length-row (u .indices) (7 * (2 * q)) 7 in
         let lg : length g ≡ 7 = length-row (u .indices) (7 * (2 * q + 1)) 7 in
-        let pair : part (14 * q) 14 all ≡ f ++ g = frames-at s (rowOf m) q (omega (arith, rows)) ∙ frames-kept u s d q h (not-hit q h z) in
-        let room : 14 * q + 14 ≤ length all = omega (arith, length-all s (rowOf m), rows) in
+        let pair : part (14 * q) 14 all ≡ f ++ g = frames-at (received s (rowOf m)) (pairCount (rowOf m)) q (omega (arith, rows)) ∙ frames-kept u s d q h (not-hit q h z) in
+        let room : 14 * q + 14 ≤ length all = omega (arith, length-all (received s (rowOf m)) (pairCount (rowOf m)), rows) in
         let a : 7 * (2 * q) ≡ 14 * q + 0 = omega arith in
         let b : 7 * (2 * q + 1) ≡ 14 * q + 7 = omega arith in (
           ap (λ (i : ℕ). part i 7 all) a ∙ part-within all (14 * q) 14 0 7 room (omega arith) ∙ ap (part 0 7) pair ∙ take-at f g 7 lf,
@@ -190,12 +190,12 @@ module _ (u : Utterance) (s : List ℕ) (codebook thresholds : List ℤ) (index 
         )
 
     -- and behind it
-    pub index-frame : (k : ℕ) → k < multiframeFrames * multiframesOf u → getD (pairNotes s (rowOf (multiframesOf u)) codebook thresholds) (pairOf k) 0 ≡ 0
-        → part (frameIndices * k) frameIndices (indexPart s (rowOf (multiframesOf u)) (pairNotes s (rowOf (multiframesOf u)) codebook thresholds)) ≡ frameAt (u .indices) k
+    pub index-frame : (k : ℕ) → k < multiframeFrames * multiframesOf u → getD (receivedNotes s (rowOf (multiframesOf u)) codebook thresholds) (pairOf k) 0 ≡ 0
+        → part (frameIndices * k) frameIndices (indexPart s (rowOf (multiframesOf u)) (receivedNotes s (rowOf (multiframesOf u)) codebook thresholds)) ≡ frameAt (u .indices) k
     index-frame k h n =
-        let all = allFrames s (rowOf m) in
+        let all = receivedFrames s (rowOf m) in
         let b = frame-in-pair (k / 2) (omega arith) n in
-        good-kept ns good all k (omega (arith, notes-size, length-all s (rowOf m))) (omega (arith, notes-size, rows)) n
+        good-kept ns good all k (omega (arith, notes-size, length-all (received s (rowOf m)) (pairCount (rowOf m)))) (omega (arith, notes-size, rows)) n
         ∙ elim (ℕ-discrete (2 * (k / 2)) k) [
           | yes e ↦ subst (λ (j : ℕ). part (7 * j) 7 all ≡ frameAt (u .indices) j) e (b .0)
           | no x ↦ let e : 2 * (k / 2) + 1 ≡ k = omega arith in subst (λ (j : ℕ). part (7 * j) 7 all ≡ frameAt (u .indices) j) e (b .1)

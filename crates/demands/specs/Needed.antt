@@ -15,7 +15,7 @@ use lib.ListN.{length, getD, replicate, take, drop}
 use lib.Seq.{take-append-le}
 use Rattle.cutting.specs.Cutting.{cutting}
 use Rattle.replacing.specs.Speech.{speechOf, endOf}
-use Rattle.reader.specs.Reading.{indexPart, Outcome}
+use Rattle.reader.specs.Reading.{indexPart, Outcome, receivedNotes}
 use Rattle.reader.specs.ReadingLaws.{length-index}
 use Rattle.reader.specs.declared.Summary.{Summary}
 use Rattle.writer.specs.Image.{success}
@@ -25,9 +25,8 @@ use borrow.Author.Tests.{ne-eqb}
 use Rattle.gf2.specs.Light.{ones-in}
 use Rattle.gf2.specs.Xor.{xor-swap}
 use Rattle.lists.specs.Tests.{true-false}
-use Rattle.lists.specs.Parts.{part}
 use Rattle.lists.specs.Rows.{each, joined, length-joined, joined-part}
-use Rattle.layout.specs.Layout.{frameIndices, multiframeFrames, indexOctets, packetBits, multiframePairs, multiframeOctets, mostMultiframes, streamOctets, firstPair, packetStart, multiframeOf, sync}
+use Rattle.layout.specs.Layout.{frameIndices, multiframeFrames, indexOctets, packetBits, multiframePairs, multiframeOctets, mostMultiframes, streamOctets, firstPair, multiframeOf, sync}
 use Rattle.frames.specs.Frames.{zeroFrame}
 use Rattle.bits.specs.Bits.{field, laid}
 use Rattle.crc.specs.Crc.{crc, after, flip, Damaged}
@@ -41,7 +40,7 @@ use Rattle.header_code.specs.Code.Examples.{three-from-rate-1}
 use Rattle.header.specs.Message.{message, rateOf, typeOf}
 use Rattle.header.specs.Message.Laws.{message-lt, message-back, message-counts, rate-masked, type-masked, count-masked, exp-shifted}
 use Rattle.header.specs.Reading.Laws.{flips-of}
-use Rattle.pairs.specs.Pairs.{pairCount, pairNotes}
+use Rattle.carrier.specs.Carrier.{streamPacket, received, pairCount}
 use Rattle.pairs.specs.Laws.{length-notes}
 use Rattle.cutting.specs.Laws.{every-length}
 use Rattle.judging.specs.Judging.{bad, badPairs}
@@ -89,17 +88,17 @@ module _ (u : Utterance) (s : List ℕ) (d : Damage (multiframesOf u) (imageOf u
   pub all-bad-refuses : (2 ≤ m) ⊎ (headerFlips (imageOf u) s 0 ≡ 0) → ((q : ℕ) → q < pairsOf u → BadPair u s codebook thresholds q)
       → reading s codebook thresholds index report ≡ outcome (Refused AllBad) index report
   all-bad-refuses heads every =
-      let ns = pairNotes s (rowOf m) codebook thresholds in
-      let ln : length ns ≡ pairCount (rowOf m) = length-notes s (rowOf m) codebook thresholds in
+      let ns = receivedNotes s (rowOf m) codebook thresholds in
+      let ln : length ns ≡ pairCount (rowOf m) = length-notes (received s (rowOf m)) (pairCount (rowOf m)) codebook thresholds in
       refuses-20 s m few size syncs codebook thresholds index report (omega arith) lent (sentCommon u) (settles u s (loosened (lit< tt) d .headers) (enough u s d heads))
       (record { rate = λ e. rate-not-2 u (sym (rate-sent u) ∙ e); exp = exp-sent u })
       (all-counted ns (λ k h. note k (omega (arith, ln, every-length 0 m))) ∙ ln)
     where
-      note : (q : ℕ) → q < pairsOf u → bad (getD (pairNotes s (rowOf m) codebook thresholds) q 0) ≡ true
+      note : (q : ℕ) → q < pairsOf u → bad (getD (receivedNotes s (rowOf m) codebook thresholds) q 0) ≡ true
       note q h = by (tells-bad u s d codebook thresholds q h)
         where
-          by : Tells (BadPair u s codebook thresholds q) (bad (getD (pairNotes s (rowOf m) codebook thresholds) q 0))
-              → bad (getD (pairNotes s (rowOf m) codebook thresholds) q 0) ≡ true
+          by : Tells (BadPair u s codebook thresholds q) (bad (getD (receivedNotes s (rowOf m) codebook thresholds) q 0))
+              → bad (getD (receivedNotes s (rowOf m) codebook thresholds) q 0) ≡ true
           by (is-so x e) = e
           by (not-so n e) = absurd (n (every q h))
 
@@ -123,7 +122,7 @@ module _ (u : Utterance) where
   one-flip : (q : ℕ) → Damaged (packetOf (u .indices) q) (flip (packetOf (u .indices) q) 0)
   one-flip q = inl (flip-burst (packetOf (u .indices) q) 0 (omega (arith, length-packetOf (u .indices) q)))
 
-  hit-part : (q : ℕ) → part (packetStart q) packetBits (allHit (multiframeOf q)) ≡ flip (packetOf (u .indices) q) 0
+  hit-part : (q : ℕ) → streamPacket (allHit (multiframeOf q)) q ≡ flip (packetOf (u .indices) q) 0
   hit-part q =
       let e : 12 * (q / 12) + q % 12 ≡ q = omega arith in
       joined-part (λ r. flip (packetOf (u .indices) (firstPair (q / 12) + r)) 0) packetBits multiframePairs (q % 12) (λ r h. flip-size (firstPair (q / 12) + r)) (omega arith)
@@ -308,10 +307,10 @@ module _ (s : List ℕ) (codebook thresholds : List ℤ) (index report output : 
   places = cutting s .places
 
   abbrev all : List ℕ
-  all = indexPart s places (pairNotes s places codebook thresholds)
+  all = indexPart s places (receivedNotes s places codebook thresholds)
 
   read-size : length all ≡ frameIndices * (multiframeFrames * length places)
-  read-size = length-index s places (pairNotes s places codebook thresholds) (length-notes s places codebook thresholds) ∙ omega arith
+  read-size = length-index s places (receivedNotes s places codebook thresholds) (length-notes (received s places) (pairCount places) codebook thresholds) ∙ omega arith
 
   some : 0 < length places
   some = by (length places) (w .reader-accepts .some)

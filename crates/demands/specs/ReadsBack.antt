@@ -29,12 +29,12 @@ use Rattle.cutting.specs.Laws.{every-length}
 use Rattle.header.specs.Message.{rateOf, typeOf}
 use Rattle.header.specs.declared.Header.the-variants.{Lost}
 use Rattle.settling.specs.Settling.{readings, headerNote}
-use Rattle.pairs.specs.Pairs.{pairCount, allFrames, pairNotes}
+use Rattle.carrier.specs.Carrier.{received, pairCount}
 use Rattle.pairs.specs.Laws.{length-notes, length-all}
 use Rattle.judging.specs.Judging.{bad, badPairs}
 use Rattle.replacing.specs.Replacing.{replaced}
 use Rattle.replacing.specs.Speech.{lastNonzero, speechOf, endOf, place-le, zero-behind, nonzero-at}
-use Rattle.reader.specs.Reading.{indexPart, reportPart, summary, Outcome, outcome, reading}
+use Rattle.reader.specs.Reading.{indexPart, reportPart, summary, Outcome, outcome, reading, receivedFrames, receivedNotes}
 use Rattle.reader.specs.declared.Summary.{Summary}
 use Rattle.reader.specs.declared.Answer.the-variants.{Read}
 use Rattle.writer.specs.Writing.{frameCount, needed, writing}
@@ -171,7 +171,7 @@ module _ (u : Utterance) (s : List ℕ) (d : DamageUpTo 3 (multiframesOf u) (ima
   places = rowOf (multiframesOf u)
 
   abbrev ns : List ℕ
-  ns = pairNotes s places codebook thresholds
+  ns = receivedNotes s places codebook thresholds
 
   never-before : (q : ℕ) → q ≤ pairsOf u → BadBefore u s codebook thresholds q → ⊥
   unfolding BadBefore
@@ -191,7 +191,7 @@ module _ (u : Utterance) (s : List ℕ) (d : DamageUpTo 3 (multiframesOf u) (ima
   rows = every-length 0 (multiframesOf u)
 
   notes-size : length ns ≡ pairCount places
-  notes-size = length-notes s places codebook thresholds
+  notes-size = length-notes (received s places) (pairCount places) codebook thresholds
 
   -- all pair notes are 0
   pair-notes : (q : ℕ) → q < length ns → getD ns q 0 ≡ 0
@@ -221,13 +221,13 @@ module _ (u : Utterance) (s : List ℕ) (d : DamageUpTo 3 (multiframesOf u) (ima
       ∙ ap (joined (λ k. headerFlips (imageOf u) s k ∷ replicate multiframePairs 0)) rows
 
   -- nothing is replaced
-  kept : replaced ns (allFrames s places) ≡ allFrames s places
-  kept = nothing-replaced ns (allFrames s places) pair-notes (length-all s places ∙ omega (arith, notes-size))
+  kept : replaced ns (receivedFrames s places) ≡ receivedFrames s places
+  kept = nothing-replaced ns (receivedFrames s places) pair-notes (length-all (received s places) (pairCount places) ∙ omega (arith, notes-size))
 
   -- and every frame is the one written
-  frame-is : (k : ℕ) → k < multiframeFrames * multiframesOf u → part (frameIndices * k) frameIndices (allFrames s places) ≡ frameAt (u .indices) k
+  frame-is : (k : ℕ) → k < multiframeFrames * multiframesOf u → part (frameIndices * k) frameIndices (receivedFrames s places) ≡ frameAt (u .indices) k
   frame-is k h =
-      let all = allFrames s places in
+      let all = receivedFrames s places in
       let b = N.frame-in-pair u s codebook thresholds index report premises (k / 2) (omega arith) (pair-notes (k / 2) (omega (arith, notes-size, rows))) in
       elim (ℕ-discrete (2 * (k / 2)) k) [
         | yes e ↦ subst (λ (j : ℕ). part (7 * j) 7 all ≡ frameAt (u .indices) j) e (b .0)
@@ -236,8 +236,8 @@ module _ (u : Utterance) (s : List ℕ) (d : DamageUpTo 3 (multiframesOf u) (ima
 
   index-is : indexPart s places ns ≡ padded u
   index-is =
-      let all = allFrames s places in
-      let la : length all ≡ 168 * multiframesOf u = length-all s places ∙ omega (arith, rows) in
+      let all = receivedFrames s places in
+      let la : length all ≡ 168 * multiframesOf u = length-all (received s places) (pairCount places) ∙ omega (arith, rows) in
       kept ∙ ext-getD 0 all (padded u) (la ∙ sym (length-padded u)) (λ i h.
       let j : i % 7 < 7 = omega arith in
       let z : 7 * (i / 7) + i % 7 ≡ i = omega arith in

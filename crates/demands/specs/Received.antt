@@ -20,7 +20,9 @@ use Rattle.packet.specs.Packet.{apart, frameAt}
 use Rattle.packet.specs.Laws.{length-row, packetOf-back}
 use Rattle.consistency.specs.Consistency.{inconsistent}
 use Rattle.cutting.specs.Laws.{every-length}
-use Rattle.pairs.specs.Pairs.{packetAt, pairCount, pairFails, framesOf, pairOdd, pairNotes}
+use Rattle.reader.specs.Reading.{receivedNotes}
+use Rattle.carrier.specs.Carrier.{received, pairCount}
+use Rattle.pairs.specs.Pairs.{pairFails, framesOf, pairInconsistent, pairNotes}
 use Rattle.pairs.specs.Laws.{length-notes}
 use Rattle.judging.specs.Judging.{bad, badPairs, noteBy, notes}
 use Rattle.judging.specs.Laws.{badBefore, note-at, failed-is-1}
@@ -137,32 +139,32 @@ module _ {most : ℕ} (u : Utterance) (s : List ℕ) (d : DamageUpTo most (multi
   pairs-are = ap (λ (n : ℕ). multiframePairs * n) (every-length 0 m)
 
   module _ (q : ℕ) (h : q < pairsOf u) where
-    fails-is : pairFails s (rowOf m) q ≡ not (right dataBits (packetIn s q))
+    fails-is : pairFails (received s (rowOf m)) q ≡ not (right dataBits (packetIn s q))
     unfolding pairFails
     fails-is = ap (λ (p : List Bool). not (right dataBits p)) (packet-at s m q h)
 
     -- the CRC tells whether a pair is damaged
-    pub tells-touched : Tells (Touched (imageOf u) s q) (pairFails s (rowOf m) q)
+    pub tells-touched : Tells (Touched (imageOf u) s q) (pairFails (received s (rowOf m)) q)
     tells-touched = by (fate u s d q h)
       where
-        by : Fate u s d q h → Tells (Touched (imageOf u) s q) (pairFails s (rowOf m) q)
+        by : Fate u s d q h → Tells (Touched (imageOf u) s q) (pairFails (received s (rowOf m)) q)
         by (whole e r) = not-so (not-touched u s d q h e) (fails-is ∙ ap not r)
         by (hit t r) = is-so t (fails-is ∙ ap not r)
 
     -- an undamaged pair's frames are those written
-    pub frames-kept : (Touched (imageOf u) s q → ⊥) → framesOf s (rowOf m) q ≡ frameAt (u .indices) (firstFrame q) ++ frameAt (u .indices) (secondFrame q)
+    pub frames-kept : (Touched (imageOf u) s q → ⊥) → framesOf (received s (rowOf m)) q ≡ frameAt (u .indices) (firstFrame q) ++ frameAt (u .indices) (secondFrame q)
     unfolding framesOf
     frames-kept n = by (fate u s d q h)
       where
-        by : Fate u s d q h → apart widths (packetAt s (rowOf m) q) ≡ frameAt (u .indices) (firstFrame q) ++ frameAt (u .indices) (secondFrame q)
+        by : Fate u s d q h → apart widths (received s (rowOf m) q) ≡ frameAt (u .indices) (firstFrame q) ++ frameAt (u .indices) (secondFrame q)
         by (whole e r) =
             ap (apart widths) (packet-at s m q h ∙ e) ∙ packetOf-back (u .indices) q (fits-each-frame u (firstFrame q)) (fits-each-frame u (secondFrame q))
         by (hit t r) = absurd (n t)
 
     module _ (codebook thresholds : List ℤ) where
-      odd-kept : (Touched (imageOf u) s q → ⊥) → pairOdd s (rowOf m) codebook thresholds q
+      odd-kept : (Touched (imageOf u) s q → ⊥) → pairInconsistent (received s (rowOf m)) codebook thresholds q
           ≡ inconsistent codebook thresholds (frameAt (u .indices) (firstFrame q)) (frameAt (u .indices) (secondFrame q))
-      unfolding pairOdd
+      unfolding pairInconsistent
       odd-kept n =
           let f = frameAt (u .indices) (firstFrame q) in
           let g = frameAt (u .indices) (secondFrame q) in
@@ -170,58 +172,58 @@ module _ {most : ℕ} (u : Utterance) (s : List ℕ) (d : DamageUpTo most (multi
           ap (λ (l : List ℕ). inconsistent codebook thresholds (take frameIndices l) (drop frameIndices l)) (frames-kept n)
           ∙ ap₂ (inconsistent codebook thresholds) (take-at f g frameIndices lf) (drop-at f g frameIndices lf)
 
-      tells-odd : (Touched (imageOf u) s q → ⊥) → Tells (Odd u s codebook thresholds q) (pairOdd s (rowOf m) codebook thresholds q)
+      tells-odd : (Touched (imageOf u) s q → ⊥) → Tells (Odd u s codebook thresholds q) (pairInconsistent (received s (rowOf m)) codebook thresholds q)
       tells-odd n = by (inconsistent codebook thresholds (frameAt (u .indices) (firstFrame q)) (frameAt (u .indices) (secondFrame q))) refl
         where
           by : (t : Bool) → inconsistent codebook thresholds (frameAt (u .indices) (firstFrame q)) (frameAt (u .indices) (secondFrame q)) ≡ t
-              → Tells (Odd u s codebook thresholds q) (pairOdd s (rowOf m) codebook thresholds q)
+              → Tells (Odd u s codebook thresholds q) (pairInconsistent (received s (rowOf m)) codebook thresholds q)
           by true e = is-so e (odd-kept n ∙ e)
           by false e = not-so (λ y. true-false (sym y ∙ e)) (odd-kept n ∙ e)
 
   module _ (codebook thresholds : List ℤ) where
     abbrev fs : List Bool
-    fs = each (pairFails s (rowOf m)) (pairCount (rowOf m))
+    fs = each (pairFails (received s (rowOf m))) (pairCount (rowOf m))
 
     abbrev os : List Bool
-    os = each (pairOdd s (rowOf m) codebook thresholds) (pairCount (rowOf m))
+    os = each (pairInconsistent (received s (rowOf m)) codebook thresholds) (pairCount (rowOf m))
 
     abbrev ns : List ℕ
-    ns = pairNotes s (rowOf m) codebook thresholds
+    ns = receivedNotes s (rowOf m) codebook thresholds
 
     tells-next : (q : ℕ) → Tells (NextTouched u s codebook thresholds q) (getD fs (suc q) false)
     tells-next q =
         elim (decLt (suc q) (pairsOf u)) [
           | yes h ↦ by h (tells-touched (suc q) h)
           | no n ↦
-              let l : length fs ≤ suc q = omega (arith, length-each (pairFails s (rowOf m)) (pairCount (rowOf m)), pairs-are) in
+              let l : length fs ≤ suc q = omega (arith, length-each (pairFails (received s (rowOf m))) (pairCount (rowOf m)), pairs-are) in
               not-so (λ t. n (t .0)) (List·getD-eq-default fs false l)
         ]
       where
-        at : suc q < pairsOf u → getD fs (suc q) false ≡ pairFails s (rowOf m) (suc q)
-        at h = each-at (pairFails s (rowOf m)) (pairCount (rowOf m)) (suc q) false (omega (arith, pairs-are))
+        at : suc q < pairsOf u → getD fs (suc q) false ≡ pairFails (received s (rowOf m)) (suc q)
+        at h = each-at (pairFails (received s (rowOf m))) (pairCount (rowOf m)) (suc q) false (omega (arith, pairs-are))
 
-        by : suc q < pairsOf u → Tells (Touched (imageOf u) s (suc q)) (pairFails s (rowOf m) (suc q)) → Tells (NextTouched u s codebook thresholds q) (getD fs (suc q) false)
+        by : suc q < pairsOf u → Tells (Touched (imageOf u) s (suc q)) (pairFails (received s (rowOf m)) (suc q)) → Tells (NextTouched u s codebook thresholds q) (getD fs (suc q) false)
         by h (is-so t e) = is-so (h, t) (at h ∙ e)
         by h (not-so n e) = not-so (λ t. n (t .1)) (at h ∙ e)
 
     note-is : (q : ℕ) → q < pairsOf u
-        → getD ns q 0 ≡ noteBy (badBefore false ns q) (pairFails s (rowOf m) q) (pairOdd s (rowOf m) codebook thresholds q) (getD fs (suc q) false)
+        → getD ns q 0 ≡ noteBy (badBefore false ns q) (pairFails (received s (rowOf m)) q) (pairInconsistent (received s (rowOf m)) codebook thresholds q) (getD fs (suc q) false)
     unfolding pairNotes
     note-is q h =
         let n = pairCount (rowOf m) in
         let l : q < n = omega (arith, pairs-are) in
-        note-at false fs os q (omega (arith, length-each (pairFails s (rowOf m)) n))
-        ∙ ap₂ (λ (x y : Bool). noteBy (badBefore false (notes fs os) q) x y (getD fs (suc q) false)) (each-at (pairFails s (rowOf m)) n q false l)
-        (each-at (pairOdd s (rowOf m) codebook thresholds) n q false l)
+        note-at false fs os q (omega (arith, length-each (pairFails (received s (rowOf m))) n))
+        ∙ ap₂ (λ (x y : Bool). noteBy (badBefore false (notes fs os) q) x y (getD fs (suc q) false)) (each-at (pairFails (received s (rowOf m))) n q false l)
+        (each-at (pairInconsistent (received s (rowOf m)) codebook thresholds) n q false l)
 
     -- the note of a damaged pair is 1
     pub touched-note : (q : ℕ) → q < pairsOf u → Touched (imageOf u) s q → getD ns q 0 ≡ 1
     touched-note q h t = by (tells-touched q h)
       where
-        by : Tells (Touched (imageOf u) s q) (pairFails s (rowOf m) q) → getD ns q 0 ≡ 1
+        by : Tells (Touched (imageOf u) s q) (pairFails (received s (rowOf m)) q) → getD ns q 0 ≡ 1
         by (is-so x e) =
-            note-is q h ∙ ap (λ (f : Bool). noteBy (badBefore false ns q) f (pairOdd s (rowOf m) codebook thresholds q) (getD fs (suc q) false)) e
-            ∙ failed-is-1 (badBefore false ns q) (pairOdd s (rowOf m) codebook thresholds q) (getD fs (suc q) false)
+            note-is q h ∙ ap (λ (f : Bool). noteBy (badBefore false ns q) f (pairInconsistent (received s (rowOf m)) codebook thresholds q) (getD fs (suc q) false)) e
+            ∙ failed-is-1 (badBefore false ns q) (pairInconsistent (received s (rowOf m)) codebook thresholds q) (getD fs (suc q) false)
         by (not-so n e) = absurd (n t)
 
     -- and of any other tells whether the rule makes it bad
@@ -229,12 +231,12 @@ module _ {most : ℕ} (u : Utterance) (s : List ℕ) (d : DamageUpTo most (multi
         → Tells (ByRule u s codebook thresholds q) (bad (getD ns q 0))
     rule-note q h n b = by (tells-touched q h)
       where
-        by : Tells (Touched (imageOf u) s q) (pairFails s (rowOf m) q) → Tells (ByRule u s codebook thresholds q) (bad (getD ns q 0))
+        by : Tells (Touched (imageOf u) s q) (pairFails (received s (rowOf m)) q) → Tells (ByRule u s codebook thresholds q) (bad (getD ns q 0))
         by (is-so x e) = absurd (n x)
         by (not-so x e) =
             subst (λ (i : ℕ). Tells (ByRule u s codebook thresholds q) (bad i))
-            (sym (note-is q h ∙ ap (λ (f : Bool). noteBy (badBefore false ns q) f (pairOdd s (rowOf m) codebook thresholds q) (getD fs (suc q) false)) e))
-            (ruled (badBefore false ns q) (pairOdd s (rowOf m) codebook thresholds q) (getD fs (suc q) false) (BadBefore u s codebook thresholds q) (Odd u s codebook thresholds q)
+            (sym (note-is q h ∙ ap (λ (f : Bool). noteBy (badBefore false ns q) f (pairInconsistent (received s (rowOf m)) codebook thresholds q) (getD fs (suc q) false)) e))
+            (ruled (badBefore false ns q) (pairInconsistent (received s (rowOf m)) codebook thresholds q) (getD fs (suc q) false) (BadBefore u s codebook thresholds q) (Odd u s codebook thresholds q)
             (NextTouched u s codebook thresholds q) b (tells-odd q h codebook thresholds n) (tells-next q))
 
     -- so the notes tell which pairs are bad
@@ -243,7 +245,7 @@ module _ {most : ℕ} (u : Utterance) (s : List ℕ) (d : DamageUpTo most (multi
     tells-before zero h = not-so (λ x. x) refl
     tells-before (suc q) h = by (tells-touched q (omega arith)) (tells-before q (omega arith))
       where
-        by : Tells (Touched (imageOf u) s q) (pairFails s (rowOf m) q) → Tells (BadBefore u s codebook thresholds q) (badBefore false ns q)
+        by : Tells (Touched (imageOf u) s q) (pairFails (received s (rowOf m)) q) → Tells (BadBefore u s codebook thresholds q) (badBefore false ns q)
             → Tells (BadPair u s codebook thresholds q) (bad (getD ns q 0))
         by (is-so t e) b = is-so (inl t) (ap bad (touched-note q (omega arith) t))
         by (not-so n e) b = from (rule-note q (omega arith) n b)
@@ -261,23 +263,23 @@ module _ {most : ℕ} (u : Utterance) (s : List ℕ) (d : DamageUpTo most (multi
 
     -- ---- exact notes
     other-note : (q : ℕ) → q < pairsOf u → (Touched (imageOf u) s q → ⊥)
-        → getD ns q 0 ≡ noteBy (badBefore false ns q) false (pairOdd s (rowOf m) codebook thresholds q) (getD fs (suc q) false)
+        → getD ns q 0 ≡ noteBy (badBefore false ns q) false (pairInconsistent (received s (rowOf m)) codebook thresholds q) (getD fs (suc q) false)
     other-note q h n = by (tells-touched q h)
       where
-        by : Tells (Touched (imageOf u) s q) (pairFails s (rowOf m) q)
-            → getD ns q 0 ≡ noteBy (badBefore false ns q) false (pairOdd s (rowOf m) codebook thresholds q) (getD fs (suc q) false)
+        by : Tells (Touched (imageOf u) s q) (pairFails (received s (rowOf m)) q)
+            → getD ns q 0 ≡ noteBy (badBefore false ns q) false (pairInconsistent (received s (rowOf m)) codebook thresholds q) (getD fs (suc q) false)
         by (is-so t x) = absurd (n t)
-        by (not-so k x) = note-is q h ∙ ap (λ (f : Bool). noteBy (badBefore false ns q) f (pairOdd s (rowOf m) codebook thresholds q) (getD fs (suc q) false)) x
+        by (not-so k x) = note-is q h ∙ ap (λ (f : Bool). noteBy (badBefore false ns q) f (pairInconsistent (received s (rowOf m)) codebook thresholds q) (getD fs (suc q) false)) x
 
     -- the note is 1 of no other pair than a damaged one
     pub note-one : (q : ℕ) → q < pairsOf u → getD ns q 0 ≡ 1 → Touched (imageOf u) s q
     note-one q h e = by (tells-touched q h)
       where
-        by : Tells (Touched (imageOf u) s q) (pairFails s (rowOf m) q) → Touched (imageOf u) s q
+        by : Tells (Touched (imageOf u) s q) (pairFails (received s (rowOf m)) q) → Touched (imageOf u) s q
         by (is-so t x) = t
         by (not-so n x) =
             absurd (⊎-elim (λ z. let y : _≡_ {A = ℕ} 0 1 = sym z ∙ sym (other-note q h n) ∙ e in omega arith) (λ z. let y : _≡_ {A = ℕ} 2 1 = sym z ∙ sym (other-note q h n) ∙ e in omega arith)
-            (zero-or-two (badBefore false ns q) (pairOdd s (rowOf m) codebook thresholds q) (getD fs (suc q) false)))
+            (zero-or-two (badBefore false ns q) (pairInconsistent (received s (rowOf m)) codebook thresholds q) (getD fs (suc q) false)))
 
     -- and an undamaged pair that the rule makes bad has note 2
     pub note-two : (q : ℕ) → q < pairsOf u → (Touched (imageOf u) s q → ⊥) → ByRule u s codebook thresholds q → getD ns q 0 ≡ 2
@@ -287,10 +289,10 @@ module _ {most : ℕ} (u : Utterance) (s : List ℕ) (d : DamageUpTo most (multi
         by (not-so l y) = absurd (l r)
         by (is-so l y) =
             ⊎-elim (λ z. absurd (true-false (sym y ∙ ap bad (other-note q h n ∙ z)))) (λ z. other-note q h n ∙ z)
-            (zero-or-two (badBefore false ns q) (pairOdd s (rowOf m) codebook thresholds q) (getD fs (suc q) false))
+            (zero-or-two (badBefore false ns q) (pairInconsistent (received s (rowOf m)) codebook thresholds q) (getD fs (suc q) false))
 
     -- the number of bad pairs
     pub bad-counted : Count (BadPair u s codebook thresholds) (pairsOf u) (badPairs ns)
     bad-counted =
-        subst (λ (n : ℕ). Count (BadPair u s codebook thresholds) n (badPairs ns)) (length-notes s (rowOf m) codebook thresholds ∙ pairs-are)
-        (count-bad (BadPair u s codebook thresholds) ns (λ q h. tells-bad q (omega (arith, length-notes s (rowOf m) codebook thresholds, pairs-are))))
+        subst (λ (n : ℕ). Count (BadPair u s codebook thresholds) n (badPairs ns)) (length-notes (received s (rowOf m)) (pairCount (rowOf m)) codebook thresholds ∙ pairs-are)
+        (count-bad (BadPair u s codebook thresholds) ns (λ q h. tells-bad q (omega (arith, length-notes (received s (rowOf m)) (pairCount (rowOf m)) codebook thresholds, pairs-are))))

@@ -13,7 +13,7 @@ use lib.ListN.{length, drop, getD, List·getD-append}
 use lib.Seq.{ext-getD, getD-take, getD-drop}
 use Rattle.lists.specs.Parts.{part, over, part-left}
 use Rattle.lists.specs.Rows.{each, same-each}
-use Rattle.layout.specs.Layout.{multiframePairs, multiframeOctets, syncOctets, headerOctets, streamOctets, mostMultiframes, indexOctets, reportOctets, codebookNumbers, thresholdNumbers, pairOf, multiframeOf, firstPair, sync}
+use Rattle.layout.specs.Layout.{multiframePairs, multiframeOctets, mostMultiframes, indexOctets, reportOctets, codebookNumbers, thresholdNumbers, pairOf, multiframeOf, firstPair, sync}
 use Rattle.bits.specs.Bits.{bits}
 use Rattle.cutting.specs.Cutting.{Cutting, whole, cutting}
 use Rattle.cutting.specs.Laws.{every, every-length, every-at, whole-image}
@@ -21,10 +21,10 @@ use Rattle.header.specs.Reading as H
 use Rattle.header.specs.declared.Header.the-variants.{Lost}
 use Rattle.header.specs.Message.{rateOf, expOf}
 use Rattle.settling.specs.declared.Settlement.the-variants as S
-use Rattle.settling.specs.Settling.{headerWord, readings, settling, headerNote}
-use Rattle.pairs.specs.Pairs.{streamAt, packetAt, pairCount, pairNotes}
+use Rattle.settling.specs.Settling.{readings, settling, headerNote}
+use Rattle.carrier.specs.Carrier.{streamFrom, headerWord, streamPacket, wordAt, streamAt, inPlaces, received, pairCount}
 use Rattle.judging.specs.Judging.{badPairs}
-use Rattle.reader.specs.Reading.{indexPart, reportPart, summary, roomVerdict, settledVerdict, wholeVerdict, endVerdict, verdict, finished, outcome, reading}
+use Rattle.reader.specs.Reading.{indexPart, reportPart, summary, roomVerdict, settledVerdict, wholeVerdict, endVerdict, verdict, finished, outcome, reading, receivedNotes}
 use Rattle.reader.specs.ReadingLaws.{Usable, Fitting, Accepted, accepting, length-report, report-at}
 use Rattle.reader.specs.declared.Verdict.{Verdict}
 use Rattle.refusals.specs.declared.Reading.the-variants.{Unsettled, AllBad}
@@ -46,20 +46,20 @@ module _ (s : List ℕ) (m : ℕ) (k : ℕ) (h : k < m) where
   place-at : getD (rowOf m) k 0 ≡ multiframeOctets * k
   place-at = every-at 0 m k h ∙ omega arith
 
-  pub word-at : headerWord s (getD (rowOf m) k 0) ≡ wordIn s k
+  pub word-at : wordAt s (inPlaces (rowOf m)) k ≡ wordIn s k
   word-at = ap (headerWord s) place-at
 
-  pub stream-at : streamAt s (rowOf m) k ≡ streamIn s k
-  stream-at = ap (λ (p : ℕ). part (p + syncOctets + headerOctets) streamOctets s) place-at
+  pub stream-at : streamAt s (inPlaces (rowOf m)) k ≡ streamIn s k
+  stream-at = ap (streamFrom s) place-at
 
-pub packet-at : (s : List ℕ) (m q : ℕ) → q < multiframePairs * m → packetAt s (rowOf m) q ≡ packetIn s q
-packet-at s m q h = ap (λ (l : List ℕ). part (92 * (q % 12)) 92 (bits l)) (stream-at s m (q / 12) (omega arith))
+pub packet-at : (s : List ℕ) (m q : ℕ) → q < multiframePairs * m → received s (rowOf m) q ≡ packetIn s q
+packet-at s m q h = ap (λ (l : List ℕ). streamPacket (bits l) q) (stream-at s m (q / 12) (omega arith))
 
 pub readings-are : (s : List ℕ) (m : ℕ) → readings s (rowOf m) ≡ each (λ k. H.reading (wordIn s k)) m
 unfolding readings
 readings-are s m =
-    ap (each (λ k. H.reading (headerWord s (getD (rowOf m) k 0)))) (every-length 0 m)
-    ∙ same-each (λ k. H.reading (headerWord s (getD (rowOf m) k 0))) (λ k. H.reading (wordIn s k)) m (λ k h. ap H.reading (word-at s m k h))
+    ap (each (λ k. H.reading (wordAt s (inPlaces (rowOf m)) k))) (every-length 0 m)
+    ∙ same-each (λ k. H.reading (wordAt s (inPlaces (rowOf m)) k)) (λ k. H.reading (wordIn s k)) m (λ k h. ap H.reading (word-at s m k h))
 
 module _ (s : List ℕ) (m : ℕ) (few : m ≤ mostMultiframes) (size : length s ≡ multiframeOctets * m)
     (syncs : (k : ℕ) → k < m → syncIn s k ≡ sync) where
@@ -76,11 +76,11 @@ module _ (s : List ℕ) (m : ℕ) (few : m ≤ mostMultiframes) (size : length s
 
   -- and read
   pub reads-as : (codebook thresholds : List ℤ) (index report : List ℕ) (c : ℕ) → 0 < m → Lent m codebook thresholds index report
-      → Fitting (length (rowOf m)) (badPairs (pairNotes s (rowOf m) codebook thresholds)) (pairCount (rowOf m)) (length index) (length report) (settling (readings s (rowOf m))) c
+      → Fitting (length (rowOf m)) (badPairs (receivedNotes s (rowOf m) codebook thresholds)) (pairCount (rowOf m)) (length index) (length report) (settling (readings s (rowOf m))) c
       → reading s codebook thresholds index report
-      ≡ outcome (Read (summary s (rowOf m) (pairNotes s (rowOf m) codebook thresholds) c))
-      (over index 0 (indexOctets * length (rowOf m)) (indexPart s (rowOf m) (pairNotes s (rowOf m) codebook thresholds)))
-      (over report 0 (reportOctets * length (rowOf m)) (reportPart s (rowOf m) (pairNotes s (rowOf m) codebook thresholds) c))
+      ≡ outcome (Read (summary s (rowOf m) (receivedNotes s (rowOf m) codebook thresholds) c))
+      (over index 0 (indexOctets * length (rowOf m)) (indexPart s (rowOf m) (receivedNotes s (rowOf m) codebook thresholds)))
+      (over report 0 (reportOctets * length (rowOf m)) (reportPart s (rowOf m) (receivedNotes s (rowOf m) codebook thresholds) c))
   unfolding reading
   reads-as codebook thresholds index report c some lent fit =
       let pl : cutting s .places ≡ rowOf m = ap (λ (w : Cutting). w .places) cut-is in
@@ -91,7 +91,7 @@ module _ (s : List ℕ) (m : ℕ) (few : m ≤ mostMultiframes) (size : length s
         uncut = ap (λ (w : Cutting). w .ending) cut-is;
         some = λ e. omega (arith, ap length pl, every-length 0 m);
         fitting = subst
-            (λ (ps : List ℕ). Fitting (length ps) (badPairs (pairNotes s ps codebook thresholds)) (pairCount ps) (length index) (length report) (settling (readings s ps)) c)
+            (λ (ps : List ℕ). Fitting (length ps) (badPairs (receivedNotes s ps codebook thresholds)) (pairCount ps) (length index) (length report) (settling (readings s ps)) c)
             (sym pl) fit;
       } in
       ap₂ (λ (ps : List ℕ) (v : Verdict). finished s codebook thresholds index report ps v) pl
@@ -147,20 +147,20 @@ module _ (s : List ℕ) (m : ℕ) (few : m ≤ mostMultiframes) (size : length s
     (codebook thresholds : List ℤ) (index report : List ℕ) (some : 0 < m) (lent : Lent m codebook thresholds index report) where
   -- past 11 to 15 the settings decide
   settled-next : verdict s codebook thresholds (length index) (length report)
-      ≡ settledVerdict (length (rowOf m)) (badPairs (pairNotes s (rowOf m) codebook thresholds)) (pairCount (rowOf m)) (length index) (length report) (settling (readings s (rowOf m)))
+      ≡ settledVerdict (length (rowOf m)) (badPairs (receivedNotes s (rowOf m) codebook thresholds)) (pairCount (rowOf m)) (length index) (length report) (settling (readings s (rowOf m)))
   unfolding verdict wholeVerdict
   settled-next =
       rw (eq-eqb (length codebook) codebookNumbers (lent .codebook-size), eq-eqb (length thresholds) thresholdNumbers (lent .thresholds-size))
       (subst
       (λ (w : Cutting). endVerdict s codebook thresholds (length index) (length report) (w .places) (w .ending)
-      ≡ settledVerdict (length (rowOf m)) (badPairs (pairNotes s (rowOf m) codebook thresholds)) (pairCount (rowOf m)) (length index) (length report) (settling (readings s (rowOf m))))
+      ≡ settledVerdict (length (rowOf m)) (badPairs (receivedNotes s (rowOf m) codebook thresholds)) (pairCount (rowOf m)) (length index) (length report) (settling (readings s (rowOf m))))
       (sym (cut-is s m few size syncs)) (rw (ne-eqb (length (rowOf m)) 0 (λ e. omega (arith, every-length 0 m)))))
 
   pub refuses-16 : settling (readings s (rowOf m)) ≡ S.Unsettled → reading s codebook thresholds index report ≡ outcome (Refused Unsettled) index report
   unfolding reading settledVerdict
   refuses-16 e = rw (settled-next, e)
 
-  pub refuses-20 : (c : ℕ) → settling (readings s (rowOf m)) ≡ S.Settled c → Usable c → badPairs (pairNotes s (rowOf m) codebook thresholds) ≡ pairCount (rowOf m)
+  pub refuses-20 : (c : ℕ) → settling (readings s (rowOf m)) ≡ S.Settled c → Usable c → badPairs (receivedNotes s (rowOf m) codebook thresholds) ≡ pairCount (rowOf m)
       → reading s codebook thresholds index report ≡ outcome (Refused AllBad) index report
   unfolding reading settledVerdict roomVerdict
   refuses-20 c e u b =
@@ -174,5 +174,5 @@ module _ (s : List ℕ) (m : ℕ) (few : m ≤ mostMultiframes) (size : length s
         eq-eqb (expOf c) 0 (u .exp),
         le-ltb (length index) (indexOctets * length (rowOf m)) i,
         le-ltb (length report) (reportOctets * length (rowOf m)) r,
-        eq-eqb (badPairs (pairNotes s (rowOf m) codebook thresholds)) (pairCount (rowOf m)) b,
+        eq-eqb (badPairs (receivedNotes s (rowOf m) codebook thresholds)) (pairCount (rowOf m)) b,
       )

@@ -26,12 +26,13 @@ use Rattle.header.specs.declared.Header.the-variants.{Lost}
 use Rattle.cutting.specs.Cutting.{cutting}
 use Rattle.cutting.specs.Laws.{every-at, no-inverse, sound, place-stands}
 use Rattle.settling.specs.Settling.{readings, headerNote}
-use Rattle.pairs.specs.Pairs.{packetAt, pairCount, pairFails, framesOf, pairOdd, allFrames, pairNotes}
+use Rattle.carrier.specs.Carrier.{received, pairCount}
+use Rattle.pairs.specs.Pairs.{pairFails, framesOf, pairInconsistent, pairNotes}
 use Rattle.pairs.specs.Laws.{length-notes, length-all, frames-at}
 use Rattle.judging.specs.Judging.{noteBy, notes}
 use Rattle.judging.specs.Laws.{badBefore, note-at, failed-is-1}
 use Rattle.replacing.specs.Speech.{speechOf, endOf}
-use Rattle.reader.specs.Reading.{indexPart, reportPart, summary, verdict, finished, Outcome, outcome, reading}
+use Rattle.reader.specs.Reading.{indexPart, reportPart, summary, verdict, finished, Outcome, outcome, reading, receivedFrames, receivedNotes}
 use Rattle.reader.specs.ReadingLaws.{Accepted, accepted}
 use Rattle.reader.specs.declared.Summary.{Summary}
 use Rattle.refusals.specs.declared.Reading.{Reading as Refusal}
@@ -81,7 +82,7 @@ module _ (s : List ℕ) (codebook thresholds : List ℤ) (index report output : 
   places = cutting s .places
 
   abbrev ns : List ℕ
-  ns = pairNotes s places codebook thresholds
+  ns = receivedNotes s places codebook thresholds
 
   pub record WasRead : Type 0 where
     pub common : ℕ
@@ -121,7 +122,7 @@ module _ (s : List ℕ) (codebook thresholds : List ℤ) (index report output : 
     c = w .common
 
     abbrev all : List ℕ
-    all = allFrames s places
+    all = receivedFrames s places
 
     some : 0 < m
     some = by m (w .reader-accepts .some)
@@ -161,7 +162,7 @@ module _ (s : List ℕ) (codebook thresholds : List ℤ) (index report output : 
         at (suc (suc i)) b = absurd (omega arith)
 
     notes-size : length ns ≡ pairCount places
-    notes-size = length-notes s places codebook thresholds
+    notes-size = length-notes (received s places) (pairCount places) codebook thresholds
 
     -- its header words
     headers : (k : ℕ) → k < m → wordIn s k ≡ codeword (message (rateOf c) (typeOf c) (k + 1) 0)
@@ -180,36 +181,36 @@ module _ (s : List ℕ) (codebook thresholds : List ℤ) (index report output : 
         sym (ap (λ (o : Outcome). pairNoteIn (o .report) q) (w .result-is) ∙ pair-note-is s places ns report c (reportOctets * m) notes-size q (omega (arith, notes-size)))
         ∙ p .notes-0 (13 * (q / 12) + 1 + q % 12) (omega (arith, count, notes-size))
 
-    pass : (q : ℕ) → q < multiframePairs * m → pairFails s places q ≡ false
+    pass : (q : ℕ) → q < multiframePairs * m → pairFails (received s places) q ≡ false
     unfolding pairNotes
-    pass q h = by (pairFails s places q) refl
+    pass q h = by (pairFails (received s places) q) refl
       where
         fs : List Bool
-        fs = each (pairFails s places) (pairCount places)
+        fs = each (pairFails (received s places)) (pairCount places)
 
         os : List Bool
-        os = each (pairOdd s places codebook thresholds) (pairCount places)
+        os = each (pairInconsistent (received s places) codebook thresholds) (pairCount places)
 
-        by : (t : Bool) → pairFails s places q ≡ t → pairFails s places q ≡ false
+        by : (t : Bool) → pairFails (received s places) q ≡ t → pairFails (received s places) q ≡ false
         by false e = e
         by true e =
-            let lf : length fs ≡ pairCount places = length-each (pairFails s places) (pairCount places) in
+            let lf : length fs ≡ pairCount places = length-each (pairFails (received s places)) (pairCount places) in
             let b = badBefore false (notes fs os) q in
             let z : getD (notes fs os) q 0 ≡ 1 =
             note-at false fs os q (omega (arith, lf))
-            ∙ ap (λ (x : Bool). noteBy b x (getD os q false) (getD fs (suc q) false)) (each-at (pairFails s places) (pairCount places) q false h ∙ e)
+            ∙ ap (λ (x : Bool). noteBy b x (getD os q false) (getD fs (suc q) false)) (each-at (pairFails (received s places)) (pairCount places) q false h ∙ e)
             ∙ failed-is-1 b (getD os q false) (getD fs (suc q) false) in
             let y : _≡_ {A = ℕ} 0 1 = sym (good q (omega (arith, notes-size))) ∙ z in
             absurd (omega arith)
 
-    got : (q : ℕ) → q < multiframePairs * m → packetAt s places q ≡ packetIn s q
-    got q h = ap (λ (l : List ℕ). packetAt s l q) row ∙ packet-at s m q h
+    got : (q : ℕ) → q < multiframePairs * m → received s places q ≡ packetIn s q
+    got q h = ap (λ (l : List ℕ). received s l q) row ∙ packet-at s m q h
 
     is-right : (q : ℕ) → q < multiframePairs * m → Right dataBits (packetIn s q)
     unfolding pairFails
     is-right q h =
         right-true dataBits (packetIn s q) .0
-        (ap (right dataBits) (sym (got q h)) ∙ not-false (right dataBits (packetAt s places q)) (pass q h))
+        (ap (right dataBits) (sym (got q h)) ∙ not-false (right dataBits (received s places q)) (pass q h))
 
     packet-size : (q : ℕ) → q < multiframePairs * m → length (packetIn s q) ≡ packetBits
     packet-size q h =
@@ -219,10 +220,10 @@ module _ (s : List ℕ) (codebook thresholds : List ℤ) (index report output : 
 
     -- its frames
     index-is : indexPart s places ns ≡ all
-    index-is = nothing-replaced ns all good (length-all s places ∙ omega (arith, notes-size))
+    index-is = nothing-replaced ns all good (length-all (received s places) (pairCount places) ∙ omega (arith, notes-size))
 
     all-size : length all ≡ frameIndices * (multiframeFrames * m)
-    all-size = length-all s places ∙ omega arith
+    all-size = length-all (received s places) (pairCount places) ∙ omega arith
 
     ended : endOf m all ≡ 1
     ended = sym (ap (λ (g : Summary). g .end) (w .given-is) ∙ ap (endOf m) index-is) ∙ p .ended
@@ -242,7 +243,7 @@ module _ (s : List ℕ) (codebook thresholds : List ℤ) (index report output : 
     packets : (q : ℕ) → q < multiframePairs * m → packetOf idx q ≡ packetIn s q
     unfolding framesOf
     packets q h =
-        packet-spoken all m some all-size q (packetIn s q) h (packet-size q h) (is-right q h) (frames-at s places q h ∙ ap (apart widths) (got q h))
+        packet-spoken all m some all-size q (packetIn s q) h (packet-size q h) (is-right q h) (frames-at (received s places) (pairCount places) q h ∙ ap (apart widths) (got q h))
 
     octets-are : image (rateOf c) (typeOf c) idx m ≡ s
     octets-are = is-image s m size (p .small) syncs (rateOf c) (typeOf c) idx headers packets

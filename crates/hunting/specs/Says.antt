@@ -123,7 +123,7 @@ module _ (s ps : List ℕ) (some : 0 < length ps) (few : length ps ≤ mostMulti
       by : (v : Verdict) → R.finished image codebook thresholds index report rows v .answer ≡ RA.Read g → g .multiframes ≡ length ps
       by (Refuse q) f = let z : _≡_ {A = ℕ} 0 1 = cc in absurd (omega arith)
       by (Accept c) f =
-          let x = R.summary image rows (Rattle.pairs.specs.Pairs.pairNotes image rows codebook thresholds) c in
+          let x = R.summary image rows (R.receivedNotes image rows codebook thresholds) c in
           let z : x ≡ g = cc in
           sym (ap (λ (y : Summary). y .multiframes) z) ∙ every-length 0 (length ps)
 

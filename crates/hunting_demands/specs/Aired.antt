@@ -14,10 +14,10 @@ use lib.Dec.{lit<, lit≤}
 use lib.ListN.{length, take, replicate, length-replicate}
 use lib.Seq.{take-add}
 use Rattle.lists.specs.Tests.{true-false}
-use Rattle.lists.specs.Parts.{part, part-left}
+use Rattle.lists.specs.Parts.{part-left}
 use Rattle.lists.specs.Rows.{joined}
-use Rattle.layout.specs.Layout.{packetBits, packetStart}
 use Rattle.bits.specs.Bits.{field, fields, bits}
+use Rattle.carrier.specs.Carrier.{streamPacket}
 use Rattle.crc.specs.Crc.{Damaged}
 use Rattle.packet.specs.Packet.{frameAt}
 use Rattle.header_code.specs.Code.{codeword, flipsTo}
@@ -89,7 +89,7 @@ module _ (u : Utterance) where
   -- and the packets of the damaged image
   packet-is : (q : ℕ) → q < pairsOf u → receivedPacket aired 3 q ≡ packetIn (hurtImage u) q
   packet-is q h =
-      ap (part (packetStart q) packetBits) (laid-stream threeZeros (λ k. worstSync) (hurtWord u) (hurtStream u) m manyZeros 151 sizes (q / 12) (omega arith))
+      ap (λ (l : List Bool). streamPacket l q) (laid-stream threeZeros (λ k. worstSync) (hurtWord u) (hurtStream u) m manyZeros 151 sizes (q / 12) (omega arith))
       ∙ sym (made-packet (hurtWord u) (hurtStream u) m q h (length-hurt u (q / 12)))
 
   aired-caught : Caught u aired 0 3 fewestMatches

@@ -13,10 +13,11 @@ use lib.Count.{ones, ones-le}
 use lib.Dec.{lit<}
 use lib.IntN.{ℤ}
 use lib.ListN.{length, replicate}
-use Rattle.lists.specs.Parts.{part, over}
+use Rattle.lists.specs.Parts.{over}
 use Rattle.lists.specs.Rows.{joined, same-joined}
-use Rattle.layout.specs.Layout.{packetBits, multiframePairs, mostMultiframes, indexOctets, reportOctets, packetStart}
+use Rattle.layout.specs.Layout.{multiframePairs, mostMultiframes, indexOctets, reportOctets}
 use Rattle.bits.specs.Bits.{bits}
+use Rattle.carrier.specs.Carrier.{streamPacket}
 use Rattle.header.specs.Reading.{reading}
 use Rattle.hunt.specs.Hunt.{fewestMatches, syncBits, multiframeBits, sync, matches, passes, searched}
 use Rattle.reader.specs.Reading as R
@@ -66,7 +67,7 @@ module _ (u : Utterance) (s : List ℕ) (from at least : ℕ) (c : Carried u s f
   packets-kept : (q : ℕ) → q < pairsOf u → packetIn got q ≡ packetIn (imageOf u) q
   packets-kept q h =
       let k : q / 12 < m = omega arith in
-      ap (part (packetStart q) packetBits) (image-stream s at m (c .inside) (q / 12) k ∙ c .streams (q / 12) k)
+      ap (λ (l : List Bool). streamPacket l q) (image-stream s at m (c .inside) (q / 12) k ∙ c .streams (q / 12) k)
 
   -- they are the image with damaged headers
   pub damage : Damage m (imageOf u) got

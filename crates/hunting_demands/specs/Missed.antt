@@ -19,10 +19,11 @@ use borrow.Author.Tests.{ltb-true}
 use Rattle.gf2.specs.Light.{ones-in}
 use Rattle.lists.specs.Tests.{all-holds}
 use Rattle.lists.specs.Parts.{part, over}
-use Rattle.layout.specs.Layout.{widths, frameIndices, packetBits, packetStart, multiframePairs, streamOctets, indexOctets, reportOctets, firstPair}
+use Rattle.layout.specs.Layout.{widths, frameIndices, multiframePairs, streamOctets, indexOctets, reportOctets, firstPair}
 use Rattle.frames.specs.Frames.{zeroFrame}
 use Rattle.bits.specs.Bits.{field, fields, value, laid, numbers, bits, octets}
 use Rattle.bits.specs.Laws.{length-bits}
+use Rattle.carrier.specs.Carrier.{streamPacket}
 use Rattle.crc.specs.Crc.{after, crc}
 use Rattle.packet.specs.Packet.{guarded, packet, row, packetOf, stream}
 use Rattle.header_code.specs.Code.{codeword, flipsTo}
@@ -276,7 +277,7 @@ module _ (least : ℕ) (codebook thresholds : List ℤ) (index report : List ℕ
     syncs-came k h = cut .syncs k h ∙ sym (image-sync 0 0 (sent .indices) 2 k h)
 
     packets-came : (q : ℕ) → q < pairsOf sent → packetIn garbled q ≡ packetIn (imageOf sent) q
-    packets-came q h = ap (λ (x : List ℕ). part (packetStart q) packetBits (bits x)) (stream-came (q / 12) (omega arith))
+    packets-came q h = ap (λ (x : List ℕ). streamPacket (bits x) q) (stream-came (q / 12) (omega arith))
 
     -- the first header is the only one but the second
     first-only : (k : ℕ) → k < m → (k ≡ 1 → ⊥) → headerFlips (imageOf sent) garbled k ≤ 3

@@ -16,11 +16,11 @@ use lib.Seq.{take-at, getD-take}
 use borrow.Author.Tests.{eq-eqb, ne-eqb, lt-ltb}
 use Rattle.gf2.specs.Light.{ones-in}
 use Rattle.lists.specs.Tests.{true-false}
-use Rattle.lists.specs.Parts.{part}
 use Rattle.lists.specs.Rows.{each, joined, length-joined, joined-part}
-use Rattle.layout.specs.Layout.{packetBits, packetStart, multiframePairs, multiframeOctets, mostMultiframes, indexOctets, reportOctets, codebookNumbers, thresholdNumbers, syncFirst, syncSecond}
+use Rattle.layout.specs.Layout.{multiframePairs, multiframeOctets, mostMultiframes, indexOctets, reportOctets, codebookNumbers, thresholdNumbers, syncFirst, syncSecond}
 use Rattle.bits.specs.Bits.{field, fields, value, bits}
 use Rattle.bits.specs.Laws.{length-field, length-bits}
+use Rattle.carrier.specs.Carrier.{streamPacket}
 use Rattle.cutting.specs.Laws.{every-length}
 use Rattle.crc.specs.Crc.{flip}
 use Rattle.crc.specs.Damage.{length-flip, flips-burst}
@@ -616,7 +616,7 @@ module _ (u : Utterance) (two : 2 ≤ multiframesOf u) (least : ℕ) (low : fewe
   pub streams-needed : NeededForNotes Streams u (hurtImage u) 0 0 least zeroBook zeroThresholds (indexFor (multiframesOf u)) (reportFor (multiframesOf u))
   streams-needed = record {
     others = named-others;
-    fails = λ h. first-touched (ap (part (packetStart 0) packetBits) (sym (there .streams 0 (omega arith)) ∙ h 0 (omega arith)));
+    fails = λ h. first-touched (ap (λ (l : List Bool). streamPacket l 0) (sym (there .streams 0 (omega arith)) ∙ h 0 (omega arith)));
     instead = noted;
     not-heard = λ notes e.
         let z : _≡_ {A = ℕ} 0 1 =

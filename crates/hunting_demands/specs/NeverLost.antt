@@ -23,8 +23,9 @@ use Rattle.header.specs.declared.Header.the-variants.{Codeword, Lost}
 use Rattle.cutting.specs.Cutting.{Cutting, cutting}
 use Rattle.cutting.specs.Laws.{every-length}
 use Rattle.settling.specs.Settling.{readings, headerNote}
+use Rattle.reader.specs.Reading.{receivedNotes}
+use Rattle.carrier.specs.Carrier.{streamAt, received, pairCount}
 use Rattle.settling.specs.Laws.{note-flips}
-use Rattle.pairs.specs.Pairs.{pairNotes}
 use Rattle.pairs.specs.Laws.{length-notes}
 use Rattle.reader.specs.Reading as R
 use Rattle.hunt.specs.Hunt.{sync, matches, readable, passes}
@@ -92,12 +93,12 @@ never-lost s from least codebook thresholds index report c e k h z =
     let w = A.was-read img codebook thresholds index report [] (c .summary) (ap (λ (o : R.Outcome). o .answer) y) in
     let cut : cutting img .places ≡ rowOf (length ps) = ap (λ (v : Cutting). v .places) (image-cut s ps (x .few)) in
     let places = cutting img .places in
-    let ns = pairNotes img places codebook thresholds in
+    let ns = receivedNotes img places codebook thresholds in
     let rows : length places ≡ length ps = ap length cut ∙ every-length 0 (length ps) in
     let inside : k < length ps = omega (arith, x .count) in
     let r : getD (readings img places) k Lost ≡ reading (wordIn img k) =
     ap (λ (l : List ℕ). getD (readings img l) k Lost) cut ∙ ap (λ (l : List Header). getD l k Lost) (readings-are img (length ps)) ∙ each-at (λ j. reading (wordIn img j)) (length ps) k Lost inside in
     let n : headerNote (w .common) k (getD (readings img places) k Lost) ≡ 3 =
-    sym (header-note-is img places ns report (w .common) (reportOctets * length places) (length-notes img places codebook thresholds) k (omega arith))
+    sym (header-note-is img places ns report (w .common) (reportOctets * length places) (length-notes (received img places) (pairCount places) codebook thresholds) k (omega arith))
     ∙ sym (ap (λ (o : R.Outcome). headerNoteIn (o .report) k) (w .result-is)) ∙ ap (λ (o : R.Outcome). headerNoteIn (o .report) k) y ∙ z in
     not-three (w .common) k (wordIn img k) (found-readable s least from ps k (x .stand-apart) inside) (ap (headerNote (w .common) k) (sym r) ∙ n)

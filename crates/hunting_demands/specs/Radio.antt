@@ -12,9 +12,9 @@ use lib.Bits.{bitXor}
 use lib.Count.{ones}
 use lib.IntN.{ℤ}
 use lib.ListN.{length}
-use Rattle.lists.specs.Parts.{part}
-use Rattle.layout.specs.Layout.{packetBits, packetStart, multiframeOf, mostMultiframes}
+use Rattle.layout.specs.Layout.{multiframeOf, mostMultiframes}
 use Rattle.bits.specs.Bits.{bits}
+use Rattle.carrier.specs.Carrier.{streamPacket}
 use Rattle.crc.specs.Crc.{Damaged}
 use Rattle.hunt.specs.Hunt.{fewestMatches, multiframeBits, sync, matches, passes, searched}
 use Rattle.header.specs.Reading.{reading}
@@ -34,7 +34,7 @@ use Rattle.hunting_demands.specs.HuntsBack.{receivedFlips}
 
 -- packet q of multiframes that stand from bit `at` on
 abbrev pub receivedPacket : List ℕ → ℕ → ℕ → List Bool
-receivedPacket s at q = part (packetStart q) packetBits (streamAt (bits s) (placeInRow at (multiframeOf q)))
+receivedPacket s at q = streamPacket (streamAt (bits s) (placeInRow at (multiframeOf q))) q
 
 -- the multiframes that stand there, put together on octets
 abbrev pub together : Utterance → List ℕ → ℕ → List ℕ
@@ -77,7 +77,7 @@ module _ (u : Utterance) (s : List ℕ) (from at least : ℕ) (c : Caught u s fr
   flips-few k h = subst (λ (n : ℕ). n ≤ 2) (sym (flips-there k h)) (c .headers k h)
 
   pub packet-there : (q : ℕ) → q < pairsOf u → packetIn (together u s at) q ≡ receivedPacket s at q
-  packet-there q h = ap (part (packetStart q) packetBits) (image-stream s at m (c .inside) (q / 12) (omega arith))
+  packet-there q h = ap (λ (l : List Bool). streamPacket l q) (image-stream s at m (c .inside) (q / 12) (omega arith))
 
   in-a-row : InARow (bits s) from at least m
   in-a-row = record {

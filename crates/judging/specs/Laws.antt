@@ -16,9 +16,9 @@ use Rattle.judging.specs.Judging.{bad, noteBy, undecidedBy, notesFrom, n
 -- ---- one pair
 
 -- a failed CRC is 1, whatever else
-pub failed-is-1 : (before odd after : Bool) → noteBy before true odd after ≡ 1
+pub failed-is-1 : (before inconsistent after : Bool) → noteBy before true inconsistent after ≡ 1
 unfolding noteBy
-failed-is-1 before odd after = refl
+failed-is-1 before inconsistent after = refl
 
 -- a consistent pair with a right CRC is good
 pub consistent-is-good : (before after : Bool) → noteBy before false false after ≡ 0
@@ -41,11 +41,11 @@ before-bad true = refl
 before-bad false = refl
 
 -- consistency need be known only where it matters
-pub only-undecided : (before fails odd after : Bool) → noteBy before fails odd after ≡ noteBy before fails (when (undecidedBy before fails after) odd false) after
+pub only-undecided : (before fails inconsistent after : Bool) → noteBy before fails inconsistent after ≡ noteBy before fails (when (undecidedBy before fails after) inconsistent false) after
 unfolding noteBy undecidedBy
-only-undecided before true odd after = refl
-only-undecided before false odd true = refl
-only-undecided true false odd false = refl
+only-undecided before true inconsistent after = refl
+only-undecided before false inconsistent true = refl
+only-undecided true false inconsistent false = refl
 only-undecided false false true false = refl
 only-undecided false false false false = refl
 
@@ -81,7 +81,7 @@ note-at before (f ∷ fs) os (suc k) h = later k (note-at n fs (drop 1 os) k (om
     later (suc k) e = rw (own (suc k)) at e
 
 -- no failed CRC, no bad pair
-quiet : (odd : Bool) → noteBy false false odd false ≡ 0
+quiet : (inconsistent : Bool) → noteBy false false inconsistent false ≡ 0
 unfolding noteBy
 quiet true = refl
 quiet false = refl
@@ -136,6 +136,16 @@ none-good (n ∷ ns) e k h z = by (eqb n 0) refl e k h z (λ a k. none-good ns a
     by true q e k h z f = omega (arith, few-bad ns)
     by false q e zero h z f = eqb-false n 0 q z
     by false q e (suc k) h z f = f (omega arith) k (omega arith) z
+
+-- where none is counted none is bad
+pub none-bad : (ns : List ℕ) → badPairs ns ≡ 0 → (k : ℕ) → getD ns k 0 ≡ 0
+none-bad [] e k = refl
+none-bad (n ∷ ns) e k = by (eqb n 0) refl e k (λ a. none-bad ns a)
+  where
+    by : (t : Bool) → eqb n 0 ≡ t → when t (badPairs ns) (suc (badPairs ns)) ≡ 0 → (k : ℕ) → (badPairs ns ≡ 0 → (k : ℕ) → getD ns k 0 ≡ 0) → getD (n ∷ ns) k 0 ≡ 0
+    by true q e zero f = eqb-true n 0 q
+    by true q e (suc k) f = f e k
+    by false q e k f = absurd (omega arith)
 
 -- counting goes on by one pair
 pub counted : (k n : ℕ) (ns : List ℕ) → k < length ns → (getD ns k 0 ≡ 0 → ⊥) → n + badPairs (drop k ns) ≡ n + 1 + badPairs (drop (k + 1) ns)

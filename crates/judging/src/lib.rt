@@ -28,14 +28,14 @@ pub fn undecided(before: bool, fails: bool, after: bool) -> bool
     before
 }
 
-// note gives the pair's note, by the pair before it (bad), its own CRC (fails) and consistency (odd), and the next pair's CRC (after).
-pub fn note(before: bool, fails: bool, odd: bool, after: bool) -> u8
-    ensures { λ r. ⌜ r ≡ noteBy before fails odd after ⌝ }
+// note gives the pair's note, by the pair before it (bad), its own CRC (fails) and consistency (inconsistent), and the next pair's CRC (after).
+pub fn note(before: bool, fails: bool, inconsistent: bool, after: bool) -> u8
+    ensures { λ r. ⌜ r ≡ noteBy before fails inconsistent after ⌝ }
 {
     if fails {
         return CRC_FAILED;
     }
-    if odd {
+    if inconsistent {
         if after {
             return BAD_OTHERWISE;
         }

@@ -1,7 +1,7 @@
 // The sizes that belong to the layout of a frame, a pair packet and a multiframe, written here once, and the three counters that the
 // standard keeps apart. A second layout (the extended front end) gets types of its own beside these.
 ghost use mathlib.Core.Path.{_≡_};
-ghost use Prim.Native.Nat.{_<_};
+ghost use Prim.Native.Nat.{_^_, _<_};
 ghost use Rattle.layout.specs.Layout.{frameIndices, frameBits, crcBits, dataBits, packetBits, multiframePairs, multiframeFrames, syncOctets, syncFirst, syncSecond, syncWord, inverseFirst, inverseSecond, headerOctets, streamOctets, multiframeOctets, mostMultiframes, mostFrames, indexOctets, reportOctets, codebookNumbers, thresholdNumbers, firstFrame, secondFrame, multiframeOf, firstPair, firstFrameOf, packetStart};
 
 // Six indices of 6 bits, then one of 8.
@@ -191,7 +191,7 @@ impl Pair {
 
 impl Multiframe {
     pub fn first_pair(self) -> Pair
-        requires { ⌜ self .0 < 65536 ⌝ }
+        requires { ⌜ firstPair (self .0) < 2 ^ 64 ⌝ }
         ensures { λ r. ⌜ r .0 ≡ firstPair (self .0) ⌝ }
     {
         Pair(MultiframeLayout::PAIRS * self.0)

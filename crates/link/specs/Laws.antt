@@ -1,20 +1,17 @@
--- The entries' ends as facts over lists: each refusal leaves all as it came, and the loop over a stream's packets lays frames and notes one
--- behind the other. Assumes nothing.
+-- The entries' ends as facts over lists: each refusal leaves all as it came. Assumes nothing.
 use mathlib.Core.Path.{_≡_, refl, sym, ap, ap₂, _∙_}
-use mathlib.Core.Bool.{Bool}
-use mathlib.Core.List.{List, [], _∷_, _++_, append-nil}
-use Prim.Native.Nat.{ℕ, _+_, _*_, _≤_, _<_}
-use native.Mathlib.Numerals.{add-one}
+use mathlib.Core.List.{List, [], _∷_}
+use Prim.Native.Nat.{ℕ, _≤_, _<_}
 use native.Mathlib.Omega.{arith}
-use lib.ListN.{length, set, drop, length-set, length-append}
-use lib.Seq.{drop-length}
+use lib.ListN.{length, set}
 use borrow.Author.Tests.{eq-eqb, ne-eqb, lt-ltb, le-ltb}
-use Rattle.lists.specs.Parts.{part, over, over-none, behind, set-over, length-over, length-part}
-use Rattle.lists.specs.Rows.{each, joined, length-each, length-joined}
-use Rattle.layout.specs.Layout.{widths, packetBits, packetStart, streamOctets, indexOctets, multiframePairs}
-use Rattle.bits.specs.Bits.{bits, octets, total}
-use Rattle.packet.specs.Packet.{stream, apart, indices}
-use Rattle.bits.specs.Laws.{length-numbers}
+use Rattle.lists.specs.Parts.{over, set-over, length-part}
+use Rattle.layout.specs.Layout.{streamOctets, indexOctets, multiframePairs}
+use Rattle.bits.specs.Bits.{bits, octets}
+use Rattle.carrier.specs.Carrier.{streamPacket}
+use Rattle.packet.specs.Packet.{stream}
+use Rattle.pairs.specs.Pairs.{allFrames, crcNotes}
+use Rattle.pairs.specs.Laws.{over-all}
 use Rattle.refusals.specs.Refusals.{success, noRoom, readingNumber, readingPlace}
 use Rattle.reader.specs.Reading.{Outcome, outcome}
 use Rattle.reader.specs.declared.Summary.{Summary}
@@ -22,13 +19,7 @@ use Rattle.refusals.specs.declared.Reading.{Reading as Refusal}
 use Rattle.reader.specs.declared.Answer.{Answer}
 use Rattle.reader.specs.declared.Answer.the-variants.{Read, Refused}
 use Rattle.writer.specs.Writing.{Search, at, nowhere, firstWide}
-use Rattle.link.specs.Link.{Packing, packed, narrowPacking, packing, Unpacking, unpacked, unpacking, framesOf, noteOf, answerNumbers, summaryNumbers, returned, answered, returning, writeReturned}
-
--- laid over all of a list, it is all of it
-over-all : {A : Type 0} (l f : List A) (w : ℕ) → length l ≡ w → over l 0 w f ≡ f
-over-all {A} l f w h =
-    let z : 0 + w ≡ length l = omega arith in
-    ap (λ (n : ℕ). f ++ drop n l) z ∙ ap (λ (r : List A). f ++ r) (drop-length l) ∙ append-nil f
+use Rattle.link.specs.Link.{Packing, packed, narrowPacking, packing, Unpacking, unpacked, unpacking, answerNumbers, summaryNumbers, returned, answered, returning, writeReturned}
 
 -- ---- packing
 module _ (idx s : List ℕ) where
@@ -66,50 +57,12 @@ module _ (s i n : List ℕ) where
   unpacks-no-notes e g h = rw (eq-eqb (length s) streamOctets e, eq-eqb (length i) indexOctets g, ne-eqb (length n) multiframePairs h)
 
   pub unpacks : length s ≡ streamOctets → length i ≡ indexOctets → length n ≡ multiframePairs → (i′ n′ : List ℕ)
-      → i′ ≡ over i 0 indexOctets (joined (framesOf s) multiframePairs) → n′ ≡ over n 0 multiframePairs (each (noteOf s) multiframePairs)
+      → i′ ≡ over i 0 indexOctets (allFrames (streamPacket (bits s)) multiframePairs) → n′ ≡ over n 0 multiframePairs (crcNotes (streamPacket (bits s)) multiframePairs)
       → unpacked 1 i′ n′ ≡ unpacking s i n
   unfolding unpacking
   unpacks e g h i′ n′ ei en =
       rw (eq-eqb (length s) streamOctets e, eq-eqb (length i) indexOctets g, eq-eqb (length n) multiframePairs h)
-      (ap₂ (unpacked 1) (ei ∙ over-all i (joined (framesOf s) multiframePairs) indexOctets g) (en ∙ over-all n (each (noteOf s) multiframePairs) multiframePairs h))
-
--- fourteen indices a packet
-length-apart : (p : List Bool) → length (apart widths p) ≡ 14
-unfolding apart
-length-apart p = length-append (indices widths p) (indices widths (drop (total widths) p)) ∙ ap₂ _+_ (length-numbers widths p) (length-numbers widths (drop (total widths) p))
-
--- ---- the loop over the packets
-pub record Going (s i₀ n₀ i n : List ℕ) (p : ℕ) : Type 0 where
-  pub passed : p ≤ 12
-  pub same-indices : length i ≡ length i₀
-  pub same-notes : length n ≡ length n₀
-  pub frames-laid : i ≡ over i₀ 0 (14 * p) (joined (framesOf s) p)
-  pub notes-laid : n ≡ over n₀ 0 p (each (noteOf s) p)
-
-pub going-begins : (s i n : List ℕ) → Going s i n i n 0
-going-begins s i n = record { passed = omega arith; same-indices = refl; same-notes = refl; frames-laid = over-none i 0; notes-laid = over-none n 0 }
-
-pub going-on : (s i₀ n₀ i n i′ n′ : List ℕ) (p x : ℕ) → p < 12 → indexOctets ≤ length i₀ → multiframePairs ≤ length n₀ → Going s i₀ n₀ i n p
-    → i′ ≡ over i (14 * p) 14 (framesOf s p) → x ≡ noteOf s p → n′ ≡ set n p x → Going s i₀ n₀ i′ n′ (p + 1)
-going-on s i₀ n₀ i n i′ n′ p x h hi hn g ei ex en =
-    let z : 14 * p ≡ 0 + 14 * p = omega arith in
-    let y : p ≡ 0 + p = omega arith in
-    let c : 14 * p + 14 ≡ 14 * (p + 1) = omega arith in
-    let room : 14 * p + 14 ≤ length i = omega (arith, g .same-indices) in
-    let put : p + 1 ≤ length n = omega (arith, g .same-notes) in
-    let sizes = length-joined (framesOf s) 14 p (λ k l. length-apart (part (packetStart k) packetBits (bits s))) in
-    let e : n′ ≡ over n p 1 (noteOf s p ∷ []) = en ∙ ap (set n p) ex ∙ set-over n p (noteOf s p) (omega arith) in
-    record {
-      passed = omega arith;
-      same-indices = ap length ei ∙ length-over i (framesOf s p) (14 * p) 14 room (length-apart (part (packetStart p) packetBits (bits s))) ∙ g .same-indices;
-      same-notes = ap length en ∙ length-set n p x ∙ g .same-notes;
-      frames-laid =
-          behind i₀ 0 (14 * p) 14 (joined (framesOf s) p) (framesOf s p) (omega arith) sizes (g .frames-laid) (ei ∙ ap (λ (a : ℕ). over i a 14 (framesOf s p)) z)
-          ∙ ap₂ (λ (a : ℕ) (l : List ℕ). over i₀ 0 a l) c (ap (joined (framesOf s)) (sym (add-one p)));
-      notes-laid =
-          behind n₀ 0 p 1 (each (noteOf s) p) (noteOf s p ∷ []) (omega arith) (length-each (noteOf s) p) (g .notes-laid) (e ∙ ap (λ (a : ℕ). over n a 1 (noteOf s p ∷ [])) y)
-          ∙ ap (over n₀ 0 (p + 1)) (ap (each (noteOf s)) (sym (add-one p)));
-    }
+      (ap₂ (unpacked 1) (ei ∙ over-all i (allFrames (streamPacket (bits s)) multiframePairs) indexOctets g) (en ∙ over-all n (crcNotes (streamPacket (bits s)) multiframePairs) multiframePairs h))
 
 -- ---- a reading's answer
 -- six numbers stored one by one

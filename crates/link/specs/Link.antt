@@ -1,18 +1,17 @@
 -- What the entries for C and Rust answer, in numbers, and what they leave in lent memory. Assumes nothing.
 use mathlib.Core.Path.{_≡_}
-use mathlib.Core.Bool.{Bool, true, false}
 use mathlib.Core.List.{List, [], _∷_}
 use Prim.Native.Nat.{ℕ}
 use lib.Dec.{eqb, ltb}
 use lib.IntN.{ℤ}
 use lib.ListN.{length}
 use Rattle.lists.specs.Tests.{when}
-use Rattle.lists.specs.Parts.{part, over}
-use Rattle.lists.specs.Rows.{each, joined}
-use Rattle.layout.specs.Layout.{widths, dataBits, packetBits, packetStart, streamOctets, indexOctets, multiframePairs}
+use Rattle.lists.specs.Parts.{over}
+use Rattle.layout.specs.Layout.{streamOctets, indexOctets, multiframePairs}
 use Rattle.bits.specs.Bits.{bits, octets}
-use Rattle.crc.specs.Crc.{right}
-use Rattle.packet.specs.Packet.{apart, stream}
+use Rattle.carrier.specs.Carrier.{streamPacket}
+use Rattle.packet.specs.Packet.{stream}
+use Rattle.pairs.specs.Pairs.{allFrames, crcNotes}
 use Rattle.header.specs.declared.Header.{Header}
 use Rattle.header.specs.declared.Header.the-variants.{Codeword, Lost}
 use Rattle.refusals.specs.Refusals.{success, noRoom, readingNumber, readingPlace}
@@ -55,27 +54,12 @@ pub record Unpacking : Type 0 where
 abbrev pub unpacked : ℕ → List ℕ → List ℕ → Unpacking
 unpacked a i n = record { answer = a; indices = i; notes = n }
 
--- packet p of a stream: its fourteen indices, and its note
-abbrev pub packetIn : List ℕ → ℕ → List Bool
-packetIn s p = part (packetStart p) packetBits (bits s)
-
-abbrev pub framesOf : List ℕ → ℕ → List ℕ
-framesOf s p = apart widths (packetIn s p)
-
--- 0 for a right CRC, 1 for a failed one
-abbrev pub markOf : Bool → ℕ
-markOf true = 0
-markOf false = 1
-
-abbrev pub noteOf : List ℕ → ℕ → ℕ
-noteOf s p = markOf (right dataBits (packetIn s p))
-
--- 1, the frames and the notes, or 0 and both as they came
+-- 1, the frames of its twelve packets and the notes of their CRCs (0 right, 1 failed), or 0 and both as they came
 unfoldable pub unpacking : List ℕ → List ℕ → List ℕ → Unpacking
 unpacking s i n =
     when (eqb (length s) streamOctets)
     (when (eqb (length i) indexOctets)
-    (when (eqb (length n) multiframePairs) (unpacked 1 (joined (framesOf s) multiframePairs) (each (noteOf s) multiframePairs)) (unpacked 0 i n))
+    (when (eqb (length n) multiframePairs) (unpacked 1 (allFrames (streamPacket (bits s)) multiframePairs) (crcNotes (streamPacket (bits s)) multiframePairs)) (unpacked 0 i n))
     (unpacked 0 i n))
     (unpacked 0 i n)
 

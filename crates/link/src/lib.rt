@@ -2,9 +2,7 @@
 use header::Header;
 use hunt::Hunted;
 use hunting::Counted;
-use layout::FrameLayout;
 use layout::MultiframeLayout;
-use layout::PacketLayout;
 use layout::Pair;
 use layout::ReadingLayout;
 use reader::Answer;
@@ -14,12 +12,10 @@ ghost use mathlib.Core.Path.{_≡_};
 ghost use Prim.Native.Nat.{_≤_};
 ghost use lib.ListN.{length};
 ghost use Rattle.lists.specs.Parts.{over};
-ghost use Rattle.lists.specs.Rows.{each, joined};
-ghost use Rattle.layout.specs.Layout.{streamOctets, indexOctets, multiframePairs};
 ghost use Rattle.header_code.specs.Code.{codeword};
 ghost use Rattle.header.specs.Reading.{reading};
 ghost use Rattle.link.specs.Bits.{huntReturned, dsrHunt, countedNumbers, numbersOf, bitsReturned, dsrReadBits};
-ghost use Rattle.link.specs.Link.{answerNumbers, summaryNumbers, writeReturned, dsrWrite, returned, dsrRead, headerRead, packed, packing, unpacked, unpacking, framesOf, noteOf, markOf};
+ghost use Rattle.link.specs.Link.{answerNumbers, summaryNumbers, writeReturned, dsrWrite, returned, dsrRead, headerRead, packed, packing, unpacked, unpacking};
 
 // The numbers of a reading's answer, and those of a hunting reading's.
 const ANSWER: usize = 6;
@@ -70,33 +66,6 @@ pub extern "C" fn dsr_pack(indices: &[u8], stream: &mut [u8]) -> u32
     }
 }
 
-// A packet's note: 0 if its CRC is right, 1 if it failed.
-fn mark(right: bool) -> u8
-    ensures { λ r. ⌜ r ≡ markOf right ⌝ }
-{
-    if right {
-        return 0;
-    }
-    1
-}
-
-// The frames and the notes of a stream's twelve packets. It asks for the lengths that dsr_unpack has tested.
-fn unpack_all(stream: &[u8], indices: &mut [u8], notes: &mut [u8])
-    requires { ⌜ (streamOctets ≤ length (now stream)) × (indexOctets ≤ length (now indices)) × (multiframePairs ≤ length (now notes)) ⌝ }
-    ensures frames { λ _. ⌜ now (indices .exit) ≡ over (now (indices .entry)) 0 indexOctets (joined (framesOf (now (stream .entry))) multiframePairs) ⌝ }
-    ensures notes { λ _. ⌜ now (notes .exit) ≡ over (now (notes .entry)) 0 multiframePairs (each (noteOf (now (stream .entry))) multiframePairs) ⌝ }
-{
-    for p in 0..MultiframeLayout::PAIRS {
-        packet::take_apart(
-            stream,
-            Pair(p),
-            indices,
-            PacketLayout::FRAMES * FrameLayout::INDICES * p,
-        );
-        notes[p] = mark(packet::is_right(stream, Pair(p)));
-    }
-}
-
 // dsr_unpack turns a stream into its 24 frames and twelve notes, 0 for a right CRC and 1 for a failed one, and answers 1, or 0 if a length
 // is wrong, and then both lent buffers stay.
 #[no_mangle]
@@ -112,7 +81,8 @@ pub extern "C" fn dsr_unpack(stream: &[u8], indices: &mut [u8], notes: &mut [u8]
     if notes.len() != MultiframeLayout::PAIRS {
         return 0;
     }
-    unpack_all(stream, indices, notes);
+    pairs::take_stream_apart(stream, indices, Pair(0));
+    pairs::note_stream(stream, notes, Pair(0));
     1
 }
 

@@ -13,9 +13,9 @@ use Rattle.lists.specs.Parts.{part, over}
 use Rattle.lists.specs.Rows.{length-joined, joined-part}
 use Rattle.layout.specs.Layout.{frameIndices, pairFrames, multiframePairs, multiframeFrames, indexOctets, reportOctets}
 use Rattle.cutting.specs.Cutting.{cutting}
-use Rattle.pairs.specs.Pairs.{pairNotes}
+use Rattle.carrier.specs.Carrier.{received, pairCount}
 use Rattle.pairs.specs.Laws.{length-notes}
-use Rattle.reader.specs.Reading.{indexPart, reportPart, Outcome, outcome, reading}
+use Rattle.reader.specs.Reading.{indexPart, reportPart, Outcome, outcome, reading, receivedNotes}
 use Rattle.reader.specs.ReadingLaws.{length-index, length-report}
 use Rattle.reader.specs.declared.Summary.{Summary}
 use Rattle.reader.specs.declared.Answer.{Answer}
@@ -101,9 +101,9 @@ pub beyond-both : (s : List ℕ) (codebook thresholds : List ℤ) (index report 
 beyond-both s codebook thresholds index report g e =
     let w = A.was-read s codebook thresholds index report [] g e in
     let places = cutting s .places in
-    let ns = pairNotes s places codebook thresholds in
+    let ns = receivedNotes s places codebook thresholds in
     let count : length places ≡ g .multiframes = sym (ap (λ (x : Summary). x .multiframes) (w .given-is)) in
-    let size = length-notes s places codebook thresholds in (
+    let size = length-notes (received s places) (pairCount places) codebook thresholds in (
       subst (λ (n : ℕ). drop (indexOctets * n) (reading s codebook thresholds index report .index) ≡ drop (indexOctets * n) index) count
           (ap (λ (x : Outcome). drop (indexOctets * length places) (x .index)) (w .result-is)
           ∙ beyond index (indexPart s places ns) (indexOctets * length places) (w .reader-accepts .fitting .roomy .index-room) (length-index s places ns size)),

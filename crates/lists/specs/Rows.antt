@@ -1,9 +1,9 @@
 -- Lists made element by element and part by part: what stands at each place of them.
 -- Assumes nothing.
 use mathlib.Core.Path.{_≡_, refl, sym, ap, ap₂, _∙_}
-use mathlib.Core.List.{List, [], _∷_, _++_}
+use mathlib.Core.List.{List, [], _∷_, _++_, append-assoc, append-nil}
 use Prim.Native.Nat.{ℕ, zero, suc, _+_, _*_, _≤_, _<_}
-use native.Mathlib.Nat.{mul-zero, mul-suc, mul-le-mul-left, le-of-eq}
+use native.Mathlib.Nat.{add-zero, add-suc, mul-zero, mul-suc, mul-le-mul-left, le-of-eq}
 use native.Mathlib.Decide.{decLt}
 use native.Mathlib.Omega.{arith}
 use lib.ListN.{length, getD, set, take, drop, length-append, List·getD-append}
@@ -67,19 +67,39 @@ module _ {A : Type 0} (f : ℕ → List A) (w : ℕ) where
             ∙ take-all w (f n) (le-of-eq (h n (omega arith))) ∙ ap f (sym e)
       ]
 
--- ---- how a loop that stores makes such a list at the front of another, one element or one part a turn
+-- n of them and m more
+pub each-add : {A : Type 0} (f : ℕ → A) (n m : ℕ) → each f (n + m) ≡ each f n ++ each (λ k. f (n + k)) m
+each-add f n zero = rw add-zero (sym (append-nil (each f n)))
+each-add f n (suc m) = rw (add-suc, each-add f n m) (append-assoc (each f n) (each (λ k. f (n + k)) m) (f (n + m) ∷ []))
+
+pub joined-add : {A : Type 0} (f : ℕ → List A) (n m : ℕ) → joined f (n + m) ≡ joined f n ++ joined (λ k. f (n + k)) m
+joined-add f n zero = rw add-zero (sym (append-nil (joined f n)))
+joined-add f n (suc m) = rw (add-suc, joined-add f n m) (append-assoc (joined f n) (joined (λ k. f (n + k)) m) (f (n + m)))
+
+-- ---- how a loop that stores makes such a list in another from place at on, one element or one part a turn
+module _ {A : Type 0} (l m : List A) (at k : ℕ) where
+  pub each-on : (f : ℕ → A) (x : A) → at + k < length l → x ≡ f k → length m ≡ length l → m ≡ over l at k (each f k)
+      → set m (at + k) x ≡ over l at (k + 1) (each f (k + 1))
+  each-on f x h e size em =
+      let s : set m (at + k) x ≡ over m (at + k) 1 (f k ∷ []) = set-over m (at + k) x (omega arith) ∙ ap (λ (y : A). over m (at + k) 1 (y ∷ [])) e in
+      behind l at k 1 (each f k) (f k ∷ []) (omega arith) (length-each f k) em s ∙ ap (λ (n : ℕ). over l at (k + 1) (each f n)) (sym (add-one k))
+
+  pub joined-on : (f : ℕ → List A) (w : ℕ) (n : List A) → ((i : ℕ) → i < k → length (f i) ≡ w) → at + w * k + w ≤ length l
+      → m ≡ over l at (w * k) (joined f k) → n ≡ over m (at + w * k) w (f k) → n ≡ over l at (w * (k + 1)) (joined f (k + 1))
+  joined-on f w n sizes room em en =
+      let s : suc k ≡ k + 1 = sym (add-one k) in
+      let t : w * k + w ≡ w * (k + 1) = sym (mul-suc w k) ∙ ap (λ (i : ℕ). w * i) s in
+      behind l at (w * k) w (joined f k) (f k) (omega arith) (length-joined f w k sizes) em en ∙ ap₂ (λ (i j : ℕ). over l at i (joined f j)) t s
+
+-- at the front
 module _ {A : Type 0} (l m : List A) (k : ℕ) where
   pub each-more : (f : ℕ → A) (x : A) → k < length l → x ≡ f k → length m ≡ length l → m ≡ over l 0 k (each f k) → set m k x ≡ over l 0 (k + 1) (each f (k + 1))
   each-more f x h e size em =
       let z : 0 + k ≡ k = omega arith in
-      let s : set m k x ≡ over m (0 + k) 1 (f k ∷ []) = set-over m k x (omega arith) ∙ ap₂ (λ (i : ℕ) (y : A). over m i 1 (y ∷ [])) (sym z) e in
-      behind l 0 k 1 (each f k) (f k ∷ []) (omega arith) (length-each f k) em s ∙ ap (λ (n : ℕ). over l 0 (k + 1) (each f n)) (sym (add-one k))
+      ap (λ (i : ℕ). set m i x) (sym z) ∙ each-on l m 0 k f x (omega arith) e size em
 
   pub joined-more : (f : ℕ → List A) (w : ℕ) (n : List A) → ((i : ℕ) → i < k → length (f i) ≡ w) → w * k + w ≤ length l
       → m ≡ over l 0 (w * k) (joined f k) → n ≡ over m (w * k) w (f k) → n ≡ over l 0 (w * (k + 1)) (joined f (k + 1))
   joined-more f w n sizes room em en =
       let z : 0 + w * k ≡ w * k = omega arith in
-      let s : suc k ≡ k + 1 = sym (add-one k) in
-      let t : w * k + w ≡ w * (k + 1) = sym (mul-suc w k) ∙ ap (λ (i : ℕ). w * i) s in
-      behind l 0 (w * k) w (joined f k) (f k) (omega arith) (length-joined f w k sizes) em (en ∙ ap (λ (i : ℕ). over m i w (f k)) (sym z))
-      ∙ ap₂ (λ (i j : ℕ). over l 0 i (joined f j)) t s
+      joined-on l m 0 k f w n sizes (omega arith) em (en ∙ ap (λ (i : ℕ). over m i w (f k)) (sym z))

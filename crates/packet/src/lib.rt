@@ -139,19 +139,19 @@ pub fn put_stream(idx: &[u8], q: Pair, out: &mut [u8], at: usize)
     }
 }
 
-// first_word gives the bits of the first frame of pair p's packet in a stream. It asks, as those below, for a whole stream, which the
-// reader has cut.
+// first_word gives the bits of the first frame of pair p's packet in a stream. It asks, as those below, that the packet lies
+// inside.
 fn first_word(s: &[u8], p: Pair) -> u64
-    requires { ⌜ streamOctets ≤ length (now s) ⌝ }
+    requires { ⌜ packetStart (p .0) + packetBits ≤ 8 * length (now s) ⌝ }
     ensures { λ r. ⌜ r ≡ value (part (packetStart (p .0)) frameBits (bits (now (s .entry)))) ⌝ }
 {
     let at = p.start();
     (bits::word(s, at / 8) >> (at % 8)) & FRAME_MASK
 }
 
-// second_word gives the bits of the second frame and the CRC. Its word starts four octets on and never passes the stream's end.
+// second_word gives the bits of the second frame and the CRC. Its word starts four octets on and never passes the packet's last octet.
 fn second_word(s: &[u8], p: Pair) -> u64
-    requires { ⌜ streamOctets ≤ length (now s) ⌝ }
+    requires { ⌜ packetStart (p .0) + packetBits ≤ 8 * length (now s) ⌝ }
     ensures { λ r. ⌜ r ≡ value (part (packetStart (p .0) + frameBits) 48 (bits (now (s .entry)))) ⌝ }
 {
     let at = p.start();
@@ -161,7 +161,7 @@ fn second_word(s: &[u8], p: Pair) -> u64
 // is_right tells whether the CRC of pair p's packet in a stream is right: the register is 0 after all 92 bits. Four zero bits ahead of
 // them leave a zero register alone and make whole octets.
 pub fn is_right(s: &[u8], p: Pair) -> bool
-    requires { ⌜ streamOctets ≤ length (now s) ⌝ }
+    requires { ⌜ packetStart (p .0) + packetBits ≤ 8 * length (now s) ⌝ }
     ensures { λ r. ⌜ r ≡ right dataBits (part (packetStart (p .0)) packetBits (bits (now (s .entry)))) ⌝ }
 {
     let a = first_word(s, p);
@@ -183,7 +183,7 @@ fn take_frame(w: u64, idx: &mut [u8], to: usize)
 
 // take_apart stores the two frames of pair p's packet in a stream as fourteen octets from octet to on; every other octet stays.
 pub fn take_apart(s: &[u8], p: Pair, idx: &mut [u8], to: usize)
-    requires { ⌜ (streamOctets ≤ length (now s)) × (to + pairFrames * frameIndices ≤ length (now idx)) ⌝ }
+    requires { ⌜ (packetStart (p .0) + packetBits ≤ 8 * length (now s)) × (to + pairFrames * frameIndices ≤ length (now idx)) ⌝ }
     ensures { λ _. ⌜ now (idx .exit) ≡ over (now (idx .entry)) to (pairFrames * frameIndices) (apart widths (part (packetStart (p .0)) packetBits (bits (now (s .entry))))) ⌝ }
 {
     take_frame(first_word(s, p), idx, to);

@@ -33,12 +33,13 @@ use Rattle.settling.specs.Settling.{readings, firstAgreeing, settling, headerNo
 use Rattle.settling.specs.Laws.{all-agree, note-lost}
 use Rattle.settling.specs.declared.Settlement.the-variants as S
 use Rattle.consistency.specs.Consistency.{flagged, flags, inconsistent}
-use Rattle.pairs.specs.Pairs.{pairCount, pairFails, pairOdd, framesOf, allFrames, pairNotes}
+use Rattle.carrier.specs.Carrier.{received, pairCount}
+use Rattle.pairs.specs.Pairs.{pairFails, framesOf, allFrames, pairInconsistent, pairNotes}
 use Rattle.pairs.specs.Laws.{length-notes, no-failed-crc}
 use Rattle.judging.specs.Judging.{noteBy, notes, badPairs}
 use Rattle.replacing.specs.Replacing.{runStart, leading, sourceBy, source, replaced}
 use Rattle.replacing.specs.Speech.{lastNonzero, speechOf, endOf}
-use Rattle.reader.specs.Reading.{answerNumber, answerValues, summary, indexPart, reportPart, Outcome, outcome, finished, reading}
+use Rattle.reader.specs.Reading.{answerNumber, answerValues, summary, indexPart, reportPart, Outcome, outcome, finished, reading, receivedFrames, receivedNotes}
 use Rattle.reader.specs.ReadingLaws.{Usable, Fitting, Accepted, accepting}
 use Rattle.reader.specs.declared.Verdict.{Verdict}
 use Rattle.reader.specs.declared.Answer.the-variants.{Read}
@@ -172,14 +173,14 @@ is-usable = record {
 }
 
 module _ (s ps : List ℕ) (cut : cutting s ≡ record { places = ps; ending = whole }) (some : length ps ≡ 0 → ⊥) (settles : settling (readings s ps) ≡ S.Settled settled)
-    (codebook thresholds : List ℤ) (sc : length codebook ≡ 1280) (st : length thresholds ≡ 14) (ns : List ℕ) (judged : pairNotes s ps codebook thresholds ≡ ns)
+    (codebook thresholds : List ℤ) (sc : length codebook ≡ 1280) (st : length thresholds ≡ 14) (ns : List ℕ) (judged : receivedNotes s ps codebook thresholds ≡ ns)
     (good : badPairs ns ≡ pairCount ps → ⊥) (index report : List ℕ) (hi : indexOctets * length ps ≤ length index) (hr : reportOctets * length ps ≤ length report) where
   is-read : reading s codebook thresholds index report
       ≡ outcome (Read (summary s ps ns settled)) (over index 0 (indexOctets * length ps) (indexPart s ps ns)) (over report 0 (reportOctets * length ps) (reportPart s ps ns settled))
   unfolding reading
   is-read =
       let pl : cutting s .places ≡ ps = ap (λ (w : Cutting). w .places) cut in
-      let fit : Fitting (length ps) (badPairs (pairNotes s ps codebook thresholds)) (pairCount ps) (length index) (length report) (settling (readings s ps)) settled =
+      let fit : Fitting (length ps) (badPairs (receivedNotes s ps codebook thresholds)) (pairCount ps) (length index) (length report) (settling (readings s ps)) settled =
       record {
         settles = settles;
         usable = is-usable;
@@ -192,7 +193,7 @@ module _ (s ps : List ℕ) (cut : cutting s ≡ record { places = ps; ending = w
         uncut = ap (λ (w : Cutting). w .ending) cut;
         some = λ e. some (ap length (sym pl) ∙ e);
         fitting = subst
-            (λ (q : List ℕ). Fitting (length q) (badPairs (pairNotes s q codebook thresholds)) (pairCount q) (length index) (length report) (settling (readings s q)) settled)
+            (λ (q : List ℕ). Fitting (length q) (badPairs (receivedNotes s q codebook thresholds)) (pairCount q) (length index) (length report) (settling (readings s q)) settled)
             (sym pl) fit;
       } in
       ap₂ (λ (q : List ℕ) (v : Verdict). finished s codebook thresholds index report q v) pl
@@ -277,29 +278,29 @@ cut-hurt = refl
 abbrev pairsIn : List ℕ → List ℕ
 pairsIn report = part 1 12 report ++ part 14 12 report
 
-fails-hurt : each (pairFails hurt places) 24 ≡ each (λ q. eqb (getD (pairsIn plainNotes) q 0) 1) 24
+fails-hurt : each (pairFails (received hurt places)) 24 ≡ each (λ q. eqb (getD (pairsIn plainNotes) q 0) 1) 24
 unfolding pairFails fields field right alike crc after xor
 fails-hurt = refl
 
-frames-hurt : allFrames hurt places ≡ came
+frames-hurt : receivedFrames hurt places ≡ came
 unfolding allFrames framesOf apart numbers value fields field total
 frames-hurt = refl
 
-odd-hurt : each (pairOdd hurt places book limits) 24
+odd-hurt : each (pairInconsistent (received hurt places) book limits) 24
     ≡ false ∷ true ∷ false ∷ true ∷ false ∷ false ∷ false ∷ false ∷ false ∷ false ∷ true ∷ true ∷ false ∷ true ∷ replicate 10 false
-unfolding pairOdd framesOf apart numbers value fields field total inconsistent flags flagged
+unfolding pairInconsistent framesOf apart numbers value fields field total inconsistent flags flagged
 odd-hurt = refl
 
-odd-plain : each (pairOdd hurt places zeroBook zeroThresholds) 24 ≡ replicate 24 false
-unfolding pairOdd
+odd-plain : each (pairInconsistent (received hurt places) zeroBook zeroThresholds) 24 ≡ replicate 24 false
+unfolding pairInconsistent
 odd-plain =
-    same-each (pairOdd hurt places zeroBook zeroThresholds) (λ q. false) 24 (λ q h. zero-consistent (take 7 (framesOf hurt places q)) (drop 7 (framesOf hurt places q)))
+    same-each (pairInconsistent (received hurt places) zeroBook zeroThresholds) (λ q. false) 24 (λ q h. zero-consistent (take 7 (framesOf (received hurt places) q)) (drop 7 (framesOf (received hurt places) q)))
 
-judged-hurt : pairNotes hurt places book limits ≡ pairsIn hurtNotes
+judged-hurt : receivedNotes hurt places book limits ≡ pairsIn hurtNotes
 unfolding pairNotes noteBy
 judged-hurt = ap₂ notes fails-hurt odd-hurt
 
-judged-plain : pairNotes hurt places zeroBook zeroThresholds ≡ pairsIn plainNotes
+judged-plain : receivedNotes hurt places zeroBook zeroThresholds ≡ pairsIn plainNotes
 unfolding pairNotes noteBy
 judged-plain = ap₂ notes fails-hurt odd-plain
 
@@ -349,11 +350,11 @@ cut-strange : cutting strange ≡ record { places = row; ending = whole }
 unfolding walk pieceBy syncMet lastMet
 cut-strange = refl
 
-fails-strange : each (pairFails strange row) 60 ≡ replicate 60 false
+fails-strange : each (pairFails (received strange row)) 60 ≡ replicate 60 false
 unfolding pairFails fields field right alike crc after xor
 fails-strange = refl
 
-frames-strange : allFrames strange row ≡ replicate 840 0
+frames-strange : receivedFrames strange row ≡ replicate 840 0
 unfolding allFrames framesOf apart numbers value fields field total
 frames-strange = refl
 
@@ -362,12 +363,12 @@ unfolding replaced source
 put-strange = refl
 
 -- where no CRC fails no pair is bad, whatever the tables
-judged-strange : (codebook thresholds : List ℤ) → pairNotes strange row codebook thresholds ≡ replicate 60 0
+judged-strange : (codebook thresholds : List ℤ) → receivedNotes strange row codebook thresholds ≡ replicate 60 0
 judged-strange codebook thresholds =
-    let size = length-notes strange row codebook thresholds in
-    let right : (q : ℕ) → q < 60 → pairFails strange row q ≡ false =
-    λ q h. sym (each-at (pairFails strange row) 60 q false h) ∙ ap (λ (l : List Bool). getD l q false) fails-strange ∙ getD-replicate 60 q false false h in
-    zeros (pairNotes strange row codebook thresholds) (λ q h. no-failed-crc strange row codebook thresholds right q (omega arith)) ∙ ap (λ (n : ℕ). replicate n 0) size
+    let size = length-notes (received strange row) (pairCount row) codebook thresholds in
+    let right : (q : ℕ) → q < 60 → pairFails (received strange row) q ≡ false =
+    λ q h. sym (each-at (pairFails (received strange row)) 60 q false h) ∙ ap (λ (l : List Bool). getD l q false) fails-strange ∙ getD-replicate 60 q false false h in
+    zeros (receivedNotes strange row codebook thresholds) (λ q h. no-failed-crc (received strange row) (pairCount row) codebook thresholds right q (omega arith)) ∙ ap (λ (n : ℕ). replicate n 0) size
 
 abbrev strangeHeads : List Header
 strangeHeads =

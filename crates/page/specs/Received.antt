@@ -33,11 +33,12 @@ use Rattle.cutting.specs.declared.Piece.the-variants.{Multiframe}
 use Rattle.cutting.specs.Laws.{multiframe-met, at-place, every-length}
 use Rattle.settling.specs.Settling.{readings, firstAgreeing, onlyOne, settling}
 use Rattle.settling.specs.Laws.{only-clean, only-mended, all-agree}
+use Rattle.carrier.specs.Carrier.{received, pairCount}
 use Rattle.settling.specs.declared.Settlement.{Settlement}
 use Rattle.settling.specs.declared.Settlement.the-variants as S
-use Rattle.pairs.specs.Pairs.{pairCount, pairFails, pairOdd, pairNotes}
+use Rattle.pairs.specs.Pairs.{pairFails, pairNotes, pairInconsistent}
 use Rattle.judging.specs.Judging.{noteBy, notes, badPairs}
-use Rattle.reader.specs.Reading.{answerNumber, answerValues, roomVerdict, settledVerdict, wholeVerdict, Outcome, outcome, finished, reading}
+use Rattle.reader.specs.Reading.{answerNumber, answerValues, roomVerdict, settledVerdict, wholeVerdict, Outcome, outcome, finished, reading, receivedNotes}
 use Rattle.reader.specs.ReadingLaws.{Usable}
 use Rattle.reader.specs.Steps.{wrong-codebook, wrong-thresholds, not-cut, whole-reading}
 use Rattle.refusals.specs.Refusals.{readingNumber, readingPlace}
@@ -250,11 +251,11 @@ module _ (s ps : List ℕ) (cut : cutting s ≡ record { places = ps; ending = w
     next : (codebook thresholds : List ℤ) → length codebook ≡ 1280 → length thresholds ≡ 14 → (index report : List ℕ)
         → reading s codebook thresholds index report
         ≡ finished s codebook thresholds index report ps
-        (settledVerdict (length ps) (badPairs (pairNotes s ps codebook thresholds)) (pairCount ps) (length index) (length report) x)
+        (settledVerdict (length ps) (badPairs (receivedNotes s ps codebook thresholds)) (pairCount ps) (length index) (length report) x)
     unfolding wholeVerdict
     next codebook thresholds sc st index report =
         sym (whole-reading s codebook thresholds index report sc st
-        (finished s codebook thresholds index report ps (settledVerdict (length ps) (badPairs (pairNotes s ps codebook thresholds)) (pairCount ps) (length index) (length report) x)) ps
+        (finished s codebook thresholds index report ps (settledVerdict (length ps) (badPairs (receivedNotes s ps codebook thresholds)) (pairCount ps) (length index) (length report) x)) ps
         (ap (λ (w : Cutting). w .ending) cut) (sym (ap (λ (w : Cutting). w .places) cut)) (rw (ne-eqb (length ps) 0 some, settles)))
 
   module _ (some : length ps ≡ 0 → ⊥) where
@@ -295,7 +296,7 @@ module _ (s ps : List ℕ) (cut : cutting s ≡ record { places = ps; ending = w
             ))
 
         is-20 : indexOctets * length ps ≤ i → reportOctets * length ps ≤ r
-            → ((codebook thresholds : List ℤ) → badPairs (pairNotes s ps codebook thresholds) ≡ pairCount ps) → Sized s i r 20 0
+            → ((codebook thresholds : List ℤ) → badPairs (receivedNotes s ps codebook thresholds) ≡ pairCount ps) → Sized s i r 20 0
         unfolding settledVerdict roomVerdict
         is-20 hi hr bad codebook thresholds sc st index report li lr =
             refuses s codebook thresholds index report AllBad
@@ -305,7 +306,7 @@ module _ (s ps : List ℕ) (cut : cutting s ≡ record { places = ps; ending = w
               eq-eqb (expOf c) 0 (u .exp),
               le-ltb (length index) (indexOctets * length ps) (omega arith),
               le-ltb (length report) (reportOctets * length ps) (omega arith),
-              eq-eqb (badPairs (pairNotes s ps codebook thresholds)) (pairCount ps) (bad codebook thresholds),
+              eq-eqb (badPairs (receivedNotes s ps codebook thresholds)) (pairCount ps) (bad codebook thresholds),
             ))
 
 -- ---- the headers, by the laws of their code: it is shut here
@@ -393,13 +394,13 @@ head-bad = refl
 settles-bad : settling (readings allBad (0 ∷ [])) ≡ S.Settled (commonBits 8)
 settles-bad = ap settling (head-bad ∙ ap (λ (h : Header). h ∷ []) (read-1 .0)) ∙ only-clean (H.decodedAs 0xEE0E0008 8) (read-1 .1)
 
-fails-bad : each (pairFails allBad (0 ∷ [])) 12 ≡ replicate 12 true
+fails-bad : each (pairFails (received allBad (0 ∷ []))) 12 ≡ replicate 12 true
 unfolding pairFails fields field right alike crc after xor
 fails-bad = refl
 
-bad-bad : (codebook thresholds : List ℤ) → badPairs (pairNotes allBad (0 ∷ []) codebook thresholds) ≡ 12
+bad-bad : (codebook thresholds : List ℤ) → badPairs (receivedNotes allBad (0 ∷ []) codebook thresholds) ≡ 12
 unfolding pairNotes noteBy
-bad-bad codebook thresholds = ap (λ (l : List Bool). badPairs (notes l (each (pairOdd allBad (0 ∷ []) codebook thresholds) 12))) fails-bad
+bad-bad codebook thresholds = ap (λ (l : List Bool). badPairs (notes l (each (pairInconsistent (received allBad (0 ∷ [])) codebook thresholds) 12))) fails-bad
 
 -- ---- behind n multiframes alike
 module _ (f : List ℕ) (size : length f ≡ multiframeOctets) where

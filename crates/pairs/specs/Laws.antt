@@ -6,60 +6,60 @@ use mathlib.Core.List.{List, [], _∷_, _++_, append-nil}
 use mathlib.Core.Bool.{Bool, true, false, not}
 use lib.IntN.{ℤ}
 use lib.ListN.{length, getD, set, take, drop, length-append, length-drop, length-take, length-set, List·getD-eq-default}
-use lib.Seq.{drop-length, drop-cons, take-suc, take-all, take-at, drop-at}
+use lib.Seq.{drop-length, drop-cons, take-suc, take-all, take-at, drop-at, ext-getD}
 use native.Mathlib.Decide.{decLt}
 use native.Mathlib.Numerals.{add-one}
 use native.Mathlib.Omega.{arith}
 use Rattle.lists.specs.Tests.{when}
-use Rattle.lists.specs.Parts.{part, length-part, over, over-none, set-over, behind, over-behind}
-use Rattle.lists.specs.Rows.{each, joined, length-each, each-at, length-joined, joined-part, each-more, joined-more}
-use Rattle.layout.specs.Layout.{widths, frameIndices, pairFrames, dataBits, packetBits, streamOctets, multiframeOf, packetStart}
+use Rattle.lists.specs.Parts.{part, over, over-none, set-over, behind, over-behind}
+use Rattle.lists.specs.Rows.{each, joined, length-each, each-at, length-joined, joined-part, same-each, same-joined, each-add, joined-add}
+use Rattle.layout.specs.Layout.{widths, frameIndices, pairFrames, dataBits, packetBits, multiframePairs, indexOctets, multiframeOf, firstPair, packetStart}
 use Rattle.cutting.specs.Laws.{Placed}
+use Rattle.carrier.specs.Carrier.{streamAt, streamPacket, inPlaces, received, pairCount}
+use Rattle.carrier.specs.Laws.{length-stream, packet-inside, packet-of}
 use Rattle.crc.specs.Crc.{right}
 use Rattle.bits.specs.Bits.{bits, numbers, total, Fits}
 use Rattle.bits.specs.Laws.{fits-numbers, length-numbers}
 use Rattle.packet.specs.Packet.{apart}
 use Rattle.consistency.specs.Consistency.{inconsistent, InRange}
-use Rattle.judging.specs.Judging.{bad, noteBy, undecidedBy, notesFrom, notes}
-use Rattle.judging.specs.Laws.{notes-length, no-failed-no-bad, only-undecided, notes-step}
-use Rattle.pairs.specs.Pairs.{streamAt, packetAt, pairCount, pairFails, framesOf, allFrames, pairOdd, pairNotes}
+use Rattle.judging.specs.Judging.{bad, noteBy, undecidedBy, notesFrom, notes, badPairs}
+use Rattle.judging.specs.Laws.{notes-length, no-failed-no-bad, only-undecided, notes-step, none-bad}
+use Rattle.pairs.specs.Pairs.{pairFails, framesOf, allFrames, crcNote, crcNotes, pairInconsistent, pairNotes}
 
 -- ---- sizes
-pub length-frames : (octets places : List ℕ) (q : ℕ) → length (framesOf octets places q) ≡ pairFrames * frameIndices
+pub length-frames : (packets : ℕ → List Bool) (q : ℕ) → length (framesOf packets q) ≡ pairFrames * frameIndices
 unfolding framesOf apart
-length-frames octets places q =
-    let p = packetAt octets places q in
+length-frames packets q =
+    let p = packets q in
     rw (length-append, length-numbers widths p, length-numbers widths (drop (total widths) p))
 
-module _ (octets places : List ℕ) where
+module _ (packets : ℕ → List Bool) (n : ℕ) where
   -- fourteen octets for each pair
-  pub length-all : length (allFrames octets places) ≡ pairFrames * frameIndices * pairCount places
+  pub length-all : length (allFrames packets n) ≡ pairFrames * frameIndices * n
   unfolding allFrames
-  length-all = length-joined (framesOf octets places) (pairFrames * frameIndices) (pairCount places) (λ k h. length-frames octets places k)
+  length-all = length-joined (framesOf packets) (pairFrames * frameIndices) n (λ k h. length-frames packets k)
 
   -- pair q's frames stand at their place
-  pub frames-at : (q : ℕ) → q < pairCount places → part (pairFrames * frameIndices * q) (pairFrames * frameIndices) (allFrames octets places) ≡ framesOf octets places q
+  pub frames-at : (q : ℕ) → q < n → part (pairFrames * frameIndices * q) (pairFrames * frameIndices) (allFrames packets n) ≡ framesOf packets q
   unfolding allFrames
-  frames-at q h = joined-part (framesOf octets places) (pairFrames * frameIndices) (pairCount places) q (λ k i. length-frames octets places k) h
+  frames-at q h = joined-part (framesOf packets) (pairFrames * frameIndices) n q (λ k i. length-frames packets k) h
 
   module _ (codebook thresholds : List ℤ) where
     -- a note for each pair
-    pub length-notes : length (pairNotes octets places codebook thresholds) ≡ pairCount places
+    pub length-notes : length (pairNotes packets n codebook thresholds) ≡ n
     unfolding pairNotes
     length-notes =
-        let n = pairCount places in
-        notes-length false (each (pairFails octets places) n) (each (pairOdd octets places codebook thresholds) n) ∙ length-each (pairFails octets places) n
+        notes-length false (each (pairFails packets) n) (each (pairInconsistent packets codebook thresholds) n) ∙ length-each (pairFails packets) n
 
-    -- an image with no failed CRC has no bad pair
-    pub no-failed-crc : ((q : ℕ) → q < pairCount places → pairFails octets places q ≡ false)
-        → (q : ℕ) → q < pairCount places → getD (pairNotes octets places codebook thresholds) q 0 ≡ 0
+    -- where no CRC failed no pair is bad
+    pub no-failed-crc : ((q : ℕ) → q < n → pairFails packets q ≡ false)
+        → (q : ℕ) → q < n → getD (pairNotes packets n codebook thresholds) q 0 ≡ 0
     unfolding pairNotes
     no-failed-crc ok q h =
-        let n = pairCount places in
-        let fs = each (pairFails octets places) n in
-        let size = length-each (pairFails octets places) n in
-        no-failed-no-bad fs (each (pairOdd octets places codebook thresholds) n) (λ k. elim (decLt k n) [
-          | yes y ↦ each-at (pairFails octets places) n k false y ∙ ok k y
+        let fs = each (pairFails packets) n in
+        let size = length-each (pairFails packets) n in
+        no-failed-no-bad fs (each (pairInconsistent packets codebook thresholds) n) (λ k. elim (decLt k n) [
+          | yes y ↦ each-at (pairFails packets) n k false y ∙ ok k y
           | no y ↦ List·getD-eq-default fs false (omega (arith, size))
         ]) q (omega (arith, size))
 
@@ -83,107 +83,90 @@ over-all {A} l f n e =
     let z : 0 + n ≡ length l = omega arith in
     ap (λ (x : List A). f ++ x) (ap (λ (k : ℕ). drop k l) z ∙ drop-length l) ∙ append-nil f
 
-module _ (octets places : List ℕ) (q : ℕ) where
+module _ (packets : ℕ → List Bool) (q : ℕ) where
   -- the two frames, each seven indices in range
-  pub first-range : InRange (part 0 frameIndices (framesOf octets places q))
+  pub first-range : InRange (part 0 frameIndices (framesOf packets q))
   unfolding framesOf apart
   first-range =
-      let p = packetAt octets places q in
+      let p = packets q in
       subst InRange (sym (take-at (numbers widths p) (numbers widths (drop (total widths) p)) frameIndices (length-numbers widths p))) (in-range p)
 
-  second-is : part frameIndices frameIndices (framesOf octets places q) ≡ drop frameIndices (framesOf octets places q)
+  second-is : part frameIndices frameIndices (framesOf packets q) ≡ drop frameIndices (framesOf packets q)
   second-is =
-      let f = framesOf octets places q in
-      take-all frameIndices (drop frameIndices f) (rw (length-drop, length-frames octets places q) (omega arith))
+      let f = framesOf packets q in
+      take-all frameIndices (drop frameIndices f) (rw (length-drop, length-frames packets q) (omega arith))
 
-  pub second-range : InRange (part frameIndices frameIndices (framesOf octets places q))
+  pub second-range : InRange (part frameIndices frameIndices (framesOf packets q))
   unfolding framesOf apart
   second-range =
-      let p = packetAt octets places q in
+      let p = packets q in
       subst InRange (sym (second-is ∙ drop-at (numbers widths p) (numbers widths (drop (total widths) p)) frameIndices (length-numbers widths p)))
       (in-range (drop (total widths) p))
 
   -- what the code finds in fourteen octets of its own
-  module _ (l : List ℕ) (e : l ≡ framesOf octets places q) (codebook thresholds : List ℤ) where
+  module _ (l : List ℕ) (e : l ≡ framesOf packets q) (codebook thresholds : List ℤ) where
     pub ranges : InRange (part 0 frameIndices l) × InRange (part frameIndices frameIndices l)
     ranges = (subst (λ (x : List ℕ). InRange (part 0 frameIndices x)) (sym e) first-range, subst (λ (x : List ℕ). InRange (part frameIndices frameIndices x)) (sym e) second-range)
 
-    pub odd-is : inconsistent codebook thresholds (part 0 frameIndices l) (part frameIndices frameIndices l) ≡ pairOdd octets places codebook thresholds q
-    unfolding pairOdd
-    odd-is =
+    pub inconsistent-is : inconsistent codebook thresholds (part 0 frameIndices l) (part frameIndices frameIndices l) ≡ pairInconsistent packets codebook thresholds q
+    unfolding pairInconsistent
+    inconsistent-is =
         ap (λ (x : List ℕ). inconsistent codebook thresholds (part 0 frameIndices x) (part frameIndices frameIndices x)) e
-        ∙ ap (inconsistent codebook thresholds (take frameIndices (framesOf octets places q))) second-is
-
--- ---- one pair more is laid behind the others
-pub laid-on : (octets places l m n : List ℕ) (q : ℕ) → pairFrames * frameIndices * q + pairFrames * frameIndices ≤ length l
-    → m ≡ over l 0 (pairFrames * frameIndices * q) (joined (framesOf octets places) q)
-    → n ≡ over m (pairFrames * frameIndices * q) (pairFrames * frameIndices) (framesOf octets places q)
-    → n ≡ over l 0 (pairFrames * frameIndices * (q + 1)) (joined (framesOf octets places) (q + 1))
-laid-on octets places l m n q room em en = joined-more l m q (framesOf octets places) (pairFrames * frameIndices) n (λ k h. length-frames octets places k) room em en
+        ∙ ap (inconsistent codebook thresholds (take frameIndices (framesOf packets q))) second-is
 
 -- ---- the CRC's note of each pair, before judging
-abbrev pub crcNote : Bool → ℕ
-crcNote fails = noteBy false fails false false
-
 pub crc-note-bad : (fails : Bool) → bad (crcNote fails) ≡ fails
 unfolding noteBy
 crc-note-bad true = refl
 crc-note-bad false = refl
 
-abbrev pub crcNotes : List ℕ → List ℕ → ℕ → List ℕ
-crcNotes octets places n = each (λ q. crcNote (pairFails octets places q)) n
-
-pub length-crcs : (octets places : List ℕ) (n : ℕ) → length (crcNotes octets places n) ≡ n
-length-crcs octets places n = length-each (λ q. crcNote (pairFails octets places q)) n
+pub length-crcs : (packets : ℕ → List Bool) (n : ℕ) → length (crcNotes packets n) ≡ n
+length-crcs packets n = length-each (λ q. crcNote (pairFails packets q)) n
 
 -- whether pair q failed, of n
-pub crc-bad : (octets places : List ℕ) (n q : ℕ) → bad (getD (crcNotes octets places n) q 0) ≡ getD (each (pairFails octets places) n) q false
-crc-bad octets places n q =
+pub crc-bad : (packets : ℕ → List Bool) (n q : ℕ) → bad (getD (crcNotes packets n) q 0) ≡ getD (each (pairFails packets) n) q false
+crc-bad packets n q =
     elim (decLt q n) [
-      | yes y ↦ ap bad (each-at (λ q. crcNote (pairFails octets places q)) n q 0 y) ∙ crc-note-bad (pairFails octets places q) ∙ sym (each-at (pairFails octets places) n q false y)
+      | yes y ↦ ap bad (each-at (λ q. crcNote (pairFails packets q)) n q 0 y) ∙ crc-note-bad (pairFails packets q) ∙ sym (each-at (pairFails packets) n q false y)
       | no y ↦
-          ap bad (List·getD-eq-default (crcNotes octets places n) 0 (omega (arith, length-crcs octets places n)))
-          ∙ sym (List·getD-eq-default (each (pairFails octets places) n) false (omega (arith, length-each (pairFails octets places) n)))
+          ap bad (List·getD-eq-default (crcNotes packets n) 0 (omega (arith, length-crcs packets n)))
+          ∙ sym (List·getD-eq-default (each (pairFails packets) n) false (omega (arith, length-each (pairFails packets) n)))
     ]
 
-pub noted-on : (octets places l m : List ℕ) (q x : ℕ) → q < length l → x ≡ crcNote (pairFails octets places q) → length m ≡ length l
-    → m ≡ over l 0 q (crcNotes octets places q) → set m q x ≡ over l 0 (q + 1) (crcNotes octets places (q + 1))
-noted-on octets places l m q x h e size em = each-more l m q (λ q. crcNote (pairFails octets places q)) x h e size em
-
 -- ---- judging: the first q notes are those of all pairs, the others still those of the CRC
-pub record Judged (octets places : List ℕ) (codebook thresholds : List ℤ) (n : ℕ) (m : List ℕ) (before : Bool) (q : ℕ) : Type 0 where
+pub record Judged (packets : ℕ → List Bool) (codebook thresholds : List ℤ) (n : ℕ) (m : List ℕ) (before : Bool) (q : ℕ) : Type 0 where
   pub within : q ≤ n
   pub size : length m ≡ n
-  pub now : m ≡ over (crcNotes octets places n) 0 q (take q (notes (each (pairFails octets places) n) (each (pairOdd octets places codebook thresholds) n)))
-  pub ahead : drop q (notes (each (pairFails octets places) n) (each (pairOdd octets places codebook thresholds) n))
-      ≡ notesFrom before (drop q (each (pairFails octets places) n)) (drop q (each (pairOdd octets places codebook thresholds) n))
+  pub now : m ≡ over (crcNotes packets n) 0 q (take q (notes (each (pairFails packets) n) (each (pairInconsistent packets codebook thresholds) n)))
+  pub ahead : drop q (notes (each (pairFails packets) n) (each (pairInconsistent packets codebook thresholds) n))
+      ≡ notesFrom before (drop q (each (pairFails packets) n)) (drop q (each (pairInconsistent packets codebook thresholds) n))
 
-module _ (octets places : List ℕ) (codebook thresholds : List ℤ) (n : ℕ) where
+module _ (packets : ℕ → List Bool) (codebook thresholds : List ℤ) (n : ℕ) where
   abbrev fs : List Bool
-  fs = each (pairFails octets places) n
+  fs = each (pairFails packets) n
 
   abbrev os : List Bool
-  os = each (pairOdd octets places codebook thresholds) n
+  os = each (pairInconsistent packets codebook thresholds) n
 
   abbrev cs : List ℕ
-  cs = crcNotes octets places n
+  cs = crcNotes packets n
 
   abbrev ns : List ℕ
   ns = notes fs os
 
   size-cs : length cs ≡ n
-  size-cs = length-crcs octets places n
+  size-cs = length-crcs packets n
 
   size-fs : length fs ≡ n
-  size-fs = length-each (pairFails octets places) n
+  size-fs = length-each (pairFails packets) n
 
   size-ns : length ns ≡ n
   size-ns = notes-length false fs os ∙ size-fs
 
-  pub judging-begun : (m : List ℕ) → m ≡ cs → Judged octets places codebook thresholds n m false 0
+  pub judging-begun : (m : List ℕ) → m ≡ cs → Judged packets codebook thresholds n m false 0
   judging-begun m e = record { within = omega arith; size = ap length e ∙ size-cs; now = e ∙ over-none cs 0; ahead = refl }
 
-  module _ (m : List ℕ) (before : Bool) (q : ℕ) (j : Judged octets places codebook thresholds n m before q) where
+  module _ (m : List ℕ) (before : Bool) (q : ℕ) (j : Judged packets codebook thresholds n m before q) where
     size-front : length (take q ns) ≡ q
     size-front = rw length-take (omega (arith, size-ns, j .within))
 
@@ -191,10 +174,10 @@ module _ (octets places : List ℕ) (codebook thresholds : List ℤ) (n : ℕ) w
     pub still : (i : ℕ) → q ≤ i → bad (getD m i 0) ≡ getD fs i false
     still i h =
         ap (λ (l : List ℕ). bad (getD l i 0)) (j .now)
-        ∙ ap bad (over-behind cs (take q ns) 0 q (omega (arith, size-cs, j .within)) size-front i 0 (omega arith)) ∙ crc-bad octets places n i
+        ∙ ap bad (over-behind cs (take q ns) 0 q (omega (arith, size-cs, j .within)) size-front i 0 (omega arith)) ∙ crc-bad packets n i
 
-    module _ (less : q < n) (fails odd after : Bool) (x : ℕ) (ef : fails ≡ bad (getD m q 0)) (ea : after ≡ bad (getD m (q + 1) 0))
-        (eo : odd ≡ when (undecidedBy before fails after) (pairOdd octets places codebook thresholds q) false) (ex : x ≡ noteBy before fails odd after) where
+    module _ (less : q < n) (fails differ after : Bool) (x : ℕ) (ef : fails ≡ bad (getD m q 0)) (ea : after ≡ bad (getD m (q + 1) 0))
+        (eo : differ ≡ when (undecidedBy before fails after) (pairInconsistent packets codebook thresholds q) false) (ex : x ≡ noteBy before fails differ after) where
       own : fails ≡ getD fs q false
       own = ef ∙ still q (omega arith)
 
@@ -207,8 +190,8 @@ module _ (octets places : List ℕ) (codebook thresholds : List ℤ) (n : ℕ) w
       x-is : x ≡ y
       unfolding y
       x-is =
-          let o : pairOdd octets places codebook thresholds q ≡ getD os q false = sym (each-at (pairOdd octets places codebook thresholds) n q false less) in
-          ex ∙ ap (λ (t : Bool). noteBy before fails t after) eo ∙ sym (only-undecided before fails (pairOdd octets places codebook thresholds q) after)
+          let o : pairInconsistent packets codebook thresholds q ≡ getD os q false = sym (each-at (pairInconsistent packets codebook thresholds) n q false less) in
+          ex ∙ ap (λ (t : Bool). noteBy before fails t after) eo ∙ sym (only-undecided before fails (pairInconsistent packets codebook thresholds q) after)
           ∙ ap (λ (t : Bool). noteBy before fails t after) o ∙ ap₂ (λ (s t : Bool). noteBy before s (getD os q false) t) own next
 
       rest : drop q ns ≡ y ∷ notesFrom (bad y) (drop (q + 1) fs) (drop (q + 1) os)
@@ -224,7 +207,7 @@ module _ (octets places : List ℕ) (codebook thresholds : List ℤ) (n : ℕ) w
       there : drop (suc q) ns ≡ notesFrom (bad y) (drop (q + 1) fs) (drop (q + 1) os)
       there = let e = sym front ∙ rest in cc
 
-      pub judged-on : Judged octets places codebook thresholds n (set m q x) (bad x) (q + 1)
+      pub judged-on : Judged packets codebook thresholds n (set m q x) (bad x) (q + 1)
       judged-on =
           let z : 0 + q ≡ q = omega arith in
           let s : set m q x ≡ over m (0 + q) 1 (getD ns q 0 ∷ []) =
@@ -237,24 +220,92 @@ module _ (octets places : List ℕ) (codebook thresholds : List ℤ) (n : ℕ) w
             ahead = ap (λ (k : ℕ). drop k ns) (add-one q) ∙ there ∙ ap (λ (k : ℕ). notesFrom (bad k) (drop (q + 1) fs) (drop (q + 1) os)) (sym x-is);
           }
 
-  pub judging-done : (m : List ℕ) (before : Bool) (q : ℕ) → Judged octets places codebook thresholds n m before q → q ≡ n → m ≡ ns
+  pub judging-done : (m : List ℕ) (before : Bool) (q : ℕ) → Judged packets codebook thresholds n m before q → q ≡ n → m ≡ ns
   judging-done m before q j e =
       j .now ∙ ap (λ (k : ℕ). over cs 0 k (take k ns)) e ∙ over-all cs (take n ns) n size-cs ∙ take-all n ns (omega (arith, size-ns))
 
--- ---- what the code finds in the stream that pair q stands in
-module _ (octets places : List ℕ) (q : ℕ) where
-  pub stream-size : Placed octets places → q < pairCount places → (s : List ℕ) → s ≡ streamAt octets places (multiframeOf q) → streamOctets ≤ length s
-  stream-size ok h s e =
-      let k : q / 12 < length places = omega arith in
-      let p = ok (q / 12) k in
-      rw (e, length-part octets (getD places (q / 12) 0 + 2 + 4) 138 (omega arith)) (omega arith)
+-- ---- where no CRC failed the notes of the CRCs are those of the pairs: no pair is judged
+pub none-failed : (packets : ℕ → List Bool) (n : ℕ) (codebook thresholds : List ℤ) → badPairs (crcNotes packets n) ≡ 0
+    → crcNotes packets n ≡ pairNotes packets n codebook thresholds
+none-failed packets n codebook thresholds e =
+    let cs = crcNotes packets n in
+    let size = length-crcs packets n in
+    let passes : (q : ℕ) → q < n → pairFails packets q ≡ false =
+    λ q h. sym (crc-note-bad (pairFails packets q)) ∙ ap bad (sym (each-at (λ q. crcNote (pairFails packets q)) n q 0 h) ∙ none-bad cs e q) in
+    ext-getD 0 cs (pairNotes packets n codebook thresholds) (size ∙ sym (length-notes packets n codebook thresholds))
+    (λ q h. none-bad cs e q ∙ sym (no-failed-crc packets n codebook thresholds passes q (omega (arith, size))))
 
-  module _ (s : List ℕ) (e : s ≡ streamAt octets places (multiframeOf q)) where
-    pub fails-is : (r : Bool) → r ≡ right dataBits (part (packetStart q) packetBits (bits s)) → not r ≡ pairFails octets places q
-    unfolding pairFails
-    fails-is r h = ap not (h ∙ ap (λ (x : List ℕ). right dataBits (part (packetStart q) packetBits (bits x))) e)
+-- ---- multiframe k's twelve packets stand in one stream, of bits s
+module _ (packets : ℕ → List Bool) (s : List Bool) (k : ℕ) (same : (p : ℕ) → p < multiframePairs → packets (firstPair k + p) ≡ streamPacket s p) where
+  notes-of : each (λ p. crcNote (pairFails packets (firstPair k + p))) multiframePairs ≡ crcNotes (streamPacket s) multiframePairs
+  unfolding pairFails
+  notes-of =
+      same-each (λ p. crcNote (pairFails packets (firstPair k + p))) (λ p. crcNote (pairFails (streamPacket s) p)) multiframePairs
+      (λ p h. ap (λ (l : List Bool). crcNote (not (right dataBits l))) (same p h))
 
-    pub put-is : (l m : List ℕ) (to : ℕ) → m ≡ over l to (pairFrames * frameIndices) (apart widths (part (packetStart q) packetBits (bits s)))
-        → m ≡ over l to (pairFrames * frameIndices) (framesOf octets places q)
-    unfolding framesOf
-    put-is l m to h = h ∙ ap (λ (x : List ℕ). over l to (pairFrames * frameIndices) (apart widths (part (packetStart q) packetBits (bits x)))) e
+  frames-of : joined (λ p. framesOf packets (firstPair k + p)) multiframePairs ≡ allFrames (streamPacket s) multiframePairs
+  unfolding framesOf allFrames
+  frames-of =
+      same-joined (λ p. framesOf packets (firstPair k + p)) (framesOf (streamPacket s)) multiframePairs (λ p h. ap (apart widths) (same p h))
+
+  -- the notes of one stream more are laid behind the others
+  pub noted-on : (l m n : List ℕ) → firstPair k + multiframePairs ≤ length l → m ≡ over l 0 (firstPair k) (crcNotes packets (firstPair k))
+      → n ≡ over m (firstPair k) multiframePairs (crcNotes (streamPacket s) multiframePairs)
+      → n ≡ over l 0 (firstPair (k + 1)) (crcNotes packets (firstPair (k + 1)))
+  noted-on l m n room em en =
+      let z : 0 + 12 * k ≡ 12 * k = omega arith in
+      let t : 12 * k + 12 ≡ 12 * (k + 1) = omega arith in
+      behind l 0 (12 * k) 12 (crcNotes packets (12 * k)) (crcNotes (streamPacket s) 12) (omega arith) (length-crcs packets (12 * k)) em
+      (en ∙ ap (λ (i : ℕ). over m i 12 (crcNotes (streamPacket s) 12)) (sym z))
+      ∙ ap (over l 0 (12 * k + 12)) (ap (λ (x : List ℕ). crcNotes packets (12 * k) ++ x) (sym notes-of) ∙ sym (each-add (λ q. crcNote (pairFails packets q)) (12 * k) 12))
+      ∙ ap (λ (i : ℕ). over l 0 i (crcNotes packets i)) t
+
+  -- and its frames
+  pub laid-on : (l m n : List ℕ) → pairFrames * frameIndices * (firstPair k + multiframePairs) ≤ length l
+      → m ≡ over l 0 (pairFrames * frameIndices * firstPair k) (allFrames packets (firstPair k))
+      → n ≡ over m (pairFrames * frameIndices * firstPair k) indexOctets (allFrames (streamPacket s) multiframePairs)
+      → n ≡ over l 0 (pairFrames * frameIndices * firstPair (k + 1)) (allFrames packets (firstPair (k + 1)))
+  unfolding allFrames
+  laid-on l m n room em en =
+      let fs = framesOf packets in
+      let more = joined (framesOf (streamPacket s)) 12 in
+      let z : 0 + 14 * (12 * k) ≡ 14 * (12 * k) = omega arith in
+      let t : 12 * k + 12 ≡ 12 * (k + 1) = omega arith in
+      let u : 14 * (12 * k) + 168 ≡ 14 * (12 * k + 12) = omega arith in
+      behind l 0 (14 * (12 * k)) 168 (joined fs (12 * k)) more (omega arith) (length-all packets (12 * k)) em (en ∙ ap (λ (i : ℕ). over m i 168 more) (sym z))
+      ∙ ap (over l 0 (14 * (12 * k) + 168)) (ap (λ (x : List ℕ). joined fs (12 * k) ++ x) (sym frames-of) ∙ sym (joined-add fs (12 * k) 12))
+      ∙ ap (λ (i : ℕ). over l 0 i (joined fs (12 * k + 12))) u ∙ ap (λ (i : ℕ). over l 0 (14 * i) (joined fs i)) t
+
+-- ---- what the code finds in a packet
+pub fails-is : (packets : ℕ → List Bool) (q : ℕ) (r : Bool) → r ≡ right dataBits (packets q) → not r ≡ pairFails packets q
+unfolding pairFails
+fails-is packets q r e = ap not e
+
+pub put-is : (packets : ℕ → List Bool) (q : ℕ) (l m : List ℕ) (to : ℕ) → m ≡ over l to (pairFrames * frameIndices) (apart widths (packets q))
+    → m ≡ over l to (pairFrames * frameIndices) (framesOf packets q)
+unfolding framesOf
+put-is packets q l m to e = e
+
+-- ---- where pair q's packet stands in octets: in a whole stream
+pub stream-size : (octets places : List ℕ) (q : ℕ) → Placed octets places → q < pairCount places → (s : List ℕ)
+    → s ≡ streamAt octets (inPlaces places) (multiframeOf q) → packetStart q + packetBits ≤ 8 * length s
+stream-size octets places q ok h s e =
+    let size : length s ≡ 138 = ap length e ∙ length-stream octets (getD places (q / 12) 0) (ok (q / 12) (omega arith)) in
+    packet-inside q (length s) (omega arith)
+
+-- ---- one multiframe more: the notes of its stream, and its frames
+module _ (octets places : List ℕ) (k f : ℕ) (ef : f ≡ firstPair k) (s : List ℕ) (es : s ≡ streamAt octets (inPlaces places) k) where
+  pub noted-more : (l m n : List ℕ) → firstPair k + multiframePairs ≤ length l → m ≡ over l 0 (firstPair k) (crcNotes (received octets places) (firstPair k))
+      → n ≡ over m f multiframePairs (crcNotes (streamPacket (bits s)) multiframePairs)
+      → n ≡ over l 0 (firstPair (k + 1)) (crcNotes (received octets places) (firstPair (k + 1)))
+  noted-more l m n room em en =
+      noted-on (received octets places) (bits (streamAt octets (inPlaces places) k)) k (packet-of octets (inPlaces places) k) l m n room em
+      (en ∙ ap₂ (λ (i : ℕ) (x : List ℕ). over m i multiframePairs (crcNotes (streamPacket (bits x)) multiframePairs)) ef es)
+
+  pub laid-more : (l m n : List ℕ) → pairFrames * frameIndices * (firstPair k + multiframePairs) ≤ length l
+      → m ≡ over l 0 (pairFrames * frameIndices * firstPair k) (allFrames (received octets places) (firstPair k))
+      → n ≡ over m (pairFrames * frameIndices * f) indexOctets (allFrames (streamPacket (bits s)) multiframePairs)
+      → n ≡ over l 0 (pairFrames * frameIndices * firstPair (k + 1)) (allFrames (received octets places) (firstPair (k + 1)))
+  laid-more l m n room em en =
+      laid-on (received octets places) (bits (streamAt octets (inPlaces places) k)) k (packet-of octets (inPlaces places) k) l m n room em
+      (en ∙ ap₂ (λ (i : ℕ) (x : List ℕ). over m (pairFrames * frameIndices * i) indexOctets (allFrames (streamPacket (bits x)) multiframePairs)) ef es)

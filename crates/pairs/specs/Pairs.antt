@@ -1,49 +1,42 @@
--- The pairs of received multiframes (01, "Pair packet" and "Bad pairs"): pairs run on through all multiframes, so pair q is packet q mod 12
--- of multiframe q div 12. Places are those of the multiframes in the octets. Pairs and multiframes count from 0.
+-- The rules on pairs (01, "Pair packet" and "Bad pairs"), over the packets of n pairs: `packets q` are the 92 bits of pair q, wherever they
+-- were carried. Pairs count from 0.
 -- Assumes nothing.
-use Prim.Native.Nat.{ℕ, _+_, _*_}
+use Prim.Native.Nat.{ℕ}
 use mathlib.Core.List.{List}
-use mathlib.Core.Bool.{Bool, not}
-use lib.ListN.{length, getD, take, drop}
+use mathlib.Core.Bool.{Bool, false, not}
+use lib.ListN.{take, drop}
 use lib.IntN.{ℤ}
-use Rattle.lists.specs.Parts.{part}
 use Rattle.lists.specs.Rows.{each, joined}
-use Rattle.layout.specs.Layout.{widths, frameIndices, dataBits, packetBits, multiframePairs, syncOctets, headerOctets, streamOctets, multiframeOf, packetStart}
-use Rattle.bits.specs.Bits.{bits}
+use Rattle.layout.specs.Layout.{widths, frameIndices, dataBits}
 use Rattle.crc.specs.Crc.{right}
 use Rattle.packet.specs.Packet.{apart}
 use Rattle.consistency.specs.Consistency.{inconsistent}
-use Rattle.judging.specs.Judging.{notes}
+use Rattle.judging.specs.Judging.{noteBy, notes}
 
--- the feature stream of multiframe k stands behind its sync and header
-abbrev pub streamAt : List ℕ → List ℕ → ℕ → List ℕ
-streamAt octets places k = part (getD places k 0 + syncOctets + headerOctets) streamOctets octets
-
-abbrev pub pairCount : List ℕ → ℕ
-pairCount places = multiframePairs * length places
-
--- the 92 bits of pair q's packet
-abbrev pub packetAt : List ℕ → List ℕ → ℕ → List Bool
-packetAt octets places q = part (packetStart q) packetBits (bits (streamAt octets places (multiframeOf q)))
-
--- its CRC fails
-unfoldable pub pairFails : List ℕ → List ℕ → ℕ → Bool
-pairFails octets places q = not (right dataBits (packetAt octets places q))
+-- pair q's CRC fails
+unfoldable pub pairFails : (ℕ → List Bool) → ℕ → Bool
+pairFails packets q = not (right dataBits (packets q))
 
 -- its two frames, fourteen indices
-unfoldable pub framesOf : List ℕ → List ℕ → ℕ → List ℕ
-framesOf octets places q = apart widths (packetAt octets places q)
+unfoldable pub framesOf : (ℕ → List Bool) → ℕ → List ℕ
+framesOf packets q = apart widths (packets q)
 
 -- all frames in order, before replacing
-unfoldable pub allFrames : List ℕ → List ℕ → List ℕ
-allFrames octets places = joined (framesOf octets places) (pairCount places)
+unfoldable pub allFrames : (ℕ → List Bool) → ℕ → List ℕ
+allFrames packets n = joined (framesOf packets) n
+
+-- the notes of the CRCs alone, before any pair is judged: 0 right, 1 failed
+abbrev pub crcNote : Bool → ℕ
+crcNote fails = noteBy false fails false false
+
+abbrev pub crcNotes : (ℕ → List Bool) → ℕ → List ℕ
+crcNotes packets n = each (λ q. crcNote (pairFails packets q)) n
 
 -- with the quantiser's tables: which pairs are inconsistent
-unfoldable pub pairOdd : List ℕ → List ℕ → List ℤ → List ℤ → ℕ → Bool
-pairOdd octets places codebook thresholds q =
-    inconsistent codebook thresholds (take frameIndices (framesOf octets places q)) (drop frameIndices (framesOf octets places q))
+unfoldable pub pairInconsistent : (ℕ → List Bool) → List ℤ → List ℤ → ℕ → Bool
+pairInconsistent packets codebook thresholds q =
+    inconsistent codebook thresholds (take frameIndices (framesOf packets q)) (drop frameIndices (framesOf packets q))
 
 -- the notes of all pairs: 0 good, 1 CRC failed, 2 bad otherwise
-unfoldable pub pairNotes : List ℕ → List ℕ → List ℤ → List ℤ → List ℕ
-pairNotes octets places codebook thresholds =
-    notes (each (pairFails octets places) (pairCount places)) (each (pairOdd octets places codebook thresholds) (pairCount places))
+unfoldable pub pairNotes : (ℕ → List Bool) → ℕ → List ℤ → List ℤ → List ℕ
+pairNotes packets n codebook thresholds = notes (each (pairFails packets) n) (each (pairInconsistent packets codebook thresholds) n)

@@ -17,13 +17,14 @@ use Rattle.crc.specs.Crc.{right}
 use Rattle.packet.specs.Packet.{packetOf}
 use Rattle.packet.specs.Laws.{packetOf-good}
 use Rattle.cutting.specs.Cutting.{Cutting, cutting}
-use Rattle.pairs.specs.Pairs.{packetAt, pairCount, pairFails, allFrames, pairNotes, framesOf, pairOdd}
+use Rattle.carrier.specs.Carrier.{received, pairCount}
+use Rattle.pairs.specs.Pairs.{pairFails, framesOf, pairInconsistent}
 use Rattle.pairs.specs.Laws.{length-notes, length-all}
 use Rattle.judging.specs.Laws.{Good}
 use Rattle.replacing.specs.Replacing.{replaced}
 use Rattle.replacing.specs.Laws.{good-kept, Run, at-the-end, frame-replaced}
 use Rattle.replacing.specs.Speech.{endOf}
-use Rattle.reader.specs.Reading.{indexPart, reportPart, summary, Outcome, outcome, reading}
+use Rattle.reader.specs.Reading.{indexPart, reportPart, summary, Outcome, outcome, reading, receivedFrames, receivedNotes}
 use Rattle.reader.specs.declared.Summary.{Summary}
 use Rattle.reader.specs.declared.Answer.the-variants.{Read}
 use Rattle.writer.specs.Made.{packetIn}
@@ -57,10 +58,10 @@ module _ (u : Utterance) (s : List ℕ) (d : Damage (multiframesOf u) (imageOf u
   rows = F.rows u s d k within
 
   abbrev ns : List ℕ
-  ns = pairNotes came (rowOf k) codebook thresholds
+  ns = receivedNotes came (rowOf k) codebook thresholds
 
   size : length ns ≡ pairCount (rowOf k)
-  size = length-notes came (rowOf k) codebook thresholds
+  size = length-notes (received came (rowOf k)) (pairCount (rowOf k)) codebook thresholds
 
   some : 0 < k
   some = by k (λ z. w .reader-accepts .some (ap length cut ∙ rows ∙ z))
@@ -79,10 +80,10 @@ module _ (u : Utterance) (s : List ℕ) (d : Damage (multiframesOf u) (imageOf u
 
   last-note : getD ns q 0 ≡ 0
   last-note =
-      ap (λ (l : List ℕ). getD (pairNotes came l codebook thresholds) q 0) (sym cut)
+      ap (λ (l : List ℕ). getD (receivedNotes came l codebook thresholds) q 0) (sym cut)
       ∙ sym (ap (λ (o : Outcome). pairNoteIn (o .report) q) (w .result-is)
-      ∙ pair-note-is came (cutting came .places) (pairNotes came (cutting came .places) codebook thresholds) report (w .common) (reportOctets * length (cutting came .places))
-      (length-notes came (cutting came .places) codebook thresholds) q (omega (arith, ap length cut, rows, in-first)))
+      ∙ pair-note-is came (cutting came .places) (receivedNotes came (cutting came .places) codebook thresholds) report (w .common) (reportOctets * length (cutting came .places))
+      (length-notes (received came (cutting came .places)) (pairCount (cutting came .places)) codebook thresholds) q (omega (arith, ap length cut, rows, in-first)))
       ∙ note
 
   -- so it is not damaged
@@ -93,7 +94,7 @@ module _ (u : Utterance) (s : List ℕ) (d : Damage (multiframesOf u) (imageOf u
       passed : right dataBits (packetIn s q) ≡ true
       passed =
           ap (right dataBits) (sym (F.packet-first u s d k within q in-first))
-          ∙ not-false (right dataBits (packetAt came (rowOf k) q)) (F.zero-passed came (rowOf k) codebook thresholds q (omega (arith, rows, in-first)) last-note)
+          ∙ not-false (right dataBits (received came (rowOf k) q)) (F.zero-passed came (rowOf k) codebook thresholds q (omega (arith, rows, in-first)) last-note)
 
       by : Fate u s d q in-image → packetIn s q ≡ packetOf (u .indices) q
       by (whole x r) = x
@@ -101,18 +102,18 @@ module _ (u : Utterance) (s : List ℕ) (d : Damage (multiframesOf u) (imageOf u
 
   speaks : zeroFrame (indexPart came (rowOf k) ns) (24 * k - 1) ≡ false
   speaks =
-      let all = allFrames came (rowOf k) in
+      let all = receivedFrames came (rowOf k) in
       let some : 0 < k = some in
       let p : (24 * k - 1) / 2 ≡ q = omega arith in
       F.frame-speaks (u .indices) (replaced ns all) (24 * k - 1) (F.border-speaks u k some less)
-      (good-kept ns (record { pair = q; within = omega (arith, size, rows); good = last-note }) all (24 * k - 1) (omega (arith, size, length-all came (rowOf k)))
+      (good-kept ns (record { pair = q; within = omega (arith, size, rows); good = last-note }) all (24 * k - 1) (omega (arith, size, length-all (received came (rowOf k)) (pairCount (rowOf k))))
       (omega (arith, size, rows)) (ap (λ (i : ℕ). getD ns i 0) p ∙ last-note)
       ∙ F.frame-first u s d k within (24 * k - 1) (omega arith) (subst (λ (i : ℕ). packetIn s i ≡ packetOf (u .indices) i) (sym p) last-sent))
 
   ends : given .end ≡ 0
   ends =
       ap (λ (g : Summary). g .end) (w .given-is)
-      ∙ ap (λ (l : List ℕ). endOf (length l) (indexPart came l (pairNotes came l codebook thresholds))) cut ∙ ap (λ (n : ℕ). endOf n (indexPart came (rowOf k) ns)) rows
+      ∙ ap (λ (l : List ℕ). endOf (length l) (indexPart came l (receivedNotes came l codebook thresholds))) cut ∙ ap (λ (n : ℕ). endOf n (indexPart came (rowOf k) ns)) rows
       ∙ rw speaks
 
 -- THE LAST PAIR'S NOTE DECIDES: if the first k multiframes are read, and the last of their pairs has note 0, end is 0
@@ -139,7 +140,7 @@ pub record Rest (u : Utterance) (p named last end : ℕ) : Type 0 where
   pub end-is : given .end ≡ end
 
 abbrev restNotes : Utterance → ℕ → List ℕ
-restNotes u p = pairNotes (rest u p) (rowOf 1) zeroBook zeroThresholds
+restNotes u p = receivedNotes (rest u p) (rowOf 1) zeroBook zeroThresholds
 
 abbrev restGiven : Utterance → ℕ → Summary
 restGiven u p = summary (rest u p) (rowOf 1) (restNotes u p) (sentCommon u)
@@ -151,10 +152,10 @@ module _ (u : Utterance) (two : 2 ≤ multiframesOf u) (p : ℕ) (inside : p < m
   in-all : (q : ℕ) → q < multiframePairs → q < pairsOf u
   in-all q h = omega arith
 
-  got : (q : ℕ) → q < multiframePairs → packetAt (rest u p) (rowOf 1) q ≡ packetIn s q
+  got : (q : ℕ) → q < multiframePairs → received (rest u p) (rowOf 1) q ≡ packetIn s q
   got q h = F.packet-first u s (hits u p) 1 (omega arith) q (omega arith)
 
-  hit-fails : pairFails (rest u p) (rowOf 1) p ≡ true
+  hit-fails : pairFails (received (rest u p) (rowOf 1)) p ≡ true
   unfolding pairFails
   hit-fails = ap (λ (x : List Bool). not (right dataBits x)) (got p inside) ∙ by (fate u s (hits u p) p (in-all p inside))
     where
@@ -169,7 +170,7 @@ module _ (u : Utterance) (two : 2 ≤ multiframesOf u) (p : ℕ) (inside : p < m
       by (whole e r) = e
       by (hit t r) = absurd (not-hit u p q (in-all q h) n t)
 
-  else-passes : (q : ℕ) → q < multiframePairs → (q ≡ p → ⊥) → pairFails (rest u p) (rowOf 1) q ≡ false
+  else-passes : (q : ℕ) → q < multiframePairs → (q ≡ p → ⊥) → pairFails (received (rest u p) (rowOf 1)) q ≡ false
   unfolding pairFails
   else-passes q h n = ap (λ (x : List Bool). not (right dataBits x)) (got q h ∙ else-sent q h n) ∙ ap not (packetOf-good (u .indices) q)
 
@@ -178,13 +179,13 @@ module _ (u : Utterance) (two : 2 ≤ multiframesOf u) (p : ℕ) (inside : p < m
   hit-one = F.failed-note (rest u p) (rowOf 1) zeroBook zeroThresholds p (omega arith) hit-fails
 
   else-zero : (q : ℕ) → q < multiframePairs → (q ≡ p → ⊥) → getD (restNotes u p) q 0 ≡ 0
-  unfolding pairOdd
+  unfolding pairInconsistent
   else-zero q h n =
       F.consistent-note (rest u p) (rowOf 1) zeroBook zeroThresholds q (omega arith) (else-passes q h n)
-      (zero-consistent (take frameIndices (framesOf (rest u p) (rowOf 1) q)) (drop frameIndices (framesOf (rest u p) (rowOf 1) q)))
+      (zero-consistent (take frameIndices (framesOf (received (rest u p) (rowOf 1)) q)) (drop frameIndices (framesOf (received (rest u p) (rowOf 1)) q)))
 
   notes-12 : length (restNotes u p) ≡ multiframePairs
-  notes-12 = length-notes (rest u p) (rowOf 1) zeroBook zeroThresholds
+  notes-12 = length-notes (received (rest u p) (rowOf 1)) (pairCount (rowOf 1)) zeroBook zeroThresholds
 
   -- with a good pair besides it is read
   module _ (g : ℕ) (other : g < multiframePairs) (differs : g ≡ p → ⊥) where
@@ -233,7 +234,7 @@ gap-last =
     let two : 2 ≤ multiframesOf gap24 = omega arith in
     let in12 : 11 < multiframePairs = omega arith in
     let ns = restNotes gap24 11 in
-    let all = allFrames (rest gap24 11) (rowOf 1) in
+    let all = receivedFrames (rest gap24 11) (rowOf 1) in
     let size : length ns ≡ 12 = notes-12 gap24 two 11 in12 in
     let zero : (q : ℕ) → q < 11 → getD ns q 0 ≡ 0 = λ q h. else-zero gap24 two 11 in12 q (omega arith) (λ e. omega arith) in
     let run : Run ns 11 12 =
@@ -245,7 +246,7 @@ gap-last =
       stop = inl (sym size);
     } in
     ap allZero
-    (frame-replaced ns (one-good gap24 two 11 in12 0 (omega arith) (λ e. omega arith)) all 23 (omega (arith, length-all (rest gap24 11) (rowOf 1))) (omega arith)
+    (frame-replaced ns (one-good gap24 two 11 in12 0 (omega arith) (λ e. omega arith)) all 23 (omega (arith, length-all (received (rest gap24 11) (rowOf 1)) (pairCount (rowOf 1)))) (omega arith)
     ∙ ap (λ (i : ℕ). part (frameIndices * i) frameIndices all) (at-the-end ns 11 12 run 23 (omega arith) (sym size) (omega arith) (omega arith))
     ∙ F.frame-first gap24 (hitImage gap24 11) (hits gap24 11) 1 (omega arith) 21 (omega arith) (else-sent gap24 two 11 in12 10 (omega arith) (λ e. omega arith)) ∙ zero-22)
 

@@ -32,12 +32,13 @@ use Rattle.header.specs.declared.Header.{Header}
 use Rattle.header.specs.declared.Header.the-variants.{Codeword, Lost}
 use Rattle.settling.specs.Settling.{readings, headerNote}
 use Rattle.settling.specs.Laws.{clean-note}
-use Rattle.pairs.specs.Pairs.{pairCount, pairFails, allFrames, pairNotes}
+use Rattle.carrier.specs.Carrier.{received, pairCount}
+use Rattle.pairs.specs.Pairs.{pairFails}
 use Rattle.pairs.specs.Laws.{length-notes, length-all, no-failed-crc}
 use Rattle.judging.specs.Judging.{badPairs}
 use Rattle.judging.specs.Laws.{Good}
 use Rattle.replacing.specs.Speech.{speechOf, endOf, place-stop}
-use Rattle.reader.specs.Reading.{indexPart, reportPart, summary, Outcome, outcome, reading}
+use Rattle.reader.specs.Reading.{indexPart, reportPart, summary, Outcome, outcome, reading, receivedFrames, receivedNotes}
 use Rattle.reader.specs.ReadingLaws.{Accepted}
 use Rattle.reader.specs.declared.Summary.{Summary}
 use Rattle.reader.specs.declared.Answer.the-variants.{Read, Refused}
@@ -75,7 +76,7 @@ module _ (u : Utterance) (k : ℕ) (some : 0 < k) (less : k < multiframesOf u) w
   first = take (multiframeOctets * k) s
 
   abbrev all : List ℕ
-  all = allFrames first (rowOf k)
+  all = receivedFrames first (rowOf k)
 
   rows : length (rowOf k) ≡ k
   rows = F.rows u s d k within
@@ -89,7 +90,7 @@ module _ (u : Utterance) (k : ℕ) (some : 0 < k) (less : k < multiframesOf u) w
   -- the frames read are the first 24k
   frames-are : all ≡ take (indexOctets * k) (u .indices)
   frames-are =
-      let la : length all ≡ 168 * k = length-all first (rowOf k) ∙ omega (arith, rows) in
+      let la : length all ≡ 168 * k = length-all (received first (rowOf k)) (pairCount (rowOf k)) ∙ omega (arith, rows) in
       let lt : length (take (168 * k) (u .indices)) ≡ 168 * k = length-take-le (168 * k) (u .indices) (omega (arith, whole-frames u)) in
       ext-getD 0 all (take (168 * k) (u .indices)) (la ∙ sym lt) (λ i h.
       let j : i % 7 < 7 = omega arith in
@@ -114,22 +115,22 @@ module _ (u : Utterance) (k : ℕ) (some : 0 < k) (less : k < multiframesOf u) w
 
   module _ (codebook thresholds : List ℤ) where
     abbrev ns : List ℕ
-    ns = pairNotes first (rowOf k) codebook thresholds
+    ns = receivedNotes first (rowOf k) codebook thresholds
 
     size : length ns ≡ pairCount (rowOf k)
-    size = length-notes first (rowOf k) codebook thresholds
+    size = length-notes (received first (rowOf k)) (pairCount (rowOf k)) codebook thresholds
 
-    passes : (q : ℕ) → q < pairCount (rowOf k) → pairFails first (rowOf k) q ≡ false
+    passes : (q : ℕ) → q < pairCount (rowOf k) → pairFails (received first (rowOf k)) q ≡ false
     unfolding pairFails
     passes q h =
         ap (λ (p : List Bool). not (right dataBits p)) (F.packet-first u s d k within q (omega (arith, rows)) ∙ sent q (omega (arith, rows)))
         ∙ ap not (packetOf-good (u .indices) q)
 
     quiet : (q : ℕ) → q < length ns → getD ns q 0 ≡ 0
-    quiet q h = no-failed-crc first (rowOf k) codebook thresholds passes q (omega (arith, size))
+    quiet q h = no-failed-crc (received first (rowOf k)) (pairCount (rowOf k)) codebook thresholds passes q (omega (arith, size))
 
     index-is : indexPart first (rowOf k) ns ≡ all
-    index-is = nothing-replaced ns all quiet (length-all first (rowOf k) ∙ omega (arith, size))
+    index-is = nothing-replaced ns all quiet (length-all (received first (rowOf k)) (pairCount (rowOf k)) ∙ omega (arith, size))
 
     note-row : (i : ℕ) → i < length (rowOf k)
         → headerNote (sentCommon u) i (getD (readings first (rowOf k)) i Lost) ∷ part (firstPair i) multiframePairs ns ≡ replicate reportOctets 0

@@ -13,7 +13,7 @@ use lib.ListN.{length, take, drop, getD, take-append-drop}
 use lib.Seq.{length-take-le, take-at, take-all}
 use Rattle.lists.specs.Parts.{part, over, part-left, part-right}
 use Rattle.lists.specs.Rows.{each, length-each, each-at, same-each}
-use Rattle.layout.specs.Layout.{widths, frameIndices, packetBits, multiframeFrames, multiframePairs, multiframeOctets, mostMultiframes, indexOctets, reportOctets, pairOf, firstFrame, secondFrame, packetStart, sync}
+use Rattle.layout.specs.Layout.{widths, frameIndices, multiframeFrames, multiframePairs, multiframeOctets, mostMultiframes, indexOctets, reportOctets, pairOf, firstFrame, secondFrame, sync}
 use Rattle.frames.specs.Frames.{allZero, zeroFrame, all-zero-at, Nonzero}
 use Rattle.bits.specs.Bits.{value, bits}
 use Rattle.packet.specs.Packet.{apart, frameAt, packetOf}
@@ -27,12 +27,13 @@ use Rattle.header.specs.declared.Header.{Header}
 use Rattle.header.specs.declared.Header.the-variants.{Codeword, Lost}
 use Rattle.settling.specs.Settling.{readings, settling}
 use Rattle.settling.specs.Laws.{AllHave, all-agree, only-clean}
+use Rattle.carrier.specs.Carrier.{streamPacket, received, pairCount}
 use Rattle.settling.specs.declared.Settlement.the-variants.{Settled}
-use Rattle.pairs.specs.Pairs.{packetAt, pairCount, pairFails, framesOf, allFrames, pairOdd, pairNotes}
+use Rattle.pairs.specs.Pairs.{pairFails, framesOf, pairNotes, pairInconsistent}
 use Rattle.pairs.specs.Laws.{length-notes, length-all, frames-at}
 use Rattle.judging.specs.Judging.{noteBy, notes}
 use Rattle.judging.specs.Laws.{failed-is-1, consistent-is-good, badBefore, note-at, Good, none-good}
-use Rattle.reader.specs.Reading.{indexPart, reportPart, summary, outcome, reading}
+use Rattle.reader.specs.Reading.{indexPart, reportPart, summary, outcome, reading, receivedFrames, receivedNotes}
 use Rattle.reader.specs.declared.Answer.the-variants.{Read}
 use Rattle.writer.specs.Writing.{needed}
 use Rattle.writer.specs.Laws.{few-multiframes, length-image}
@@ -70,36 +71,36 @@ border-speaks u k some less =
 -- ---- a pair's note: by the pair before it, its own CRC and consistency, and the next pair's CRC
 module _ (octets places : List ℕ) (codebook thresholds : List ℤ) (q : ℕ) (inside : q < pairCount places) where
   abbrev before : Bool
-  before = badBefore false (pairNotes octets places codebook thresholds) q
+  before = badBefore false (receivedNotes octets places codebook thresholds) q
 
   abbrev after : Bool
-  after = getD (each (pairFails octets places) (pairCount places)) (suc q) false
+  after = getD (each (pairFails (received octets places)) (pairCount places)) (suc q) false
 
-  note-is : getD (pairNotes octets places codebook thresholds) q 0 ≡ noteBy before (pairFails octets places q) (pairOdd octets places codebook thresholds q) after
+  note-is : getD (receivedNotes octets places codebook thresholds) q 0 ≡ noteBy before (pairFails (received octets places) q) (pairInconsistent (received octets places) codebook thresholds q) after
   unfolding pairNotes
   note-is =
       let c = pairCount places in
-      let fs = each (pairFails octets places) c in
-      let os = each (pairOdd octets places codebook thresholds) c in
-      note-at false fs os q (omega (arith, length-each (pairFails octets places) c))
-      ∙ ap₂ (λ (f o : Bool). noteBy (badBefore false (notes fs os) q) f o (getD fs (suc q) false)) (each-at (pairFails octets places) c q false inside)
-      (each-at (pairOdd octets places codebook thresholds) c q false inside)
+      let fs = each (pairFails (received octets places)) c in
+      let os = each (pairInconsistent (received octets places) codebook thresholds) c in
+      note-at false fs os q (omega (arith, length-each (pairFails (received octets places)) c))
+      ∙ ap₂ (λ (f o : Bool). noteBy (badBefore false (notes fs os) q) f o (getD fs (suc q) false)) (each-at (pairFails (received octets places)) c q false inside)
+      (each-at (pairInconsistent (received octets places) codebook thresholds) c q false inside)
 
   -- 1 if its CRC fails
-  pub failed-note : pairFails octets places q ≡ true → getD (pairNotes octets places codebook thresholds) q 0 ≡ 1
+  pub failed-note : pairFails (received octets places) q ≡ true → getD (receivedNotes octets places codebook thresholds) q 0 ≡ 1
   failed-note e =
-      note-is ∙ ap (λ (f : Bool). noteBy before f (pairOdd octets places codebook thresholds q) after) e ∙ failed-is-1 before (pairOdd octets places codebook thresholds q) after
+      note-is ∙ ap (λ (f : Bool). noteBy before f (pairInconsistent (received octets places) codebook thresholds q) after) e ∙ failed-is-1 before (pairInconsistent (received octets places) codebook thresholds q) after
 
   -- so its CRC passed if it is 0
-  pub zero-passed : getD (pairNotes octets places codebook thresholds) q 0 ≡ 0 → pairFails octets places q ≡ false
-  zero-passed z = by (pairFails octets places q) refl
+  pub zero-passed : getD (receivedNotes octets places codebook thresholds) q 0 ≡ 0 → pairFails (received octets places) q ≡ false
+  zero-passed z = by (pairFails (received octets places) q) refl
     where
-      by : (t : Bool) → pairFails octets places q ≡ t → pairFails octets places q ≡ false
+      by : (t : Bool) → pairFails (received octets places) q ≡ t → pairFails (received octets places) q ≡ false
       by false e = e
       by true e = let y : _≡_ {A = ℕ} 0 1 = sym z ∙ failed-note e in absurd (omega arith)
 
   -- 0 if the CRC passes and the pair is consistent
-  pub consistent-note : pairFails octets places q ≡ false → pairOdd octets places codebook thresholds q ≡ false → getD (pairNotes octets places codebook thresholds) q 0 ≡ 0
+  pub consistent-note : pairFails (received octets places) q ≡ false → pairInconsistent (received octets places) codebook thresholds q ≡ false → getD (receivedNotes octets places codebook thresholds) q 0 ≡ 0
   consistent-note e o = note-is ∙ ap₂ (λ (f x : Bool). noteBy before f x after) e o ∙ consistent-is-good before after
 
 -- ---- the first k of m multiframes
@@ -164,12 +165,12 @@ module _ (u : Utterance) (s : List ℕ) (d : Damage (multiframesOf u) (imageOf u
           ∙ only-clean (decoded 0) (header-near u s 0 (omega arith) ∙ z) ∙ ap Settled (common-sent u 0)
 
   -- its packets are those of the image
-  pub packet-first : (q : ℕ) → q < multiframePairs * k → packetAt first (rowOf k) q ≡ packetIn s q
+  pub packet-first : (q : ℕ) → q < multiframePairs * k → received first (rowOf k) q ≡ packetIn s q
   packet-first q h =
-      packet-at first k q h ∙ ap (λ (l : List ℕ). part (packetStart q) packetBits (bits l)) (part-first (144 * (q / 12) + 2 + 4) 138 (omega arith))
+      packet-at first k q h ∙ ap (λ (l : List ℕ). streamPacket (bits l) q) (part-first (144 * (q / 12) + 2 + 4) 138 (omega arith))
 
   abbrev pub all : List ℕ
-  all = allFrames first (rowOf k)
+  all = receivedFrames first (rowOf k)
 
   -- and an undamaged pair's frames stand in it as they were written
   pub frame-first : (j : ℕ) → j < multiframeFrames * k → packetIn s (pairOf j) ≡ packetOf (u .indices) (pairOf j) → part (frameIndices * j) frameIndices all ≡ frameAt (u .indices) j
@@ -181,9 +182,9 @@ module _ (u : Utterance) (s : List ℕ) (d : Damage (multiframesOf u) (imageOf u
       let lf : length f ≡ 7 = length-row (u .indices) (7 * (2 * q)) 7 in
       let lg : length g ≡ 7 = length-row (u .indices) (7 * (2 * q + 1)) 7 in
       let pair : part (14 * q) 14 all ≡ f ++ g =
-      frames-at first (rowOf k) q (omega (arith, rows)) ∙ ap (apart widths) (packet-first q (omega arith) ∙ e)
+      frames-at (received first (rowOf k)) (pairCount (rowOf k)) q (omega (arith, rows)) ∙ ap (apart widths) (packet-first q (omega arith) ∙ e)
       ∙ packetOf-back (u .indices) q (fits-each-frame u (firstFrame q)) (fits-each-frame u (secondFrame q)) in
-      let room : 14 * q + 14 ≤ length all = omega (arith, length-all first (rowOf k), rows) in
+      let room : 14 * q + 14 ≤ length all = omega (arith, length-all (received first (rowOf k)) (pairCount (rowOf k)), rows) in
       elim (ℕ-discrete (2 * q) j) [
         | yes x ↦
             let a : 7 * j ≡ 14 * q + 0 = omega arith in
@@ -197,10 +198,10 @@ module _ (u : Utterance) (s : List ℕ) (d : Damage (multiframesOf u) (imageOf u
 
   module _ (codebook thresholds : List ℤ) where
     abbrev pub ns : List ℕ
-    ns = pairNotes first (rowOf k) codebook thresholds
+    ns = receivedNotes first (rowOf k) codebook thresholds
 
     pub notes-size : length ns ≡ pairCount (rowOf k)
-    notes-size = length-notes first (rowOf k) codebook thresholds
+    notes-size = length-notes (received first (rowOf k)) (pairCount (rowOf k)) codebook thresholds
 
     -- with a good pair, settings and room it is read
     pub read-first : (index report : List ℕ) → 0 < k → (2 ≤ k) ⊎ (flips 0 ≡ 0) → Good ns → Lent k codebook thresholds index report

@@ -18,9 +18,9 @@ use borrow.Author.Tests.{eq-eqb, ne-eqb, le-ltb}
 use Rattle.gf2.specs.Light.{ones-in}
 use Rattle.gf2.specs.Xor.{xor-swap}
 use Rattle.lists.specs.Tests.{when, by-test, true-false}
-use Rattle.lists.specs.Parts.{part, over}
+use Rattle.lists.specs.Parts.{over}
 use Rattle.lists.specs.Rows.{each, length-each, each-at, joined, length-joined, joined-part, same-joined}
-use Rattle.layout.specs.Layout.{frameIndices, dataBits, packetBits, multiframePairs, streamOctets, indexOctets, reportOctets, multiframeOf, firstPair, packetStart, firstFrame, secondFrame}
+use Rattle.layout.specs.Layout.{frameIndices, dataBits, packetBits, multiframePairs, streamOctets, indexOctets, reportOctets, multiframeOf, firstPair, firstFrame, secondFrame}
 use Rattle.crc.specs.Crc.{right, flip, Damaged}
 use Rattle.crc.specs.Damage.{length-flip, flip-burst}
 use Rattle.packet.specs.Packet.{packetOf, frameAt}
@@ -39,11 +39,12 @@ use Rattle.settling.specs.Settling.{readings, settling, headerNote}
 use Rattle.settling.specs.Laws.{Has, read-has}
 use Rattle.settling.specs.declared.Settlement.the-variants.{Settled}
 use Rattle.cutting.specs.Laws.{every-length}
-use Rattle.pairs.specs.Pairs.{pairCount, pairFails, pairOdd, framesOf, pairNotes}
+use Rattle.carrier.specs.Carrier.{streamPacket, received, pairCount}
+use Rattle.pairs.specs.Pairs.{pairFails, framesOf, pairInconsistent, pairNotes}
 use Rattle.pairs.specs.Laws.{length-notes}
 use Rattle.judging.specs.Judging.{noteBy, notes}
 use Rattle.judging.specs.Laws.{Good, none-good, badBefore, note-at, consistent-is-good}
-use Rattle.reader.specs.Reading.{indexPart, reportPart, summary, Outcome, outcome, reading}
+use Rattle.reader.specs.Reading.{indexPart, reportPart, summary, Outcome, outcome, reading, receivedNotes}
 use Rattle.reader.specs.ReadingLaws.{Usable}
 use Rattle.reader.specs.declared.Answer.the-variants.{Read}
 use Rattle.writer.specs.Writing.{settingsRight, verdict, needed}
@@ -93,7 +94,7 @@ module _ (f : ℕ → List Bool) where
     length-packed : (k : ℕ) → length (packed k) ≡ 8 * streamOctets
     length-packed k = length-joined (λ r. f (firstPair k + r)) packetBits multiframePairs (λ r h. long (firstPair k + r))
 
-    packed-part : (q : ℕ) → part (packetStart q) packetBits (packed (multiframeOf q)) ≡ f q
+    packed-part : (q : ℕ) → streamPacket (packed (multiframeOf q)) q ≡ f q
     packed-part q =
         let z : 12 * (q / 12) + q % 12 ≡ q = omega arith in
         joined-part (λ r. f (firstPair (q / 12) + r)) packetBits multiframePairs (q % 12) (λ r h. long (firstPair (q / 12) + r)) (omega arith) ∙ ap f z
@@ -327,14 +328,14 @@ module _ (u : Utterance) (s : List ℕ) (size : length s ≡ length (imageOf u))
   m = multiframesOf u
 
   abbrev ns : List ℕ
-  ns = pairNotes s (rowOf m) codebook thresholds
+  ns = receivedNotes s (rowOf m) codebook thresholds
 
   -- it succeeds, and this is what it gives
-  pub reads-settled : settling (readings s (rowOf (multiframesOf u))) ≡ Settled c → Usable c → Good (pairNotes s (rowOf (multiframesOf u)) codebook thresholds)
+  pub reads-settled : settling (readings s (rowOf (multiframesOf u))) ≡ Settled c → Usable c → Good (receivedNotes s (rowOf (multiframesOf u)) codebook thresholds)
       → reading s codebook thresholds index report
-      ≡ outcome (Read (summary s (rowOf (multiframesOf u)) (pairNotes s (rowOf (multiframesOf u)) codebook thresholds) c))
-      (over index 0 (indexOctets * length (rowOf (multiframesOf u))) (indexPart s (rowOf (multiframesOf u)) (pairNotes s (rowOf (multiframesOf u)) codebook thresholds)))
-      (over report 0 (reportOctets * length (rowOf (multiframesOf u))) (reportPart s (rowOf (multiframesOf u)) (pairNotes s (rowOf (multiframesOf u)) codebook thresholds) c))
+      ≡ outcome (Read (summary s (rowOf (multiframesOf u)) (receivedNotes s (rowOf (multiframesOf u)) codebook thresholds) c))
+      (over index 0 (indexOctets * length (rowOf (multiframesOf u))) (indexPart s (rowOf (multiframesOf u)) (receivedNotes s (rowOf (multiframesOf u)) codebook thresholds)))
+      (over report 0 (reportOctets * length (rowOf (multiframesOf u))) (reportPart s (rowOf (multiframesOf u)) (receivedNotes s (rowOf (multiframesOf u)) codebook thresholds) c))
   reads-settled settled usable good =
       let rows : length (rowOf m) ≡ m = every-length 0 m in
       reads-as s m (few-multiframes (u .rate) (u .kind) (u .indices) (is-accepted u .sizes)) (size ∙ length-image (u .rate) (u .kind) (u .indices) m)
@@ -345,7 +346,7 @@ module _ (u : Utterance) (s : List ℕ) (size : length s ≡ length (imageOf u))
         roomy = record {
           index-room = subst (λ (n : ℕ). indexOctets * n ≤ length index) (sym rows) (lent .index-room);
           report-room = subst (λ (n : ℕ). reportOctets * n ≤ length report) (sym rows) (lent .report-room);
-          not-all = λ e. none-good ns (e ∙ sym (length-notes s (rowOf m) codebook thresholds)) (good .pair) (good .within) (good .good);
+          not-all = λ e. none-good ns (e ∙ sym (length-notes (received s (rowOf m)) (pairCount (rowOf m)) codebook thresholds)) (good .pair) (good .within) (good .good);
         };
       }
 
@@ -354,33 +355,33 @@ abbrev pub zeroRead : Utterance → List ℕ → Outcome
 zeroRead u s = reading s zeroBook zeroThresholds (indexFor (multiframesOf u)) (reportFor (multiframesOf u))
 
 abbrev pub zeroNotes : Utterance → List ℕ → List ℕ
-zeroNotes u s = pairNotes s (rowOf (multiframesOf u)) zeroBook zeroThresholds
+zeroNotes u s = receivedNotes s (rowOf (multiframesOf u)) zeroBook zeroThresholds
 
 -- a pair whose CRC is right has note 0, whatever stands around it
 module _ (s : List ℕ) (m q : ℕ) (h : q < multiframePairs * m) (whole : right dataBits (packetIn s q) ≡ true) where
-  never-fails : pairFails s (rowOf m) q ≡ false
+  never-fails : pairFails (received s (rowOf m)) q ≡ false
   unfolding pairFails
   never-fails = ap (λ (p : List Bool). not (right dataBits p)) (packet-at s m q h) ∙ ap not whole
 
-  never-odd : pairOdd s (rowOf m) zeroBook zeroThresholds q ≡ false
-  unfolding pairOdd
-  never-odd = zero-consistent (take frameIndices (framesOf s (rowOf m) q)) (drop frameIndices (framesOf s (rowOf m) q))
+  never-odd : pairInconsistent (received s (rowOf m)) zeroBook zeroThresholds q ≡ false
+  unfolding pairInconsistent
+  never-odd = zero-consistent (take frameIndices (framesOf (received s (rowOf m)) q)) (drop frameIndices (framesOf (received s (rowOf m)) q))
 
-  pub right-good : getD (pairNotes s (rowOf m) zeroBook zeroThresholds) q 0 ≡ 0
+  pub right-good : getD (receivedNotes s (rowOf m) zeroBook zeroThresholds) q 0 ≡ 0
   unfolding pairNotes
   right-good =
       let n = pairCount (rowOf m) in
-      let fs = each (pairFails s (rowOf m)) n in
-      let os = each (pairOdd s (rowOf m) zeroBook zeroThresholds) n in
+      let fs = each (pairFails (received s (rowOf m))) n in
+      let os = each (pairInconsistent (received s (rowOf m)) zeroBook zeroThresholds) n in
       let l : q < n = omega (arith, every-length 0 m) in
-      note-at false fs os q (omega (arith, length-each (pairFails s (rowOf m)) n))
-      ∙ ap₂ (λ (x y : Bool). noteBy (badBefore false (notes fs os) q) x y (getD fs (suc q) false)) (each-at (pairFails s (rowOf m)) n q false l ∙ never-fails)
-      (each-at (pairOdd s (rowOf m) zeroBook zeroThresholds) n q false l ∙ never-odd)
+      note-at false fs os q (omega (arith, length-each (pairFails (received s (rowOf m))) n))
+      ∙ ap₂ (λ (x y : Bool). noteBy (badBefore false (notes fs os) q) x y (getD fs (suc q) false)) (each-at (pairFails (received s (rowOf m))) n q false l ∙ never-fails)
+      (each-at (pairInconsistent (received s (rowOf m)) zeroBook zeroThresholds) n q false l ∙ never-odd)
       ∙ consistent-is-good (badBefore false (notes fs os) q) (getD fs (suc q) false)
 
   -- so there is a good one
-  pub good-pair : Good (pairNotes s (rowOf m) zeroBook zeroThresholds)
-  good-pair = record { pair = q; within = omega (arith, length-notes s (rowOf m) zeroBook zeroThresholds, every-length 0 m); good = right-good }
+  pub good-pair : Good (receivedNotes s (rowOf m) zeroBook zeroThresholds)
+  good-pair = record { pair = q; within = omega (arith, length-notes (received s (rowOf m)) (pairCount (rowOf m)) zeroBook zeroThresholds, every-length 0 m); good = right-good }
 
 -- so a pair that is as it was sent is not bad, and is not named
 module _ (u : Utterance) (s : List ℕ) (q : ℕ) (whole : packetIn s q ≡ packetIn (imageOf u) q) where

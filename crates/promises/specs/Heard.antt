@@ -13,9 +13,8 @@ use Rattle.lists.specs.Parts.{over}
 use Rattle.layout.specs.Layout.{multiframeFrames, indexOctets, reportOctets, pairOf, firstPair}
 use Rattle.frames.specs.Frames.{allZero, zeroFrame}
 use Rattle.cutting.specs.Laws.{every-length}
-use Rattle.pairs.specs.Pairs.{pairNotes}
 use Rattle.replacing.specs.Speech.{lastNonzero, speechOf, endOf}
-use Rattle.reader.specs.Reading.{indexPart, summary, Outcome, outcome, reading}
+use Rattle.reader.specs.Reading.{indexPart, summary, Outcome, outcome, reading, receivedNotes}
 use Rattle.reader.specs.declared.Summary.{Summary}
 use Rattle.reader.specs.declared.Answer.the-variants.{Read}
 use Rattle.writer.specs.Writing.{frameCount}
@@ -63,7 +62,7 @@ module _ (u : Utterance) (s : List ℕ) (codebook thresholds : List ℤ) (index 
   m = multiframesOf u
 
   abbrev all : List ℕ
-  all = indexPart s (rowOf m) (pairNotes s (rowOf m) codebook thresholds)
+  all = indexPart s (rowOf m) (receivedNotes s (rowOf m) codebook thresholds)
 
   rows : length (rowOf m) ≡ m
   rows = every-length 0 m
@@ -93,7 +92,7 @@ module _ (u : Utterance) (s : List ℕ) (codebook thresholds : List ℤ) (index 
   pub last-heard : LastUnnamed → (given : Summary) → reading s codebook thresholds index report .answer ≡ Read given
       → (given .speech ≡ frameCount (u .indices)) × (given .end ≡ 1)
   last-heard none given e =
-      let r : Read given ≡ Read (summary s (rowOf m) (pairNotes s (rowOf m) codebook thresholds) (sentCommon u)) =
+      let r : Read given ≡ Read (summary s (rowOf m) (receivedNotes s (rowOf m) codebook thresholds) (sentCommon u)) =
       sym e ∙ ap (λ (o : Outcome). o .answer) (N.read-is u s codebook thresholds index report p) in
-      let g : given ≡ summary s (rowOf m) (pairNotes s (rowOf m) codebook thresholds) (sentCommon u) = cc in
+      let g : given ≡ summary s (rowOf m) (receivedNotes s (rowOf m) codebook thresholds) (sentCommon u) = cc in
       (ap (λ (x : Summary). x .speech) g ∙ last-speech none, ap (λ (x : Summary). x .end) g ∙ last-end none)

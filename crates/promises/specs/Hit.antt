@@ -14,9 +14,9 @@ use lib.ListN.{length}
 use borrow.Author.Tests.{eq-eqb, ne-eqb}
 use Rattle.gf2.specs.Light.{ones-in}
 use Rattle.lists.specs.Tests.{when}
-use Rattle.lists.specs.Parts.{part}
 use Rattle.lists.specs.Rows.{joined, length-joined, joined-part}
-use Rattle.layout.specs.Layout.{packetBits, streamOctets, multiframePairs, firstPair, packetStart, multiframeOf}
+use Rattle.layout.specs.Layout.{packetBits, streamOctets, multiframePairs, firstPair, multiframeOf}
+use Rattle.carrier.specs.Carrier.{streamPacket}
 use Rattle.crc.specs.Crc.{flip, Damaged}
 use Rattle.crc.specs.Damage.{length-flip, flip-burst}
 use Rattle.packet.specs.Packet.{packetOf}
@@ -60,7 +60,7 @@ module _ (u : Utterance) (p : ℕ) where
   stream-length : (k : ℕ) → length (hitStream k) ≡ 8 * streamOctets
   stream-length k = length-joined (λ r. hitAt (firstPair k + r)) packetBits multiframePairs (λ r h. hit-length (firstPair k + r))
 
-  hit-part : (q : ℕ) → part (packetStart q) packetBits (hitStream (multiframeOf q)) ≡ hitAt q
+  hit-part : (q : ℕ) → streamPacket (hitStream (multiframeOf q)) q ≡ hitAt q
   hit-part q =
       let e : 12 * (q / 12) + q % 12 ≡ q = omega arith in
       joined-part (λ r. hitAt (firstPair (q / 12) + r)) packetBits multiframePairs (q % 12) (λ r h. hit-length (firstPair (q / 12) + r)) (omega arith) ∙ ap hitAt e

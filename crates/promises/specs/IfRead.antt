@@ -15,12 +15,12 @@ use Rattle.layout.specs.Layout.{indexOctets, reportOctets, sync}
 use Rattle.cutting.specs.Cutting.{Cutting, cutting}
 use Rattle.cutting.specs.Laws.{every-length}
 use Rattle.settling.specs.Settling.{readings, settling}
+use Rattle.carrier.specs.Carrier.{received, pairCount}
 use Rattle.settling.specs.declared.Settlement.the-variants.{Settled}
-use Rattle.pairs.specs.Pairs.{pairCount, pairNotes}
 use Rattle.pairs.specs.Laws.{length-notes}
 use Rattle.judging.specs.Judging.{bad, badPairs}
 use Rattle.judging.specs.Laws.{few-bad, Good, some-good}
-use Rattle.reader.specs.Reading.{Outcome, outcome, reading}
+use Rattle.reader.specs.Reading.{Outcome, outcome, reading, receivedNotes}
 use Rattle.reader.specs.declared.Summary.{Summary}
 use Rattle.reader.specs.declared.Answer.the-variants.{Read}
 use Rattle.writer.specs.Writing.{frameCount}
@@ -71,21 +71,21 @@ module _ (u : Utterance) (s : List ℕ) (d : DamageUpTo 3 (multiframesOf u) (ima
       ]
 
   abbrev ns : List ℕ
-  ns = pairNotes s (rowOf m) codebook thresholds
+  ns = receivedNotes s (rowOf m) codebook thresholds
 
   -- a pair that is not bad
   good : Good ns
   good =
       some-good ns
       (below (badPairs ns) (length ns) (few-bad ns)
-      (λ x. subst (λ (ps : List ℕ). badPairs (pairNotes s ps codebook thresholds) ≡ pairCount ps → ⊥) cut (w .reader-accepts .fitting .roomy .not-all)
-      (x ∙ length-notes s (rowOf m) codebook thresholds)))
+      (λ x. subst (λ (ps : List ℕ). badPairs (receivedNotes s ps codebook thresholds) ≡ pairCount ps → ⊥) cut (w .reader-accepts .fitting .roomy .not-all)
+      (x ∙ length-notes (received s (rowOf m)) (pairCount (rowOf m)) codebook thresholds)))
     where
       below : (a b : ℕ) → a ≤ b → (a ≡ b → ⊥) → a < b
       below a b h n = omega arith
 
   inside : good .pair < pairsOf u
-  inside = let l = good .within in omega (arith, length-notes s (rowOf m) codebook thresholds, every-length 0 m)
+  inside = let l = good .within in omega (arith, length-notes (received s (rowOf m)) (pairCount (rowOf m)) codebook thresholds, every-length 0 m)
 
   not-bad : BadPair u s codebook thresholds (good .pair) → ⊥
   not-bad b = by (tells-bad u s d codebook thresholds (good .pair) inside)

@@ -31,6 +31,7 @@ use Rattle.header.specs.Reading.{decodedAs}
 use Rattle.header.specs.declared.Header.the-variants.{Codeword, Lost}
 use Rattle.settling.specs.Settling.{readings, settling, headerNote}
 use Rattle.settling.specs.Laws.{two-settle}
+use Rattle.carrier.specs.Carrier.{received, pairCount}
 use Rattle.settling.specs.declared.Settlement.the-variants.{Settled}
 use Rattle.pairs.specs.Laws.{length-notes}
 use Rattle.reader.specs.Reading.{indexPart, reportPart, summary, Outcome, outcome, reading}
@@ -159,7 +160,7 @@ module _ (u : Utterance) (b c : ℕ) (lb : b < 2 ^ 32) (lc : c < 2 ^ 32) (f : �
     sent = M.never-misled u s (misled-met u b c lb lc f (omega arith) (omega arith)) zeroBook zeroThresholds (indexFor m) (reportFor m)
         (summary s (rowOf m) (zeroNotes u s) (sentCommon u)) (ap (λ (o : Outcome). o .answer) read-is);
     noted = ap (λ (o : Outcome). headerNoteIn (o .report) 1) read-is
-        ∙ header-note-is s (rowOf m) (zeroNotes u s) (reportFor m) (sentCommon u) (reportOctets * length (rowOf m)) (length-notes s (rowOf m) zeroBook zeroThresholds) 1
+        ∙ header-note-is s (rowOf m) (zeroNotes u s) (reportFor m) (sentCommon u) (reportOctets * length (rowOf m)) (length-notes (received s (rowOf m)) (pairCount (rowOf m)) zeroBook zeroThresholds) 1
         (omega (arith, every-length 0 m))
         ∙ ap (headerNote (sentCommon u) 1) second ∙ noted-11 u eight 1 (wordIn s 1) ∙ ap (λ (x : ℕ). x + 8) (header-near (at11 u) s 1 (omega arith) ∙ far-11);
   }

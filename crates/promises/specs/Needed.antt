@@ -36,15 +36,15 @@ use Rattle.header.specs.declared.Header.{Header}
 use Rattle.header.specs.declared.Header.the-variants.{Codeword, Lost}
 use Rattle.settling.specs.Settling.{readings, settling, firstAgreeing, onlyOne}
 use Rattle.settling.specs.Laws.{only-clean}
+use Rattle.carrier.specs.Carrier.{received, pairCount}
 use Rattle.settling.specs.declared.Settlement.the-variants as Set
-use Rattle.pairs.specs.Pairs.{pairCount, allFrames, pairNotes}
 use Rattle.pairs.specs.Laws.{length-notes, length-all}
 use Rattle.judging.specs.Judging.{badPairs}
 use Rattle.judging.specs.Laws.{Good, none-good}
 use Rattle.replacing.specs.Replacing.{frameBefore, frameAfter, source}
 use Rattle.replacing.specs.Laws.{Run, at-the-end, first-half, second-half, frame-replaced}
 use Rattle.replacing.specs.Speech.{lastNonzero, speechOf, endOf, place-le, zero-behind, nonzero-at, place-stop}
-use Rattle.reader.specs.Reading.{indexPart, summary, finished, Outcome, outcome, reading}
+use Rattle.reader.specs.Reading.{indexPart, summary, finished, Outcome, outcome, reading, receivedFrames, receivedNotes}
 use Rattle.reader.specs.ReadingLaws.{Fitting, accepting}
 use Rattle.reader.specs.declared.Verdict.{Verdict}
 use Rattle.reader.specs.declared.Summary.{Summary}
@@ -488,7 +488,7 @@ module _ (u : Utterance) (two : 2 ≤ multiframesOf u) (full : frameCount (u .in
   }
 
   notes-size : length ns ≡ pairsOf u
-  notes-size = length-notes got (rowOf ms) zeroBook zeroThresholds ∙ ap (λ (n : ℕ). multiframePairs * n) (every-length 0 ms)
+  notes-size = length-notes (received got (rowOf ms)) (pairCount (rowOf ms)) zeroBook zeroThresholds ∙ ap (λ (n : ℕ). multiframePairs * n) (every-length 0 ms)
 
   good-at : (q : ℕ) → q < pairsOf u → t q ≡ false → getD ns q 0 ≡ 0
   good-at q h e =
@@ -510,9 +510,9 @@ module _ (u : Utterance) (two : 2 ≤ multiframesOf u) (full : frameCount (u .in
   some-good = record { pair = 0; within = omega (arith, notes-size); good = good-at 0 (omega arith) (before 0 (omega arith)) }
 
   -- each frame is the one that stands in for it
-  frame-is : (i : ℕ) → i < multiframeFrames * ms → part (frameIndices * i) frameIndices all ≡ part (frameIndices * source ns i) frameIndices (allFrames got (rowOf ms))
+  frame-is : (i : ℕ) → i < multiframeFrames * ms → part (frameIndices * i) frameIndices all ≡ part (frameIndices * source ns i) frameIndices (receivedFrames got (rowOf ms))
   frame-is i h =
-      frame-replaced ns some-good (allFrames got (rowOf ms)) i (omega (arith, notes-size, length-all got (rowOf ms), every-length 0 ms)) (omega (arith, notes-size))
+      frame-replaced ns some-good (receivedFrames got (rowOf ms)) i (omega (arith, notes-size, length-all (received got (rowOf ms)) (pairCount (rowOf ms)), every-length 0 ms)) (omega (arith, notes-size))
 
   -- which is the last frame sent, where it is taken from before
   from-before : (i : ℕ) → i < multiframeFrames * ms → source ns i ≡ frameBefore r → zeroFrame all i ≡ false
@@ -520,7 +520,7 @@ module _ (u : Utterance) (two : 2 ≤ multiframesOf u) (full : frameCount (u .in
   from-before i h e =
       let z : frameBefore r ≡ secondFrame (r - 1) = omega arith in
       ap allZero
-      (frame-is i h ∙ ap (λ (k : ℕ). part (frameIndices * k) frameIndices (allFrames got (rowOf ms))) (e ∙ z)
+      (frame-is i h ∙ ap (λ (k : ℕ). part (frameIndices * k) frameIndices (receivedFrames got (rowOf ms))) (e ∙ z)
       ∙ N.frame-in-pair u got zeroBook zeroThresholds (indexFor ms) (reportFor ms) wide (r - 1) (omega arith) (good-at (r - 1) (omega arith) (before (r - 1) (omega arith))) .1)
       ∙ speaks u (secondFrame (r - 1)) (omega arith)
 
@@ -529,7 +529,7 @@ module _ (u : Utterance) (two : 2 ≤ multiframesOf u) (full : frameCount (u .in
   unfolding zeroFrame
   from-behind i h e l =
       ap allZero
-      (frame-is i h ∙ ap (λ (k : ℕ). part (frameIndices * k) frameIndices (allFrames got (rowOf ms))) e
+      (frame-is i h ∙ ap (λ (k : ℕ). part (frameIndices * k) frameIndices (receivedFrames got (rowOf ms))) e
       ∙ N.frame-in-pair u got zeroBook zeroThresholds (indexFor ms) (reportFor ms) wide b l (good-at b l (behind b (omega arith) l)) .0
       ∙ row-past (u .indices) (frameIndices * firstFrame b) frameIndices (omega (arith, whole-frames u)))
 
@@ -759,17 +759,17 @@ module _ (u : Utterance) (twice : multiframesOf u ≡ 2) where
       ∙ ap (λ (h : Header). settling (h ∷ [])) (header-read u cutUp 0 (omega arith) (omega (arith, no-flip)))
       ∙ only-clean (decodedAs (wordIn cutUp 0) (sentMessage u 0)) (header-near u cutUp 0 (omega arith) ∙ no-flip) ∙ ap Set.Settled (common-sent u 0)
 
-  good-once : Good (pairNotes cutUp (rowOf 1) zeroBook zeroThresholds)
+  good-once : Good (receivedNotes cutUp (rowOf 1) zeroBook zeroThresholds)
   good-once = good-pair cutUp 1 0 (lit< tt) (ap (right dataBits) packet-there ∙ packetOf-good (u .indices) 0)
 
-  read-once : zeroRead u cutUp .answer ≡ Read (summary cutUp (rowOf 1) (pairNotes cutUp (rowOf 1) zeroBook zeroThresholds) (sentCommon u))
+  read-once : zeroRead u cutUp .answer ≡ Read (summary cutUp (rowOf 1) (receivedNotes cutUp (rowOf 1) zeroBook zeroThresholds) (sentCommon u))
   unfolding reading
   read-once =
       let i = indexFor (multiframesOf u) in
       let r = reportFor (multiframesOf u) in
       let lent = lent-zeros (multiframesOf u) in
       let pl : cutting cutUp .places ≡ rowOf 1 = ap (λ (w : Cutting). w .places) cut-once in
-      let ns = pairNotes cutUp (rowOf 1) zeroBook zeroThresholds in
+      let ns = receivedNotes cutUp (rowOf 1) zeroBook zeroThresholds in
       let fit : Fitting 1 (badPairs ns) (pairCount (rowOf 1)) (length i) (length r) (settling (readings cutUp (rowOf 1))) (sentCommon u) =
       record {
         settles = settled-once;
@@ -777,7 +777,7 @@ module _ (u : Utterance) (twice : multiframesOf u ≡ 2) where
         roomy = record {
           index-room = omega (arith, lent .index-room);
           report-room = omega (arith, lent .report-room);
-          not-all = λ e. none-good ns (e ∙ sym (length-notes cutUp (rowOf 1) zeroBook zeroThresholds)) (good-once .pair) (good-once .within) (good-once .good);
+          not-all = λ e. none-good ns (e ∙ sym (length-notes (received cutUp (rowOf 1)) (pairCount (rowOf 1)) zeroBook zeroThresholds)) (good-once .pair) (good-once .within) (good-once .good);
         };
       } in
       ap₂ (λ (ps : List ℕ) (v : Verdict). finished cutUp zeroBook zeroThresholds i r ps v .answer) pl
@@ -788,7 +788,7 @@ module _ (u : Utterance) (twice : multiframesOf u ≡ 2) where
         uncut = ap (λ (w : Cutting). w .ending) cut-once;
         some = λ e. omega (arith, ap length pl);
         fitting = subst
-            (λ (ps : List ℕ). Fitting (length ps) (badPairs (pairNotes cutUp ps zeroBook zeroThresholds)) (pairCount ps) (length i) (length r) (settling (readings cutUp ps)) (sentCommon u))
+            (λ (ps : List ℕ). Fitting (length ps) (badPairs (receivedNotes cutUp ps zeroBook zeroThresholds)) (pairCount ps) (length i) (length r) (settling (readings cutUp ps)) (sentCommon u))
             (sym pl) fit;
       })
 
@@ -803,7 +803,7 @@ module _ (u : Utterance) (twice : multiframesOf u ≡ 2) where
     first-sync = front-part 0 syncOctets (lit< tt) ∙ image-sync (u .rate) (u .kind) (u .indices) 1 0 (lit< tt)
         ∙ sym (image-sync (u .rate) (u .kind) (u .indices) (multiframesOf u) 0 (omega arith));
     second-sync = part-right front (inverses 72) multiframeOctets syncOctets front-size;
-    given = summary cutUp (rowOf 1) (pairNotes cutUp (rowOf 1) zeroBook zeroThresholds) (sentCommon u);
+    given = summary cutUp (rowOf 1) (receivedNotes cutUp (rowOf 1) zeroBook zeroThresholds) (sentCommon u);
     succeeds = read-once;
     count = refl;
     misled = λ x. let e : 1 ≡ multiframesOf u = x .multiframes in omega arith;

@@ -3,7 +3,7 @@
 use mathlib.Core.Path.{_≡_, refl, sym, ap, ap₂, _∙_}
 use mathlib.Core.Bool.{Bool, not}
 use mathlib.Core.List.{List, _∷_}
-use Prim.Native.Nat.{ℕ, _+_, _*_, _/_, _%_, _≤_, _<_}
+use Prim.Native.Nat.{ℕ, _+_, _*_, _/_, _≤_, _<_}
 use native.Mathlib.Omega.{arith}
 use lib.Dec.{eqb}
 use lib.IntN.{ℤ}
@@ -22,12 +22,13 @@ use Rattle.header.specs.Reading as H
 use Rattle.header.specs.Message.{rateOf, typeOf}
 use Rattle.header.specs.declared.Header.{Header}
 use Rattle.header.specs.declared.Header.the-variants.{Lost}
-use Rattle.settling.specs.Settling.{readings, settling, headerNote, headerWord}
-use Rattle.pairs.specs.Pairs.{streamAt, packetAt, pairCount, pairFails, framesOf, allFrames, pairOdd, pairNotes}
+use Rattle.settling.specs.Settling.{readings, settling, headerNote}
+use Rattle.carrier.specs.Carrier.{streamPacket, wordAt, streamAt, inPlaces, received, pairCount}
+use Rattle.pairs.specs.Pairs.{pairFails, framesOf, allFrames, pairInconsistent, pairNotes}
 use Rattle.judging.specs.Judging.{notes, badPairs}
 use Rattle.replacing.specs.Replacing.{replaced}
 use Rattle.replacing.specs.Speech.{speechOf, endOf}
-use Rattle.reader.specs.Reading.{reportPart, settledVerdict, wholeVerdict, verdict, finished, Outcome, outcome, reading}
+use Rattle.reader.specs.Reading.{reportPart, settledVerdict, wholeVerdict, verdict, finished, Outcome, outcome, reading, receivedFrames, receivedNotes}
 use Rattle.reader.specs.declared.Verdict.{Verdict}
 use Rattle.reader.specs.declared.Verdict.the-variants.{Refuse, Accept}
 use Rattle.reader.specs.declared.Answer.the-variants.{Read}
@@ -46,36 +47,36 @@ module _ (o₁ p₁ o₂ p₂ : List ℕ) (count : length p₁ ≡ length p₂)
   headers-same : readings o₁ p₁ ≡ readings o₂ p₂
   unfolding readings
   headers-same =
-      same-each (λ k. H.reading (headerWord o₁ (getD p₁ k 0))) (λ k. H.reading (headerWord o₂ (getD p₂ k 0))) (length p₁)
+      same-each (λ k. H.reading (wordAt o₁ (inPlaces p₁) k)) (λ k. H.reading (wordAt o₂ (inPlaces p₂) k)) (length p₁)
       (λ k h. ap (λ (l : List ℕ). H.reading (value (bits l))) (piece k 2 4 h (omega arith)))
-      ∙ ap (each (λ k. H.reading (headerWord o₂ (getD p₂ k 0)))) count
+      ∙ ap (each (λ k. H.reading (wordAt o₂ (inPlaces p₂) k))) count
 
-  stream-same : (k : ℕ) → k < length p₁ → streamAt o₁ p₁ k ≡ streamAt o₂ p₂ k
+  stream-same : (k : ℕ) → k < length p₁ → streamAt o₁ (inPlaces p₁) k ≡ streamAt o₂ (inPlaces p₂) k
   stream-same k h =
       let a : getD p₁ k 0 + 2 + 4 ≡ getD p₁ k 0 + 6 = omega arith in
       let b : getD p₂ k 0 + 6 ≡ getD p₂ k 0 + 2 + 4 = omega arith in
       ap (λ (i : ℕ). part i 138 o₁) a ∙ piece k 6 138 h (omega arith) ∙ ap (λ (i : ℕ). part i 138 o₂) b
 
-  packet-same : (q : ℕ) → q < multiframePairs * length p₁ → packetAt o₁ p₁ q ≡ packetAt o₂ p₂ q
-  packet-same q h = ap (λ (l : List ℕ). part (92 * (q % 12)) 92 (bits l)) (stream-same (q / 12) (omega arith))
+  packet-same : (q : ℕ) → q < multiframePairs * length p₁ → received o₁ p₁ q ≡ received o₂ p₂ q
+  packet-same q h = ap (λ (l : List ℕ). streamPacket (bits l) q) (stream-same (q / 12) (omega arith))
 
   pairs-count : pairCount p₁ ≡ pairCount p₂
   pairs-count = ap (λ (n : ℕ). multiframePairs * n) count
 
-  frames-same : allFrames o₁ p₁ ≡ allFrames o₂ p₂
+  frames-same : receivedFrames o₁ p₁ ≡ receivedFrames o₂ p₂
   unfolding allFrames framesOf
   frames-same =
-      same-joined (framesOf o₁ p₁) (framesOf o₂ p₂) (pairCount p₁) (λ q h. ap (apart widths) (packet-same q h)) ∙ ap (joined (framesOf o₂ p₂)) pairs-count
+      same-joined (framesOf (received o₁ p₁)) (framesOf (received o₂ p₂)) (pairCount p₁) (λ q h. ap (apart widths) (packet-same q h)) ∙ ap (joined (framesOf (received o₂ p₂))) pairs-count
 
   module _ (codebook thresholds : List ℤ) where
-    notes-same : pairNotes o₁ p₁ codebook thresholds ≡ pairNotes o₂ p₂ codebook thresholds
-    unfolding pairNotes pairFails pairOdd framesOf
+    notes-same : receivedNotes o₁ p₁ codebook thresholds ≡ receivedNotes o₂ p₂ codebook thresholds
+    unfolding pairNotes pairFails pairInconsistent framesOf
     notes-same =
         ap₂ notes
-        (same-each (pairFails o₁ p₁) (pairFails o₂ p₂) (pairCount p₁) (λ q h. ap (λ (l : List Bool). not (right dataBits l)) (packet-same q h)) ∙ ap (each (pairFails o₂ p₂)) pairs-count)
-        (same-each (pairOdd o₁ p₁ codebook thresholds) (pairOdd o₂ p₂ codebook thresholds) (pairCount p₁)
+        (same-each (pairFails (received o₁ p₁)) (pairFails (received o₂ p₂)) (pairCount p₁) (λ q h. ap (λ (l : List Bool). not (right dataBits l)) (packet-same q h)) ∙ ap (each (pairFails (received o₂ p₂))) pairs-count)
+        (same-each (pairInconsistent (received o₁ p₁) codebook thresholds) (pairInconsistent (received o₂ p₂) codebook thresholds) (pairCount p₁)
         (λ q h. ap (λ (l : List Bool). inconsistent codebook thresholds (take frameIndices (apart widths l)) (drop frameIndices (apart widths l))) (packet-same q h))
-        ∙ ap (each (pairOdd o₂ p₂ codebook thresholds)) pairs-count)
+        ∙ ap (each (pairInconsistent (received o₂ p₂) codebook thresholds)) pairs-count)
 
     module _ (index report : List ℕ) where
       -- what success gives depends on the headers, the frames, the notes and the count alone
@@ -96,7 +97,7 @@ module _ (o₁ p₁ o₂ p₂ : List ℕ) (count : length p₁ ≡ length p₂)
       unfolding reportPart given
       finished-same (Refuse r) = refl
       finished-same (Accept c) =
-          ap₂ (λ (m : ℕ) (hs : List Header). given m hs (allFrames o₁ p₁) (pairNotes o₁ p₁ codebook thresholds) c) count headers-same
+          ap₂ (λ (m : ℕ) (hs : List Header). given m hs (receivedFrames o₁ p₁) (receivedNotes o₁ p₁ codebook thresholds) c) count headers-same
           ∙ ap₂ (λ (fs ns : List ℕ). given (length p₂) (readings o₂ p₂) fs ns c) frames-same notes-same
 
       verdict-same : 0 < length p₁ → wholeVerdict o₁ codebook thresholds (length index) (length report) p₁ ≡ wholeVerdict o₂ codebook thresholds (length index) (length report) p₂
@@ -104,7 +105,7 @@ module _ (o₁ p₁ o₂ p₂ : List ℕ) (count : length p₁ ≡ length p₂)
       verdict-same h =
           rw (ne-eqb (length p₁) 0 (λ e. omega arith), ne-eqb (length p₂) 0 (λ e. omega arith))
           (ap₂ (λ (m : ℕ) (ns : List ℕ). settledVerdict m (badPairs ns) (multiframePairs * m) (length index) (length report) (settling (readings o₁ p₁))) count notes-same
-          ∙ ap (λ (hs : List Header). settledVerdict (length p₂) (badPairs (pairNotes o₂ p₂ codebook thresholds)) (pairCount p₂) (length index) (length report) (settling hs))
+          ∙ ap (λ (hs : List Header). settledVerdict (length p₂) (badPairs (receivedNotes o₂ p₂ codebook thresholds)) (pairCount p₂) (length index) (length report) (settling hs))
           headers-same)
 
       -- the verdict, if the tables have their sizes

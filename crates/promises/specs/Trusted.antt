@@ -28,9 +28,9 @@ use Rattle.header.specs.declared.Header.the-variants.{Lost}
 use Rattle.cutting.specs.Cutting.{Cutting, cutting}
 use Rattle.cutting.specs.Laws.{every-length}
 use Rattle.settling.specs.Settling.{readings, headerNote}
-use Rattle.pairs.specs.Pairs.{pairCount, pairNotes}
+use Rattle.carrier.specs.Carrier.{received, pairCount}
 use Rattle.pairs.specs.Laws.{length-notes}
-use Rattle.reader.specs.Reading.{Outcome, outcome, reading}
+use Rattle.reader.specs.Reading.{Outcome, outcome, reading, receivedNotes}
 use Rattle.reader.specs.declared.Summary.{Summary}
 use Rattle.reader.specs.declared.Answer.the-variants.{Read}
 use Rattle.writer.specs.Laws.{few-multiframes, length-image}
@@ -93,7 +93,7 @@ module _ (u : Utterance) (s : List ℕ) (p : Premises u s) (codebook thresholds 
   places = cutting s .places
 
   abbrev ns : List ℕ
-  ns = pairNotes s places codebook thresholds
+  ns = receivedNotes s places codebook thresholds
 
   abbrev c : ℕ
   c = w .common
@@ -105,7 +105,7 @@ module _ (u : Utterance) (s : List ℕ) (p : Premises u s) (codebook thresholds 
   count = ap (λ (g : Summary). g .multiframes) (w .given-is) ∙ rows
 
   notes-size : length ns ≡ pairCount places
-  notes-size = length-notes s places codebook thresholds
+  notes-size = length-notes (received s places) (pairCount places) codebook thresholds
 
   -- each header is a codeword with the settled bits
   settled-word : (k : ℕ) → k < m → wordIn s k ≡ codeword (message (rateOf c) (typeOf c) (k + 1) 0)
@@ -162,7 +162,7 @@ module _ (u : Utterance) (s : List ℕ) (p : Premises u s) (codebook thresholds 
       by : Fate u s d q h → packetOf (u .indices) q ≡ packetIn s q
       by (whole a r) = sym a
       by (hit t r) =
-          let one : getD ns q 0 ≡ 1 = ap (λ (l : List ℕ). getD (pairNotes s l codebook thresholds) q 0) cut ∙ touched-note u s d codebook thresholds q h t in
+          let one : getD ns q 0 ≡ 1 = ap (λ (l : List ℕ). getD (receivedNotes s l codebook thresholds) q 0) cut ∙ touched-note u s d codebook thresholds q h t in
           let y : _≡_ {A = ℕ} 0 1 = sym z ∙ one in absurd (omega arith)
 
   is-sent : s ≡ imageOf u

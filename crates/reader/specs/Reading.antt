@@ -16,9 +16,10 @@ use Rattle.cutting.specs.Cutting.{Ending, whole, refused, cutting}
 use Rattle.header.specs.Message.{rateOf, typeOf, expOf}
 use Rattle.header.specs.declared.Header.the-variants.{Lost}
 use Rattle.settling.specs.Settling.{readings, settling, headerNote}
+use Rattle.carrier.specs.Carrier.{received, pairCount}
 use Rattle.settling.specs.declared.Settlement.{Settlement}
 use Rattle.settling.specs.declared.Settlement.the-variants as S
-use Rattle.pairs.specs.Pairs.{pairCount, allFrames, pairNotes}
+use Rattle.pairs.specs.Pairs.{allFrames, pairNotes}
 use Rattle.judging.specs.Judging.{badPairs}
 use Rattle.replacing.specs.Replacing.{replaced}
 use Rattle.replacing.specs.Speech.{speechOf, endOf}
@@ -39,9 +40,16 @@ answerValues (Refused r) = readingPlace r ∷ []
 
 -- ---- what a reading gives, of multiframes at places of the octets; ns are the notes of all pairs
 
+-- the pairs received: all frames in order, before replacing, and the notes of all pairs
+abbrev pub receivedFrames : List ℕ → List ℕ → List ℕ
+receivedFrames octets places = allFrames (received octets places) (pairCount places)
+
+abbrev pub receivedNotes : List ℕ → List ℕ → List ℤ → List ℤ → List ℕ
+receivedNotes octets places codebook thresholds = pairNotes (received octets places) (pairCount places) codebook thresholds
+
 -- the index buffer's part: all frames in order, seven octets each, after replacing
 abbrev pub indexPart : List ℕ → List ℕ → List ℕ → List ℕ
-indexPart octets places ns = replaced ns (allFrames octets places)
+indexPart octets places ns = replaced ns (receivedFrames octets places)
 
 -- the report's part: 13 octets a multiframe, a header note and then twelve pair notes
 unfoldable pub reportPart : List ℕ → List ℕ → List ℕ → ℕ → List ℕ
@@ -79,7 +87,7 @@ module _ (octets : List ℕ) (codebook thresholds : List ℤ) (index report : �
   unfoldable pub wholeVerdict : List ℕ → Verdict
   wholeVerdict places =
       when (eqb (length places) 0) (Refuse (Empty (length octets)))
-      (settledVerdict (length places) (badPairs (pairNotes octets places codebook thresholds)) (pairCount places) index report
+      (settledVerdict (length places) (badPairs (receivedNotes octets places codebook thresholds)) (pairCount places) index report
       (settling (readings octets places)))
 
   -- 12, 13 and 15, as cutting meets them
@@ -108,9 +116,9 @@ module _ (octets : List ℕ) (codebook thresholds : List ℤ) (index report : Li
   abbrev pub finished : List ℕ → Verdict → Outcome
   finished places (Refuse r) = outcome (Refused r) index report
   finished places (Accept c) =
-      outcome (Read (summary octets places (pairNotes octets places codebook thresholds) c))
-      (over index 0 (indexOctets * length places) (indexPart octets places (pairNotes octets places codebook thresholds)))
-      (over report 0 (reportOctets * length places) (reportPart octets places (pairNotes octets places codebook thresholds) c))
+      outcome (Read (summary octets places (receivedNotes octets places codebook thresholds) c))
+      (over index 0 (indexOctets * length places) (indexPart octets places (receivedNotes octets places codebook thresholds)))
+      (over report 0 (reportOctets * length places) (reportPart octets places (receivedNotes octets places codebook thresholds) c))
 
   unfoldable pub reading : Outcome
   reading = finished (cutting octets .places) (verdict octets codebook thresholds (length index) (length report))

@@ -16,13 +16,13 @@ use Rattle.cutting.specs.Cutting.{Ending, whole, refused, cutting}
 use Rattle.header.specs.Message.{rateOf, expOf}
 use Rattle.header.specs.declared.Header.the-variants.{Lost}
 use Rattle.settling.specs.Settling.{readings, settling, headerNote}
+use Rattle.carrier.specs.Carrier.{pairCount}
 use Rattle.settling.specs.declared.Settlement.{Settlement}
 use Rattle.settling.specs.declared.Settlement.the-variants as S
-use Rattle.pairs.specs.Pairs.{pairCount, allFrames, pairNotes}
 use Rattle.judging.specs.Judging.{badPairs}
 use Rattle.replacing.specs.Replacing.{pairsOctets}
 use Rattle.replacing.specs.Laws.{replaced-length}
-use Rattle.reader.specs.Reading.{indexPart, reportPart, summary, roomVerdict, settledVerdict, wholeVerdict, endVerdict, verdict, finished, outcome, reading}
+use Rattle.reader.specs.Reading.{indexPart, reportPart, summary, roomVerdict, settledVerdict, wholeVerdict, endVerdict, verdict, finished, outcome, reading, receivedFrames, receivedNotes}
 use Rattle.refusals.specs.declared.Reading.{Reading as Refusal}
 use Rattle.reader.specs.declared.Summary.{Summary}
 use Rattle.reader.specs.declared.Answer.{Answer}
@@ -92,28 +92,28 @@ module _ (octets : List ℕ) (codebook thresholds : List ℤ) (index report : �
     pub thresholds-size : length thresholds ≡ thresholdNumbers
     pub uncut : cutting octets .ending ≡ whole
     pub some : length places ≡ 0 → ⊥
-    pub fitting : Fitting (length places) (badPairs (pairNotes octets places codebook thresholds)) (pairCount places) index report (settling (readings octets places)) c
+    pub fitting : Fitting (length places) (badPairs (receivedNotes octets places codebook thresholds)) (pairCount places) index report (settling (readings octets places)) c
 
   -- the same of octets that are cut up at places
   abbrev WholeSays : List ℕ → Verdict → Type 0
   WholeSays ps (Refuse r) = Unit
   WholeSays ps (Accept c) =
-      (length ps ≡ 0 → ⊥) × Fitting (length ps) (badPairs (pairNotes octets ps codebook thresholds)) (pairCount ps) index report (settling (readings octets ps)) c
+      (length ps ≡ 0 → ⊥) × Fitting (length ps) (badPairs (receivedNotes octets ps codebook thresholds)) (pairCount ps) index report (settling (readings octets ps)) c
 
   whole-says : (ps : List ℕ) → WholeSays ps (wholeVerdict octets codebook thresholds index report ps)
   unfolding wholeVerdict
   whole-says ps =
       by-test (WholeSays ps) (eqb (length ps) 0) (λ h. tt) (λ h.
-      lift (settledVerdict (length ps) (badPairs (pairNotes octets ps codebook thresholds)) (pairCount ps) index report (settling (readings octets ps))) (eqb-false (length ps) 0 h)
-      (settled-says (length ps) (badPairs (pairNotes octets ps codebook thresholds)) (pairCount ps) index report (settling (readings octets ps))))
+      lift (settledVerdict (length ps) (badPairs (receivedNotes octets ps codebook thresholds)) (pairCount ps) index report (settling (readings octets ps))) (eqb-false (length ps) 0 h)
+      (settled-says (length ps) (badPairs (receivedNotes octets ps codebook thresholds)) (pairCount ps) index report (settling (readings octets ps))))
     where
       lift : (v : Verdict) → (length ps ≡ 0 → ⊥)
-          → SettledSays (length ps) (badPairs (pairNotes octets ps codebook thresholds)) (pairCount ps) index report (settling (readings octets ps)) v → WholeSays ps v
+          → SettledSays (length ps) (badPairs (receivedNotes octets ps codebook thresholds)) (pairCount ps) index report (settling (readings octets ps)) v → WholeSays ps v
       lift (Refuse r) n h = tt
       lift (Accept c) n h = (n, h)
 
   pub whole-accepted : (ps : List ℕ) (c : ℕ) → wholeVerdict octets codebook thresholds index report ps ≡ Accept c
-      → (length ps ≡ 0 → ⊥) × Fitting (length ps) (badPairs (pairNotes octets ps codebook thresholds)) (pairCount ps) index report (settling (readings octets ps)) c
+      → (length ps ≡ 0 → ⊥) × Fitting (length ps) (badPairs (receivedNotes octets ps codebook thresholds)) (pairCount ps) index report (settling (readings octets ps)) c
   whole-accepted ps c e = rw e at (whole-says ps)
 
   abbrev AcceptedBy : Verdict → Type 0
@@ -155,7 +155,7 @@ module _ (octets : List ℕ) (codebook thresholds : List ℤ) (index report : �
         eq-eqb (expOf c) 0 (f .usable .exp),
         le-ltb index (indexOctets * length places) (f .roomy .index-room),
         le-ltb report (reportOctets * length places) (f .roomy .report-room),
-        ne-eqb (badPairs (pairNotes octets places codebook thresholds)) (pairCount places) (f .roomy .not-all),
+        ne-eqb (badPairs (receivedNotes octets places codebook thresholds)) (pairCount places) (f .roomy .not-all),
       )
 
 -- ---- the one outcome of each input
@@ -183,9 +183,9 @@ module _ (octets : List ℕ) (codebook thresholds : List ℤ) (index report : Li
   -- success lays both parts over the buffers' fronts
   pub accepted-lays : (c : ℕ) → verdict octets codebook thresholds (length index) (length report) ≡ Accept c
       → reading octets codebook thresholds index report
-      ≡ outcome (Read (summary octets (cutting octets .places) (pairNotes octets (cutting octets .places) codebook thresholds) c))
-      (over index 0 (indexOctets * length (cutting octets .places)) (indexPart octets (cutting octets .places) (pairNotes octets (cutting octets .places) codebook thresholds)))
-      (over report 0 (reportOctets * length (cutting octets .places)) (reportPart octets (cutting octets .places) (pairNotes octets (cutting octets .places) codebook thresholds) c))
+      ≡ outcome (Read (summary octets (cutting octets .places) (receivedNotes octets (cutting octets .places) codebook thresholds) c))
+      (over index 0 (indexOctets * length (cutting octets .places)) (indexPart octets (cutting octets .places) (receivedNotes octets (cutting octets .places) codebook thresholds)))
+      (over report 0 (reportOctets * length (cutting octets .places)) (reportPart octets (cutting octets .places) (receivedNotes octets (cutting octets .places) codebook thresholds) c))
   unfolding reading
   accepted-lays c e = rw e
 
@@ -193,7 +193,7 @@ module _ (octets : List ℕ) (codebook thresholds : List ℤ) (index report : Li
 module _ (octets places ns : List ℕ) where
   -- 168 octets for each multiframe
   pub length-index : length ns ≡ pairCount places → length (indexPart octets places ns) ≡ indexOctets * length places
-  length-index e = replaced-length ns (allFrames octets places) ∙ ap pairsOctets e ∙ omega arith
+  length-index e = replaced-length ns (receivedFrames octets places) ∙ ap pairsOctets e ∙ omega arith
 
   -- 13 octets for each multiframe
   pub length-report : (c : ℕ) → length ns ≡ pairCount places → length (reportPart octets places ns c) ≡ reportOctets * length places

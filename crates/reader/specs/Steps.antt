@@ -19,11 +19,11 @@ use Rattle.header.specs.Message.{rateOf, typeOf, expOf}
 use Rattle.header.specs.Reading.{reading as readHeader}
 use Rattle.header.specs.declared.Header.{Header}
 use Rattle.header.specs.declared.Header.the-variants.{Lost}
-use Rattle.settling.specs.Settling.{headerWord, readings, settling, headerNote}
+use Rattle.settling.specs.Settling.{readings, settling, headerNote}
 use Rattle.settling.specs.declared.Settlement.{Settlement}
 use Rattle.settling.specs.Stored.{opened, openAll, packAll, packed, Mended, mended, opened-packed, stored-back}
+use Rattle.carrier.specs.Carrier.{wordAt, inPlaces, received, pairCount}
 use Rattle.settling.specs.declared.Settlement.the-variants as S
-use Rattle.pairs.specs.Pairs.{pairCount, allFrames, pairNotes}
 use Rattle.pairs.specs.Laws.{length-all, length-notes, over-all}
 use borrow.Author.Tests.{eq-eqb, ne-eqb}
 use Rattle.judging.specs.Judging.{badPairs}
@@ -33,7 +33,7 @@ use Rattle.cutting.specs.declared.Cut.the-variants as C
 use Rattle.replacing.specs.Replacing.{pairsOctets, replaced}
 use Rattle.replacing.specs.Laws.{same-replaced}
 use Rattle.replacing.specs.Speech.{lastNonzero, speechOf, endOf}
-use Rattle.reader.specs.Reading.{answerNumber, answerValues, indexPart, reportPart, summary, roomVerdict, settledVerdict, wholeVerdict, verdict, Outcome, outcome, finished, reading}
+use Rattle.reader.specs.Reading.{answerNumber, answerValues, indexPart, reportPart, summary, roomVerdict, settledVerdict, wholeVerdict, verdict, Outcome, outcome, finished, reading, receivedFrames, receivedNotes}
 use Rattle.reader.specs.ReadingLaws.{length-index, whole-accepted}
 use Rattle.refusals.specs.declared.Reading.the-variants.{WrongTables, Empty, Unsettled, Unfit, IndexShort, ReportShort, AllBad}
 use Rattle.reader.specs.declared.Summary.{Summary}
@@ -134,15 +134,15 @@ section-on headers ns l m n c k room fits em en =
 -- ---- the headers that read_headers stored
 module _ (octets places headers : List ℕ) (e : headers ≡ packAll octets places (length places)) where
   pub stored-size : length headers ≡ length places
-  stored-size = ap length e ∙ length-each (λ k. packed (readHeader (headerWord octets (getD places k 0)))) (length places)
+  stored-size = ap length e ∙ length-each (λ k. packed (readHeader (wordAt octets (inPlaces places) k))) (length places)
 
-  pub stored-at : (k : ℕ) → k < length places → opened (getD headers k 0) ≡ readHeader (headerWord octets (getD places k 0))
+  pub stored-at : (k : ℕ) → k < length places → opened (getD headers k 0) ≡ readHeader (wordAt octets (inPlaces places) k)
   stored-at k h =
-      ap (λ (l : List ℕ). opened (getD l k 0)) e ∙ ap opened (each-at (λ k. packed (readHeader (headerWord octets (getD places k 0)))) (length places) k 0 h)
-      ∙ opened-packed (readHeader (headerWord octets (getD places k 0))) (mended (headerWord octets (getD places k 0)))
+      ap (λ (l : List ℕ). opened (getD l k 0)) e ∙ ap opened (each-at (λ k. packed (readHeader (wordAt octets (inPlaces places) k))) (length places) k 0 h)
+      ∙ opened-packed (readHeader (wordAt octets (inPlaces places) k)) (mended (wordAt octets (inPlaces places) k))
 
   pub stored-mended : (k : ℕ) → k < length headers → Mended (opened (getD headers k 0))
-  stored-mended k h = subst Mended (sym (stored-at k (omega (arith, stored-size)))) (mended (headerWord octets (getD places k 0)))
+  stored-mended k h = subst Mended (sym (stored-at k (omega (arith, stored-size)))) (mended (wordAt octets (inPlaces places) k))
 
   pub sections-are : (ns : List ℕ) (c : ℕ) → sections headers ns c (length headers) ≡ reportPart octets places ns c
   unfolding section reportPart readings
@@ -150,21 +150,21 @@ module _ (octets places headers : List ℕ) (e : headers ≡ packAll octets plac
       ap (sections headers ns c) stored-size
       ∙ same-joined (section headers ns c) (λ k. headerNote c k (getD (readings octets places) k Lost) ∷ part (firstPair k) multiframePairs ns) (length places) (λ k h.
       ap (λ (x : Header). headerNote c k x ∷ part (firstPair k) multiframePairs ns)
-      (stored-at k h ∙ sym (each-at (λ k. readHeader (headerWord octets (getD places k 0))) (length places) k Lost h)))
+      (stored-at k h ∙ sym (each-at (λ k. readHeader (wordAt octets (inPlaces places) k)) (length places) k Lost h)))
 
 -- ---- the index octets, taken apart and then replaced
 module _ (octets places ns l m n : List ℕ) (size : length ns ≡ pairCount places) (room : indexOctets * length places ≤ length l)
-    (em : m ≡ over l 0 (pairFrames * frameIndices * pairCount places) (allFrames octets places)) where
+    (em : m ≡ over l 0 (pairFrames * frameIndices * pairCount places) (receivedFrames octets places)) where
   pub same-octets : pairsOctets (length ns) ≡ pairFrames * frameIndices * pairCount places
   same-octets = ap pairsOctets size ∙ omega arith
 
   pub replaced-same : Good ns → replaced ns m ≡ indexPart octets places ns
   replaced-same g =
       ap (replaced ns) em
-      ∙ same-replaced ns g (over l 0 (14 * pairCount places) (allFrames octets places)) (allFrames octets places) (λ t h z.
+      ∙ same-replaced ns g (over l 0 (14 * pairCount places) (receivedFrames octets places)) (receivedFrames octets places) (λ t h z.
       let u : t ≡ 0 + t = omega arith in
-      ap (λ (k : ℕ). getD (over l 0 (14 * pairCount places) (allFrames octets places)) k 0) u
-      ∙ over-in l (allFrames octets places) 0 (14 * pairCount places) (omega arith) (length-all octets places) t 0 (omega (arith, same-octets)))
+      ap (λ (k : ℕ). getD (over l 0 (14 * pairCount places) (receivedFrames octets places)) k 0) u
+      ∙ over-in l (receivedFrames octets places) 0 (14 * pairCount places) (omega arith) (length-all (received octets places) (pairCount places)) t 0 (omega (arith, same-octets)))
 
   pub index-is : Good ns → n ≡ over m 0 (pairsOctets (length ns)) (replaced ns m) → n ≡ over l 0 (indexOctets * length places) (indexPart octets places ns)
   index-is g en =
@@ -173,7 +173,7 @@ module _ (octets places ns l m n : List ℕ) (size : length ns ≡ pairCount pla
       en ∙ ap₂ (λ (k : ℕ) (x : List ℕ). over m 0 k x) w (replaced-same g)
       ∙ ap (λ (x : List ℕ). indexPart octets places ns ++ x)
       (ap (λ (x : List ℕ). drop (0 + 168 * length places) x) em
-      ∙ drop-over l (allFrames octets places) 0 (14 * pairCount places) (omega arith) (length-all octets places) (0 + 168 * length places) (omega arith))
+      ∙ drop-over l (receivedFrames octets places) 0 (14 * pairCount places) (omega arith) (length-all (received octets places) (pairCount places)) (0 + 168 * length places) (omega arith))
 
 -- ---- speech and end look at the front of the index octets only
 module _ (l f : List ℕ) (w : ℕ) (size : length f ≡ w) where
@@ -230,7 +230,7 @@ module _ (octets : List ℕ) (codebook thresholds : List ℤ) (index report : �
     decided-unsettled e = rw (ne-eqb (length places) 0 some, settles, e)
 
     pub decided-settled : (c : ℕ) (v : Verdict) → s ≡ S.Settled c
-        → v ≡ settledVerdict (length places) (badPairs (pairNotes octets places codebook thresholds)) (pairCount places) index report (S.Settled c)
+        → v ≡ settledVerdict (length places) (badPairs (receivedNotes octets places codebook thresholds)) (pairCount places) index report (S.Settled c)
         → v ≡ wholeVerdict octets codebook thresholds index report places
     unfolding wholeVerdict
     decided-settled c v e ev = rw (ne-eqb (length places) 0 some, settles, e) ev
@@ -259,7 +259,7 @@ summary-is octets places ns c rate kind speech bad end l n some size en er ek es
 -- ---- an accepted reading can be written
 pub record Ready (octets : List ℕ) (codebook thresholds : List ℤ) (index report : ℕ) (places : List ℕ) : Type 0 where
   pub some : 1 ≤ length places
-  pub good : Good (pairNotes octets places codebook thresholds)
+  pub good : Good (receivedNotes octets places codebook thresholds)
   pub index-room : indexOctets * length places ≤ index
   pub report-room : reportOctets * length places ≤ report
 
@@ -267,8 +267,8 @@ pub ready : (octets : List ℕ) (codebook thresholds : List ℤ) (index report :
     → wholeVerdict octets codebook thresholds index report places ≡ Accept c → Ready octets codebook thresholds index report places
 ready octets codebook thresholds index report places c e =
     let h = whole-accepted octets codebook thresholds index report places c e in
-    let ns = pairNotes octets places codebook thresholds in
-    let n = length-notes octets places codebook thresholds in
+    let ns = receivedNotes octets places codebook thresholds in
+    let n = length-notes (received octets places) (pairCount places) codebook thresholds in
     let roomy = h .1 .roomy in
     record {
       some = positive (length places) (h .0);
@@ -287,7 +287,7 @@ module _ (octets : List ℕ) (codebook thresholds : List ℤ) (index report plac
   pub finished-refused : (r : Refusal) → v ≡ Refuse r → outcome (Refused r) index report ≡ finished octets codebook thresholds index report places v
   finished-refused r e = rw e
 
-  pub finished-read : (c : ℕ) (s : Summary) (i r ns : List ℕ) → v ≡ Accept c → ns ≡ pairNotes octets places codebook thresholds → s ≡ summary octets places ns c
+  pub finished-read : (c : ℕ) (s : Summary) (i r ns : List ℕ) → v ≡ Accept c → ns ≡ receivedNotes octets places codebook thresholds → s ≡ summary octets places ns c
       → i ≡ over index 0 (indexOctets * length places) (indexPart octets places ns) → r ≡ over report 0 (reportOctets * length places) (reportPart octets places ns c)
       → outcome (Read s) i r ≡ finished octets codebook thresholds index report places v
   finished-read c s i r ns ev en es ei er = rw (ev, es, ei, er, en)

@@ -13,10 +13,10 @@ ghost use Rattle.lists.specs.Parts.{part, over};
 ghost use Rattle.layout.specs.Layout.{multiframePairs, mostMultiframes, indexOctets, reportOctets, codebookNumbers, thresholdNumbers};
 ghost use Rattle.cutting.specs.Laws.{Placed};
 ghost use Rattle.settling.specs.Stored.{packAll, Mended, opened};
-ghost use Rattle.pairs.specs.Pairs.{pairCount, pairNotes};
+ghost use Rattle.carrier.specs.Carrier.{pairCount};
 ghost use Rattle.judging.specs.Judging.{badPairs};
 ghost use Rattle.judging.specs.Laws.{Good};
-ghost use Rattle.reader.specs.Reading.{answerNumber, answerValues, indexPart, reportPart, summary, wholeVerdict, settledVerdict, outcome, finished, reading};
+ghost use Rattle.reader.specs.Reading.{answerNumber, answerValues, indexPart, reportPart, summary, wholeVerdict, settledVerdict, outcome, finished, reading, receivedNotes};
 ghost use Rattle.reader.specs.Steps.{earlyVerdict, Kept, section, sections};
 ghost use Rattle.settling.specs.declared.Settlement.the-variants.{Settled};
 
@@ -84,8 +84,8 @@ fn judge_all(
 ) -> usize
     requires { ⌜ Placed (now octets) (now places) × (length (now notes) ≡ pairCount (now places)) ⌝ }
     requires { ⌜ (length (now codebook) ≡ codebookNumbers) × (length (now thresholds) ≡ thresholdNumbers) ⌝ }
-    ensures count { λ r. ⌜ r ≡ badPairs (pairNotes (now (octets .entry)) (now (places .entry)) (now (codebook .entry)) (now (thresholds .entry))) ⌝ }
-    ensures notes { λ _. ⌜ now (notes .exit) ≡ pairNotes (now (octets .entry)) (now (places .entry)) (now (codebook .entry)) (now (thresholds .entry)) ⌝ }
+    ensures count { λ r. ⌜ r ≡ badPairs (receivedNotes (now (octets .entry)) (now (places .entry)) (now (codebook .entry)) (now (thresholds .entry))) ⌝ }
+    ensures notes { λ _. ⌜ now (notes .exit) ≡ receivedNotes (now (octets .entry)) (now (places .entry)) (now (codebook .entry)) (now (thresholds .entry)) ⌝ }
 {
     pairs::note_crcs(octets, places, notes);
     pairs::judge(octets, places, codebook, thresholds, notes);
@@ -105,8 +105,8 @@ fn decide_pairs(
 ) -> Verdict
     requires { ⌜ Placed (now octets) (now places) × (length (now notes) ≡ pairCount (now places)) × (length (now places) ≤ mostMultiframes) ⌝ }
     requires { ⌜ (length (now codebook) ≡ codebookNumbers) × (length (now thresholds) ≡ thresholdNumbers) ⌝ }
-    ensures answer { λ r. ⌜ r ≡ settledVerdict (length (now (places .entry))) (badPairs (pairNotes (now (octets .entry)) (now (places .entry)) (now (codebook .entry)) (now (thresholds .entry)))) (pairCount (now (places .entry))) index report (Settled common) ⌝ }
-    ensures notes { λ r. ⌜ Kept (pairNotes (now (octets .entry)) (now (places .entry)) (now (codebook .entry)) (now (thresholds .entry))) (now (notes .exit)) r ⌝ }
+    ensures answer { λ r. ⌜ r ≡ settledVerdict (length (now (places .entry))) (badPairs (receivedNotes (now (octets .entry)) (now (places .entry)) (now (codebook .entry)) (now (thresholds .entry)))) (pairCount (now (places .entry))) index report (Settled common) ⌝ }
+    ensures notes { λ r. ⌜ Kept (receivedNotes (now (octets .entry)) (now (places .entry)) (now (codebook .entry)) (now (thresholds .entry))) (now (notes .exit)) r ⌝ }
 {
     match early(common, places.len(), index, report) {
         Verdict::Refuse(r) => Verdict::Refuse(r),
@@ -135,7 +135,7 @@ fn decide(
     requires { ⌜ (length (now codebook) ≡ codebookNumbers) × (length (now thresholds) ≡ thresholdNumbers) ⌝ }
     ensures answer { λ r. ⌜ r ≡ wholeVerdict (now (octets .entry)) (now (codebook .entry)) (now (thresholds .entry)) index report (now (places .entry)) ⌝ }
     ensures headers { λ r. ⌜ Kept (packAll (now (octets .entry)) (now (places .entry)) (length (now (places .entry)))) (now (headers .exit)) r ⌝ }
-    ensures notes { λ r. ⌜ Kept (pairNotes (now (octets .entry)) (now (places .entry)) (now (codebook .entry)) (now (thresholds .entry))) (now (notes .exit)) r ⌝ }
+    ensures notes { λ r. ⌜ Kept (receivedNotes (now (octets .entry)) (now (places .entry)) (now (codebook .entry)) (now (thresholds .entry))) (now (notes .exit)) r ⌝ }
 {
     if places.len() == 0 {
         return Verdict::Refuse(Reading::Empty {

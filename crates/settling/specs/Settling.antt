@@ -4,12 +4,10 @@ use Prim.Native.Nat.{ℕ, _+_, _%_}
 use mathlib.Core.List.{List, [], _∷_}
 use mathlib.Core.Bool.{Bool, true, false}
 use lib.Dec.{eqb}
-use lib.ListN.{length, getD}
+use lib.ListN.{length}
 use Rattle.lists.specs.Tests.{when}
-use Rattle.lists.specs.Parts.{part}
 use Rattle.lists.specs.Rows.{each}
-use Rattle.layout.specs.Layout.{syncOctets, headerOctets}
-use Rattle.bits.specs.Bits.{value, bits}
+use Rattle.carrier.specs.Carrier.{wordAt, inPlaces}
 use Rattle.header.specs.Message.{countOf, commonBits}
 use Rattle.header.specs.Reading.{reading}
 use Rattle.header.specs.declared.Header.{Header}
@@ -19,13 +17,9 @@ use Rattle.settling.specs.declared.Settlement.the-variants.{Settled, Uns
 
 -- ---- the headers of the multiframes at places of the octets
 
--- the header of a multiframe stands behind its sync: 32 bits, the first sent the least significant of a word
-abbrev pub headerWord : List ℕ → ℕ → ℕ
-headerWord octets place = value (bits (part (place + syncOctets) headerOctets octets))
-
 -- every header's reading, in order
 unfoldable pub readings : List ℕ → List ℕ → List Header
-readings octets places = each (λ k. reading (headerWord octets (getD places k 0))) (length places)
+readings octets places = each (λ k. reading (wordAt octets (inPlaces places) k)) (length places)
 
 -- ---- settings: common bits are SampRate, feType and EXP, a message with its counter 0
 

@@ -8,17 +8,12 @@ use mathlib.Core.Bool.{Bool, true, false}
 use lib.Dec.{eqb}
 use lib.ListN.{length, getD, set, drop}
 use lib.Seq.{drop-cons, drop-length}
-use native.Mathlib.Nat.{div-one, mod-lt}
-use lib.Bits.{bitAnd, and-mask}
-use lib.Pow.{pow-pos}
 use native.Mathlib.Numerals.{add-one}
 use native.Mathlib.Omega.{arith}
 use borrow.Author.Tests.{eq-eqb, ne-eqb}
 use Rattle.lists.specs.Tests.{when}
-use Rattle.lists.specs.Parts.{part, over}
-use Rattle.layout.specs.Layout.{multiframeOctets, syncOctets}
-use Rattle.bits.specs.Bits.{value, bits}
-use Rattle.bits.specs.Laws.{in-word, bits-part}
+use Rattle.lists.specs.Parts.{over}
+use Rattle.carrier.specs.Carrier.{wordAt, inPlaces}
 use Rattle.lists.specs.Rows.{each, length-each, each-at, same-each, each-more}
 use Rattle.header.specs.Message.{countOf, commonBits}
 use Rattle.header.specs.Reading.{mendable, ReadAs, reading}
@@ -26,7 +21,7 @@ use Rattle.header.specs.Reading.Laws.{reads}
 use Rattle.header.specs.declared.Decoded.{Decoded}
 use Rattle.header.specs.declared.Header.{Header}
 use Rattle.header.specs.declared.Header.the-variants.{Codeword, Lost}
-use Rattle.settling.specs.Settling.{headerWord, readings, among, firstAgreeing, onlyOne, orElse, headerNote}
+use Rattle.settling.specs.Settling.{readings, among, firstAgreeing, onlyOne, orElse, headerNote}
 use Rattle.settling.specs.declared.Settlement.{Settlement}
 use Rattle.settling.specs.declared.Settlement.the-variants.{Settled, Unsettled}
 
@@ -65,7 +60,7 @@ unfoldable pub openAll : List ℕ → List Header
 openAll l = each (λ k. opened (getD l k 0)) (length l)
 
 abbrev pub packAll : List ℕ → List ℕ → ℕ → List ℕ
-packAll octets places n = each (λ k. packed (reading (headerWord octets (getD places k 0)))) n
+packAll octets places n = each (λ k. packed (reading (wordAt octets (inPlaces places) k))) n
 
 pub length-open : (l : List ℕ) → length (openAll l) ≡ length l
 unfolding openAll
@@ -79,11 +74,11 @@ open-at l k h = each-at (λ k. opened (getD l k 0)) (length l) k Lost h
 pub stored-back : (octets places : List ℕ) → openAll (packAll octets places (length places)) ≡ readings octets places
 unfolding openAll readings
 stored-back octets places =
-    let f : ℕ → ℕ = λ k. packed (reading (headerWord octets (getD places k 0))) in
+    let f : ℕ → ℕ = λ k. packed (reading (wordAt octets (inPlaces places) k)) in
     let m = length places in
     ap (each (λ k. opened (getD (each f m) k 0))) (length-each f m)
-    ∙ same-each (λ k. opened (getD (each f m) k 0)) (λ k. reading (headerWord octets (getD places k 0))) m (λ k h.
-    ap opened (each-at f m k 0 h) ∙ opened-packed (reading (headerWord octets (getD places k 0))) (mended (headerWord octets (getD places k 0))))
+    ∙ same-each (λ k. opened (getD (each f m) k 0)) (λ k. reading (wordAt octets (inPlaces places) k)) m (λ k h.
+    ap opened (each-at f m k 0 h) ∙ opened-packed (reading (wordAt octets (inPlaces places) k)) (mended (wordAt octets (inPlaces places) k)))
 
 -- ---- settling, one header at a time
 
@@ -191,22 +186,10 @@ pub note-lost : (c k : ℕ) (h : Header) → h ≡ Lost → 3 ≡ headerNote c k
 unfolding headerNote
 note-lost c k h e = rw e
 
--- ---- a header's word is the low half of eight octets
-pub low-half : (x : ℕ) → bitAnd x 4294967295 < 2 ^ 32
-low-half x = rw (and-mask x 32) (mod-lt x (pow-pos 32))
-
-pub word-is : (s : List ℕ) (place x : ℕ) → place + multiframeOctets ≤ length s → x ≡ value (part (8 * (place + syncOctets)) 64 (bits s))
-    → bitAnd x 4294967295 ≡ headerWord s place
-word-is s place x h e =
-    let a : x / 2 ^ 0 ≡ x = div-one x in
-    let z : 8 * (place + 2) + 0 ≡ 8 * (place + 2) = omega arith in
-    and-mask x 32 ∙ ap (λ (n : ℕ). n % 2 ^ 32) (sym a) ∙ in-word s (place + 2) 0 32 x (omega arith) (omega arith) e
-    ∙ ap (λ (n : ℕ). value (part n 32 (bits s))) z ∙ ap value (sym (bits-part (place + 2) 4 s (omega arith)))
-
 -- ---- one header more is stored
-pub stored-on : (octets places l m : List ℕ) (k x : ℕ) → k < length l → x ≡ packed (reading (headerWord octets (getD places k 0)))
+pub stored-on : (octets places l m : List ℕ) (k x : ℕ) → k < length l → x ≡ packed (reading (wordAt octets (inPlaces places) k))
     → m ≡ over l 0 k (packAll octets places k) → length m ≡ length l → set m k x ≡ over l 0 (k + 1) (packAll octets places (k + 1))
-stored-on octets places l m k x h e em size = each-more l m k (λ k. packed (reading (headerWord octets (getD places k 0)))) x h e size em
+stored-on octets places l m k x h e em size = each-more l m k (λ k. packed (reading (wordAt octets (inPlaces places) k))) x h e size em
 
 -- ---- what the code's branches find
 module _ (l : List ℕ) (k : ℕ) (h : k < length l) (r : Header) (e : r ≡ opened (getD l k 0)) where

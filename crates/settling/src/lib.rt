@@ -1,16 +1,14 @@
 // Settings and header notes: every header of an utterance read once, what the readings settle, and what the report says of each.
 use header::Decoded;
 use header::Header;
-use layout::MultiframeLayout;
 ghost use mathlib.Core.Path.{_≡_};
 ghost use mathlib.Core.List.{[]};
 ghost use Prim.Native.Nat.{_+_, _≤_, _<_};
 ghost use lib.ListN.{length, getD};
 ghost use Rattle.lists.specs.Parts.{over};
-ghost use Rattle.layout.specs.Layout.{multiframeOctets};
 ghost use Rattle.cutting.specs.Laws.{Placed};
 ghost use Rattle.header.specs.declared.Header.the-variants.{Lost};
-ghost use Rattle.settling.specs.Settling.{headerWord, among, firstAgreeing, onlyOne, settling, headerNote};
+ghost use Rattle.settling.specs.Settling.{among, firstAgreeing, onlyOne, settling, headerNote};
 ghost use Rattle.settling.specs.Stored.{packed, opened, Mended, openAll, packAll, seenBefore, settledBy, hasCommon, stepNote, commonNote};
 
 // What the headers settle: common bits, SampRate, feType and EXP, as a message with its counter 0; or nothing.
@@ -33,14 +31,6 @@ const LOST: u8 = 3;
 const OUT_OF_STEP: u8 = 4;
 
 const UNLIKE_SETTLED: u8 = 8;
-
-// The header of the multiframe at a place, as a word. It asks for a whole multiframe, which cutting has found.
-fn header_word(octets: &[u8], place: usize) -> u32
-    requires { ⌜ place + multiframeOctets ≤ length (now octets) ⌝ }
-    ensures { λ r. ⌜ r ≡ headerWord (now (octets .entry)) place ⌝ }
-{
-    (bits::word(octets, place + MultiframeLayout::SYNC) & 0xffffffff) as u32
-}
 
 fn pack_reading(h: Header) -> u32
     requires { ⌜ Mended h ⌝ }
@@ -75,7 +65,7 @@ pub fn read_headers(octets: &[u8], places: &[usize], headers: &mut [u32])
     let mut k = 0;
     while k < places.len() {
         let place = places[k];
-        headers[k] = pack_reading(header::read(header_word(octets, place)));
+        headers[k] = pack_reading(header::read(carrier::header_word(octets, place)));
         k += 1;
     }
 }

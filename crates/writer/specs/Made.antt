@@ -16,23 +16,24 @@ use Rattle.lists.specs.Rows.{joined, length-joined, joined-part, same-joined}
 use Rattle.layout.specs.Layout.{packetBits, multiframePairs, multiframeOctets, syncOctets, headerOctets, streamOctets, multiframeOf, packetStart, sync}
 use Rattle.bits.specs.Bits.{value, bits, field, octets, Fits}
 use Rattle.bits.specs.Laws.{length-octets, length-field, value-field, field-value, length-bits, bits-octets, octets-bits, fits-numbers}
+use Rattle.carrier.specs.Carrier.{syncFrom, headerFrom, wordAt, streamAt, streamPacket, packetAt, inRow}
 use Rattle.writer.specs.Writing.{at}
 
 -- ---- multiframes one behind the other in octets: the sync and the header word of multiframe k, and the packet of pair q
 abbrev pub syncIn : List ℕ → ℕ → List ℕ
-syncIn s k = part (multiframeOctets * k) syncOctets s
+syncIn s k = syncFrom s (inRow k)
 
 abbrev pub headerIn : List ℕ → ℕ → List ℕ
-headerIn s k = part (multiframeOctets * k + syncOctets) headerOctets s
+headerIn s k = headerFrom s (inRow k)
 
 abbrev pub wordIn : List ℕ → ℕ → ℕ
-wordIn s k = value (bits (headerIn s k))
+wordIn s k = wordAt s inRow k
 
 abbrev pub streamIn : List ℕ → ℕ → List ℕ
-streamIn s k = part (multiframeOctets * k + syncOctets + headerOctets) streamOctets s
+streamIn s k = streamAt s inRow k
 
 abbrev pub packetIn : List ℕ → ℕ → List Bool
-packetIn s q = part (packetStart q) packetBits (bits (streamIn s (multiframeOf q)))
+packetIn s q = packetAt s inRow q
 
 -- a part of a part
 pub part-within : {A : Type 0} (l : List A) (b w a v : ℕ) → b + w ≤ length l → a + v ≤ w → part (b + a) v l ≡ part a v (part b w l)
@@ -104,7 +105,7 @@ module _ (w : ℕ → ℕ) (x : ℕ → List Bool) where
         ap (λ (i : ℕ). part i streamOctets (made w x m)) z ∙ inside (syncOctets + headerOctets) streamOctets (omega arith) ∙ framed-stream (w k) (x k)
 
   pub made-packet : (m q : ℕ) → q < multiframePairs * m → length (x (multiframeOf q)) ≡ 8 * streamOctets
-      → packetIn (made w x m) q ≡ part (packetStart q) packetBits (x (multiframeOf q))
+      → packetIn (made w x m) q ≡ streamPacket (x (multiframeOf q)) q
   made-packet m q h l =
       let k : q / 12 < m = omega arith in
       ap (λ (s : List ℕ). part (packetStart q) packetBits (bits s)) (made-stream m (q / 12) k)

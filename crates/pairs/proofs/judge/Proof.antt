@@ -1,110 +1,37 @@
--- `judge` meets its contract: each turn judges one pair (`judged-on`). Assumes nothing.
-use Prim.Native.Nat.{_-_}
+-- `judge` meets its contract: the pairs are judged, or no CRC failed (`none-failed`). Assumes nothing.
 use mathlib.Core.Path.{sym, ap, _∙_}
-use mathlib.Core.Bool.{Bool, false}
-use native.Mathlib.Omega.{arith}
-use lib.ListN.{length}
-use Rattle.lists.specs.Tests.{when}
-use Rattle.pairs.specs.Pairs.{pairCount, pairOdd, pairNotes}
-use Rattle.pairs.specs.Laws.{Judged, length-crcs, judging-begun, judged-on, judging-done}
+use denote.Ref.{now}
+use Rattle.carrier.specs.Carrier.{received, pairCount}
+use Rattle.judging.specs.Judging.{badPairs}
+use Rattle.pairs.specs.Laws.{none-failed}
 use borrow.Author.Needs.{needs}
 use Rattle.pairs.proofs.judge.Statement.{statement}
 use Rattle.pairs.proofs.judge.Tie as tie
 
-abbrev Inv-loop : tie.InvT-loop
-Inv-loop octets places codebook thresholds notes₀ before₀ q₀ notes before q = Judged octets places codebook thresholds (pairCount places) notes before q
+bad-pairs-requires : tie.Need-bad-pairs-requires
+bad-pairs-requires c κs = search needs
 
-abbrev μ-loop : tie.MeasureT-loop
-μ-loop octets places codebook thresholds notes₀ before₀ q₀ notes before q = pairCount places - q
+judge-each-requires : tie.Need-judge-each-requires
+judge-each-requires c κs = search needs
 
-loop-holds : tie.Need-loop-holds Inv-loop μ-loop
-loop-holds c =
-    let st = c .before .before .before in
-    judging-begun _ _ _ _ _ _ (st .pre .0 .1)
+same-length : tie.Need-same-length
+same-length c = search needs
 
-slice-read-is-bad : tie.Need-slice-read-is-bad Inv-loop μ-loop
-slice-read-is-bad c =
-    let a = c .before .before in
-    omega arith
+returns : tie.Need-returns
+returns c = search needs
 
-is-bad-requires : tie.Need-is-bad-requires Inv-loop μ-loop
-is-bad-requires c κs = search needs
+same-length-2 : tie.Need-same-length-2
+same-length-2 c = search needs
 
-next-failed-requires : tie.Need-next-failed-requires Inv-loop μ-loop
-next-failed-requires c κs =
-    let a = c .before .before .before .before in
-    omega arith
-
-undecided-requires : tie.Need-undecided-requires Inv-loop μ-loop
-undecided-requires c κs = search needs
-
-is-odd-if-requires : tie.Need-is-odd-if-requires Inv-loop μ-loop
-is-odd-if-requires c κs =
-    let a = c .before .before .before .before .before .before in
-    let st = a .before .before .before .before in
-    ((st .pre .0 .0, omega (arith, a .loop .inv .size)), st .pre .1)
-
-note-requires : tie.Need-note-requires Inv-loop μ-loop
-note-requires c κs = search needs
-
-slice-write-notes : tie.Need-slice-write-notes Inv-loop μ-loop
-slice-write-notes c = search needs
-
-is-bad-requires-2 : tie.Need-is-bad-requires-2 Inv-loop μ-loop
-is-bad-requires-2 c κs = search needs
-
-add-q : tie.Need-add-q Inv-loop μ-loop
-add-q c = search needs
-
-loop-less : tie.Need-loop-less Inv-loop μ-loop
-loop-less c =
-    let a = c .before .before .before .before .before .before .before .before .before in
-    omega (arith, a .loop .inv .size)
-
-loop-again : tie.Need-loop-again Inv-loop μ-loop
-loop-again c =
-    let n = c .before in
-    let o = n .before in
-    let u = o .before in
-    let f = u .before in
-    let b = f .before .before in
-    let a = b .before .before .before in
-    let st = a .before .before .before .before in
-    let g = judged-on (st .args .octets .now) (st .args .places .now) (st .args .codebook .now) (st .args .thresholds .now) (pairCount (st .args .places .now)) (a .loop .notes) (a .loop .before) (a .loop .q) (a .loop .inv)
-    (omega (arith, a .loop .inv .size)) (b .is-bad .result) (o .is-odd-if .result) (f .next-failed .result) (n .note .result) (b .is-bad .ensures) (f .next-failed .ensures)
-    (o .is-odd-if .ensures ∙ ap (λ (t : Bool). when t (pairOdd (st .args .octets .now) (st .args .places .now) (st .args .codebook .now) (st .args .thresholds .now) (a .loop .q)) false) (u .undecided .ensures)) (n .note .ensures) in
-    rw (c .is-bad2 .ensures) g
-
-same-length : tie.Need-same-length Inv-loop μ-loop
-same-length c =
-    let a = c .before in
-    let st = a .before .before .before .before in
-    a .loop .inv .size ∙ sym (ap length (st .pre .0 .1) ∙ length-crcs (st .args .octets .now) (st .args .places .now) (pairCount (st .args .places .now)))
-
-returns : tie.Need-returns Inv-loop μ-loop
-unfolding pairNotes
-returns c =
-    let a = c .before in
-    let st = a .before .before .before .before in
-    judging-done _ _ _ _ _ _ _ _ (a .loop .inv) (omega (arith, a .loop .inv .size, a .loop .inv .within))
+returns-2 : tie.Need-returns-2
+returns-2 c =
+    let b = c .before in
+    let st = b .before .before .before .before .before in
+    let e = st .pre .0 .1 in
+    e ∙ none-failed (received (now (st .args .octets)) (now (st .args .places))) (pairCount (now (st .args .places))) (now (st .args .codebook)) (now (st .args .thresholds))
+    (sym (ap badPairs e) ∙ sym (b .bad-pairs .ensures) ∙ c .if1 .left)
 
 pub judge-spec : {M : Type 1} → statement M
 judge-spec =
     tie.close
-    (tie.spec
-    Inv-loop
-    μ-loop
-    loop-holds
-    slice-read-is-bad
-    is-bad-requires
-    next-failed-requires
-    undecided-requires
-    is-odd-if-requires
-    note-requires
-    slice-write-notes
-    is-bad-requires-2
-    add-q
-    loop-less
-    loop-again
-    same-length
-    returns)
+    (tie.spec bad-pairs-requires judge-each-requires same-length returns same-length-2 returns-2)

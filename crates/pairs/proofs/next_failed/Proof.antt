@@ -6,11 +6,8 @@ use borrow.Author.Needs.{needs}
 use Rattle.pairs.proofs.next_failed.Statement.{statement}
 use Rattle.pairs.proofs.next_failed.Tie as tie
 
-add-if1 : tie.Need-add-if1
-add-if1 c = search needs
-
-add-is-bad : tie.Need-add-is-bad
-add-is-bad c = search needs
+add-next : tie.Need-add-next
+add-next c = search needs
 
 shared-slice-read-is-bad : tie.Need-shared-slice-read-is-bad
 shared-slice-read-is-bad c = search needs
@@ -23,10 +20,10 @@ returns c = search needs
 
 returns-2 : tie.Need-returns-2
 returns-2 c =
-    let st = c .before .before in
+    let st = c .before .before .before in
     sym (ap bad (List·getD-eq-default (st .args .notes .now) 0 (c .if1 .left)))
 
 pub next-failed-spec : {M : Type 1} → statement M
 next-failed-spec =
     tie.close
-    (tie.spec add-if1 add-is-bad shared-slice-read-is-bad is-bad-requires returns returns-2)
+    (tie.spec add-next shared-slice-read-is-bad is-bad-requires returns returns-2)

@@ -1,67 +1,82 @@
--- `note_crcs` meets its contract: each turn stores one note behind those before it. Assumes nothing.
-use Rattle.pairs.specs.Pairs.{pairCount}
+-- `note_crcs` meets its contract: each turn stores the notes of one stream behind those before it. Assumes nothing.
 use Prim.Native.Nat.{ℕ, _-_, _≤_}
 use mathlib.Core.Path.{_≡_, refl, ap, _∙_}
 use native.Mathlib.Omega.{arith}
-use lib.ListN.{length, length-set}
+use denote.Ref.{now}
+use lib.ListN.{length}
 use Rattle.lists.specs.Parts.{over, over-none}
-use Rattle.pairs.specs.Laws.{crcNote, crcNotes, noted-on, over-all}
+use Rattle.layout.specs.Layout.{firstPair}
+use Rattle.carrier.specs.Carrier.{received, pairCount}
+use Rattle.carrier.specs.Laws.{length-stream}
+use Rattle.pairs.specs.Pairs.{crcNotes}
+use Rattle.pairs.specs.Laws.{noted-more, over-all}
 use borrow.Author.Needs.{needs}
 use Rattle.pairs.proofs.note_crcs.Statement.{statement}
 use Rattle.pairs.proofs.note_crcs.Tie as tie
 
 abbrev Inv-loop : tie.InvT-loop
-Inv-loop octets places notes₀ q₀ notes q = (q ≤ length notes₀) × (length notes ≡ length notes₀) × (notes ≡ over notes₀ 0 q (crcNotes octets places q))
+Inv-loop octets places notes₀ k₀ notes k = (k ≤ length places) × (length notes ≡ length notes₀) × (notes ≡ over notes₀ 0 (firstPair k) (crcNotes (received octets places) (firstPair k)))
 
 abbrev μ-loop : tie.MeasureT-loop
-μ-loop octets places notes₀ q₀ notes q = length notes₀ - q
+μ-loop octets places notes₀ k₀ notes k = length places - k
 
 loop-holds : tie.Need-loop-holds Inv-loop μ-loop
-loop-holds c =
-    (omega arith, refl, over-none _ 0)
+loop-holds c = (omega arith, refl, over-none _ 0)
 
-fails-requires : tie.Need-fails-requires Inv-loop μ-loop
-fails-requires c κs =
-    let a = c .before in
-    let st = a .before .before .before .before in
-    (st .pre .0, omega (arith, st .pre .1, a .loop .inv .1))
+first-pair-requires : tie.Need-first-pair-requires Inv-loop μ-loop
+first-pair-requires c κs =
+    let l = c .before in
+    let st = l .before .before .before .before in
+    omega (arith, st .pre .1)
 
-note-requires : tie.Need-note-requires Inv-loop μ-loop
-note-requires c κs = search needs
+mul-stream-at : tie.Need-mul-stream-at Inv-loop μ-loop
+mul-stream-at c = search needs
 
-slice-write-notes : tie.Need-slice-write-notes Inv-loop μ-loop
-slice-write-notes c = search needs
+shared-slice-read-stream-at : tie.Need-shared-slice-read-stream-at Inv-loop μ-loop
+shared-slice-read-stream-at c = search needs
 
-add-q : tie.Need-add-q Inv-loop μ-loop
-add-q c = search needs
+stream-at-requires : tie.Need-stream-at-requires Inv-loop μ-loop
+stream-at-requires c κs =
+    let l = c .before .before .before in
+    let st = l .before .before .before .before in
+    st .pre .0 (l .loop .k) (omega arith)
+
+note-stream-requires : tie.Need-note-stream-requires Inv-loop μ-loop
+note-stream-requires c κs =
+    let s = c .before in
+    let f = s .before .before in
+    let l = f .before .before in
+    let st = l .before .before .before .before in
+    let size : length (now (s .stream-at .result)) ≡ 138 = ap length (s .stream-at .ensures) ∙ length-stream _ _ (st .pre .0 (l .loop .k) (omega arith)) in
+    (omega arith, omega (arith, f .first-pair .ensures, st .pre .1, l .loop .inv .1))
+
+add-k : tie.Need-add-k Inv-loop μ-loop
+add-k c = search needs
 
 loop-less : tie.Need-loop-less Inv-loop μ-loop
 loop-less c = search needs
 
 loop-again : tie.Need-loop-again Inv-loop μ-loop
 loop-again c =
-    let f = c .before in
-    let a = f .before .before in
-    let st = a .before .before .before .before in
-    let size = a .loop .inv .1 in (
-      omega arith,
-      rw length-set size,
-      noted-on (st .args .octets .now) (st .args .places .now) (st .args .notes .now) (a .loop .notes) (a .loop .q) (c .note .result) (omega arith)
-          (c .note .ensures ∙ ap crcNote (f .fails .ensures)) size (a .loop .inv .2),
-    )
+    let t = c .before .before in
+    let s = t .before .before in
+    let f = s .before .before in
+    let l = f .before .before in
+    let st = l .before .before .before .before in
+    let i = l .loop .inv in
+    (omega arith, t .note-stream .kept .1 .0 ∙ i .1, noted-more (st .args .octets .now) (st .args .places .now) (l .loop .k) (f .first-pair .result .0) (f .first-pair .ensures) (now (s .stream-at .result)) (s .stream-at .ensures) (st .args .notes .now) (l .loop .notes) (t .note-stream .last .1 .0) (omega (arith, st .pre .1)) (i .2) (t .note-stream .ensures))
 
 same-length : tie.Need-same-length Inv-loop μ-loop
-same-length c =
-    c .before .loop .inv .1
+same-length c = c .before .loop .inv .1
 
 returns : tie.Need-returns Inv-loop μ-loop
 returns c =
     let a = c .before in
     let st = a .before .before .before .before in
-    let n = st .pre .1 in
-    let cs = crcNotes (st .args .octets .now) (st .args .places .now) in
-    let e : a .loop .q ≡ length (st .args .notes .now) = omega (arith, a .loop .inv .0, a .loop .inv .1) in
-    a .loop .inv .2 ∙ ap (λ (k : ℕ). over (st .args .notes .now) 0 k (cs k)) (e ∙ n) ∙ over-all (st .args .notes .now) (cs (pairCount (st .args .places .now))) (pairCount (st .args .places .now)) n
+    let n = pairCount (st .args .places .now) in
+    let cs = crcNotes (received (st .args .octets .now) (st .args .places .now)) in
+    let e : a .loop .k ≡ length (st .args .places .now) = omega (arith, a .loop .inv .0) in
+    a .loop .inv .2 ∙ ap (λ (k : ℕ). over (st .args .notes .now) 0 (firstPair k) (cs (firstPair k))) e ∙ over-all (st .args .notes .now) (cs n) n (st .pre .1)
 
 pub note-crcs-spec : {M : Type 1} → statement M
 note-crcs-spec =
@@ -70,10 +85,12 @@ note-crcs-spec =
     Inv-loop
     μ-loop
     loop-holds
-    fails-requires
-    note-requires
-    slice-write-notes
-    add-q
+    first-pair-requires
+    mul-stream-at
+    shared-slice-read-stream-at
+    stream-at-requires
+    note-stream-requires
+    add-k
     loop-less
     loop-again
     same-length

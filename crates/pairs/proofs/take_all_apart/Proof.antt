@@ -1,63 +1,81 @@
--- `take_all_apart` meets its contract: each turn lays one pair behind those before it. Assumes nothing.
+-- `take_all_apart` meets its contract: each turn lays the frames of one stream behind those before it. Assumes nothing.
 use Prim.Native.Nat.{ℕ, _*_, _-_, _≤_}
 use mathlib.Core.Path.{_≡_, refl, ap, _∙_}
 use native.Mathlib.Omega.{arith}
+use denote.Ref.{now}
 use lib.ListN.{length}
 use Rattle.lists.specs.Parts.{over, over-none}
-use Rattle.lists.specs.Rows.{joined}
-use Rattle.layout.specs.Layout.{frameIndices, pairFrames}
-use Rattle.pairs.specs.Pairs.{pairCount, framesOf, allFrames}
-use Rattle.pairs.specs.Laws.{laid-on}
+use Rattle.layout.specs.Layout.{frameIndices, pairFrames, firstPair}
+use Rattle.carrier.specs.Carrier.{received}
+use Rattle.carrier.specs.Laws.{length-stream}
+use Rattle.pairs.specs.Pairs.{allFrames}
+use Rattle.pairs.specs.Laws.{laid-more}
 use borrow.Author.Needs.{needs}
 use Rattle.pairs.proofs.take_all_apart.Statement.{statement}
 use Rattle.pairs.proofs.take_all_apart.Tie as tie
 
 abbrev Inv-loop : tie.InvT-loop
-Inv-loop octets places idx₀ pairs q₀ idx q = (q ≤ pairs) × (length idx ≡ length idx₀) × (pairs ≡ pairCount places) × (idx ≡ over idx₀ 0 (pairFrames * frameIndices * q) (joined (framesOf octets places) q))
+Inv-loop octets places idx₀ k₀ idx k = (k ≤ length places) × (length idx ≡ length idx₀) × (idx ≡ over idx₀ 0 (pairFrames * frameIndices * firstPair k) (allFrames (received octets places) (firstPair k)))
 
 abbrev μ-loop : tie.MeasureT-loop
-μ-loop octets places idx₀ pairs q₀ idx q = pairs - q
-
-mul-pairs : tie.Need-mul-pairs Inv-loop μ-loop
-mul-pairs c = search needs
+μ-loop octets places idx₀ k₀ idx k = length places - k
 
 loop-holds : tie.Need-loop-holds Inv-loop μ-loop
-loop-holds c =
-    (omega arith, refl, refl, over-none _ 0)
+unfolding allFrames
+loop-holds c = (omega arith, refl, over-none _ 0)
 
-mul-put-pair : tie.Need-mul-put-pair Inv-loop μ-loop
-mul-put-pair c = search needs
+first-pair-requires : tie.Need-first-pair-requires Inv-loop μ-loop
+first-pair-requires c κs =
+    let l = c .before in
+    let st = l .before .before .before .before in
+    omega (arith, st .pre .0 .1)
 
-put-pair-requires : tie.Need-put-pair-requires Inv-loop μ-loop
-put-pair-requires c κs = search needs
+mul-stream-at : tie.Need-mul-stream-at Inv-loop μ-loop
+mul-stream-at c = search needs
 
-add-q : tie.Need-add-q Inv-loop μ-loop
-add-q c = search needs
+shared-slice-read-stream-at : tie.Need-shared-slice-read-stream-at Inv-loop μ-loop
+shared-slice-read-stream-at c = search needs
+
+stream-at-requires : tie.Need-stream-at-requires Inv-loop μ-loop
+stream-at-requires c κs =
+    let l = c .before .before .before in
+    let st = l .before .before .before .before in
+    st .pre .0 .0 (l .loop .k) (omega arith)
+
+take-stream-apart-requires : tie.Need-take-stream-apart-requires Inv-loop μ-loop
+take-stream-apart-requires c κs =
+    let s = c .before in
+    let f = s .before .before in
+    let l = f .before .before in
+    let st = l .before .before .before .before in
+    let size : length (now (s .stream-at .result)) ≡ 138 = ap length (s .stream-at .ensures) ∙ length-stream _ _ (st .pre .0 .0 (l .loop .k) (omega arith)) in
+    (omega arith, omega (arith, f .first-pair .ensures, st .pre .1, l .loop .inv .1))
+
+add-k : tie.Need-add-k Inv-loop μ-loop
+add-k c = search needs
 
 loop-less : tie.Need-loop-less Inv-loop μ-loop
 loop-less c = search needs
 
 loop-again : tie.Need-loop-again Inv-loop μ-loop
 loop-again c =
-    let p = c .before .before in
-    let a = p .before .before .before in
-    let st = a .before .before .before .before in
-    let i = a .loop .inv in
-    let room = st .pre .1 in
-    (omega arith, p .put-pair .kept .1 .1 .1 .0 ∙ i .1, i .2, laid-on (st .args .octets .now) (st .args .places .now) (st .args .idx .now) (a .loop .idx) (p .put-pair .last .1 .1 .1 .0) (a .loop .q) (omega (arith, i .2)) (i .3) (p .put-pair .ensures))
+    let t = c .before .before in
+    let s = t .before .before in
+    let f = s .before .before in
+    let l = f .before .before in
+    let st = l .before .before .before .before in
+    let i = l .loop .inv in
+    (omega arith, t .take-stream-apart .kept .1 .0 ∙ i .1, laid-more (st .args .octets .now) (st .args .places .now) (l .loop .k) (f .first-pair .result .0) (f .first-pair .ensures) (now (s .stream-at .result)) (s .stream-at .ensures) (st .args .idx .now) (l .loop .idx) (t .take-stream-apart .last .1 .0) (omega (arith, st .pre .1)) (i .2) (t .take-stream-apart .ensures))
 
 same-length : tie.Need-same-length Inv-loop μ-loop
-same-length c =
-    c .before .loop .inv .1
+same-length c = c .before .loop .inv .1
 
 returns : tie.Need-returns Inv-loop μ-loop
-unfolding allFrames
 returns c =
     let a = c .before in
     let st = a .before .before .before .before in
-    let i = a .loop .inv in
-    let e : a .loop .q ≡ pairCount (st .args .places .now) = omega (arith, i .0, i .2) in
-    i .3 ∙ ap (λ (k : ℕ). over (st .args .idx .now) 0 (pairFrames * frameIndices * k) (joined (framesOf (st .args .octets .now) (st .args .places .now)) k)) e
+    let e : a .loop .k ≡ length (st .args .places .now) = omega (arith, a .loop .inv .0) in
+    a .loop .inv .2 ∙ ap (λ (k : ℕ). over (st .args .idx .now) 0 (pairFrames * frameIndices * firstPair k) (allFrames (received (st .args .octets .now) (st .args .places .now)) (firstPair k))) e
 
 pub take-all-apart-spec : {M : Type 1} → statement M
 take-all-apart-spec =
@@ -65,11 +83,13 @@ take-all-apart-spec =
     (tie.spec
     Inv-loop
     μ-loop
-    mul-pairs
     loop-holds
-    mul-put-pair
-    put-pair-requires
-    add-q
+    first-pair-requires
+    mul-stream-at
+    shared-slice-read-stream-at
+    stream-at-requires
+    take-stream-apart-requires
+    add-k
     loop-less
     loop-again
     same-length

@@ -1,7 +1,7 @@
 -- `decide_pairs` meets its contract: 17 to 19 first, and then whether every pair is bad. Assumes nothing.
 use mathlib.Core.Path.{ap, _∙_}
 use lib.ListN.{length}
-use Rattle.pairs.specs.Pairs.{pairCount}
+use Rattle.carrier.specs.Carrier.{received, pairCount}
 use Rattle.pairs.specs.Laws.{length-notes}
 use Rattle.reader.specs.Steps.{refused-early, all-bad, not-all-bad}
 use borrow.Author.Needs.{needs}
@@ -31,7 +31,7 @@ returns c =
     let st = e .before .before .before .before in
     let a = st .args in (
       all-bad (length (a .places .now)) _ (pairCount (a .places .now)) (a .index) (a .report) (a .common) (e .early .result) (e .early .ensures) _ (j .judge-all .result) _ (t .enum-told .given .1) (j .judge-all .ensures .0)
-          (ap length (j .judge-all .ensures .1) ∙ length-notes (a .octets .now) (a .places .now) (a .codebook .now) (a .thresholds .now)) (c .if1 .taken),
+          (ap length (j .judge-all .ensures .1) ∙ length-notes (received (a .octets .now) (a .places .now)) (pairCount (a .places .now)) (a .codebook .now) (a .thresholds .now)) (c .if1 .taken),
       tt,
     )
 
@@ -54,7 +54,7 @@ returns-3 c =
     let st = e .before .before .before .before in
     let a = st .args in (
       not-all-bad (length (a .places .now)) _ (pairCount (a .places .now)) (a .index) (a .report) (a .common) (e .early .result) (e .early .ensures) _ (j .judge-all .result) _ (t .enum-told .given .1) (j .judge-all .ensures .0)
-          (ap length (j .judge-all .ensures .1) ∙ length-notes (a .octets .now) (a .places .now) (a .codebook .now) (a .thresholds .now)) (c .if1 .left),
+          (ap length (j .judge-all .ensures .1) ∙ length-notes (received (a .octets .now) (a .places .now)) (pairCount (a .places .now)) (a .codebook .now) (a .thresholds .now)) (c .if1 .left),
       j .judge-all .ensures .1,
     )
 

@@ -2,6 +2,7 @@
 use mathlib.Core.Path.{sym, ap, _∙_, subst}
 use lib.ListN.{length}
 use Rattle.judging.specs.Laws.{Good}
+use Rattle.carrier.specs.Carrier.{received, pairCount}
 use Rattle.pairs.specs.Laws.{length-notes}
 use Rattle.reader.specs.Steps.{Kept, ready, finished-refused, finished-read}
 use borrow.Author.Needs.{needs}
@@ -26,7 +27,7 @@ write-requires c κs =
     let r = ready (a .octets .now) (a .codebook .now) (a .thresholds .now) (length (a .index .now)) (length (a .report .now)) (a .places .now) _ (sym (d .decide .ensures .0) ∙ g .common .given .1) in
     let eh = subst (Kept _ _) (g .common .given .1) (d .decide .ensures .1 .0) in
     let en = subst (Kept _ _) (g .common .given .1) (d .decide .ensures .1 .1) in
-    ((st .pre .0 .0, r .some, st .pre .0 .2), ((eh, ap length en ∙ length-notes (a .octets .now) (a .places .now) (a .codebook .now) (a .thresholds .now), subst Good (sym en) (r .good)), (r .index-room, r .report-room)))
+    ((st .pre .0 .0, r .some, st .pre .0 .2), ((eh, ap length en ∙ length-notes (received (a .octets .now) (a .places .now)) (pairCount (a .places .now)) (a .codebook .now) (a .thresholds .now), subst Good (sym en) (r .good)), (r .index-room, r .report-room)))
 
 same-length : tie.Need-same-length
 same-length c = search needs

@@ -1,8 +1,8 @@
 -- `header_word` meets its contract: the low half of the eight octets behind the sync. Assumes nothing.
-use Rattle.settling.specs.Stored.{low-half, word-is}
+use Rattle.carrier.specs.Laws.{low-half, word-is}
 use borrow.Author.Needs.{needs}
-use Rattle.settling.proofs.header_word.Statement.{statement}
-use Rattle.settling.proofs.header_word.Tie as tie
+use Rattle.carrier.proofs.header_word.Statement.{statement}
+use Rattle.carrier.proofs.header_word.Tie as tie
 
 add-word : tie.Need-add-word
 add-word c = search needs

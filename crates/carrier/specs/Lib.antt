@@ -1,0 +1,2 @@
+pub mod Carrier
+pub mod Laws
