@@ -10,26 +10,26 @@ use borrow.Author.Needs.{needs}
 use Rattle.writer.proofs.decide.Statement.{statement}
 use Rattle.writer.proofs.decide.Tie as tie
 
-settings-right-requires : tie.Need-settings-right-requires
-settings-right-requires c κs = search needs
+is-right-requires : tie.Need-is-right-requires
+is-right-requires c κs = search needs
 
 returns : tie.Need-returns
 returns c =
     let a = c .before .before .before .args in
-    sym (refuses-settings (a .rate) (a .kind) (a .indices .now) (a .room) (sym (c .before .settings-right .ensures) ∙ not-true _ (c .if1 .taken)))
+    sym (refuses-settings (a .settings) (a .indices .now) (a .room) (sym (c .before .is-right .ensures) ∙ not-true _ (c .if1 .taken)))
 
 returns-2 : tie.Need-returns-2
 returns-2 c =
     let s = c .before .before in
     let a = s .before .before .args in
-    sym (refuses-part (a .rate) (a .kind) (a .indices .now) (a .room) (sym (s .settings-right .ensures) ∙ not-false _ (c .before .if1 .left)) (c .if2 .taken))
+    sym (refuses-part (a .settings) (a .indices .now) (a .room) (sym (s .is-right .ensures) ∙ not-false _ (c .before .if1 .left)) (c .if2 .taken))
 
 returns-3 : tie.Need-returns-3
 returns-3 c =
     let s = c .before .before .before in
     let a = s .before .before .args in
     let w : length (a .indices .now) % 7 ≡ 0 = omega (arith, c .before .if2 .left) in
-    sym (refuses-many (a .rate) (a .kind) (a .indices .now) (a .room) (sym (s .settings-right .ensures) ∙ not-false _ (c .before .before .if1 .left)) w (c .if3 .taken))
+    sym (refuses-many (a .settings) (a .indices .now) (a .room) (sym (s .is-right .ensures) ∙ not-false _ (c .before .before .if1 .left)) w (c .if3 .taken))
 
 first-wide-requires : tie.Need-first-wide-requires
 first-wide-requires c κs = search needs
@@ -37,8 +37,8 @@ first-wide-requires c κs = search needs
 enum-known-f : tie.Need-enum-known-f
 enum-known-f c = search needs
 
-add-t18 : tie.Need-add-t18
-add-t18 c =
+add-t17 : tie.Need-add-t17
+add-t17 c =
     let s = c .before .before .before .before in
     let idx = s .before .before .before .before .before .before .args .indices .now in
     let h = first-at (isWide idx) 0 (frameCount idx) _ (sym (s .first-wide .ensures) ∙ ap foundAs (c .before .before .f .given .1)) in
@@ -50,9 +50,9 @@ returns-4 c =
     let s = e .before .before .before in
     let a = s .before .before .args in
     let idx = a .indices .now in
-    let z : Sized (a .rate) (a .kind) idx =
-    record { settings = sym (s .settings-right .ensures) ∙ not-false _ (e .before .before .if1 .left); whole = omega (arith, e .before .if2 .left); few = omega (arith, e .if3 .left) } in
-    sym (refuses-wide (a .rate) (a .kind) idx (a .room) z _ (sym (c .before .before .before .before .first-wide .ensures) ∙ ap foundAs (c .before .before .f .given .1)))
+    let z : Sized (a .settings) idx =
+    record { right = sym (s .is-right .ensures) ∙ not-false _ (e .before .before .if1 .left); whole = omega (arith, e .before .if2 .left); few = omega (arith, e .if3 .left) } in
+    sym (refuses-wide (a .settings) idx (a .room) z _ (sym (c .before .before .before .before .first-wide .ensures) ∙ ap foundAs (c .before .before .f .given .1)))
 
 enum-told : tie.Need-enum-told
 enum-told c = search needs
@@ -63,8 +63,8 @@ first-early-requires c κs = search needs
 enum-known-f-2 : tie.Need-enum-known-f-2
 enum-known-f-2 c = search needs
 
-add-t21 : tie.Need-add-t21
-add-t21 c =
+add-t20 : tie.Need-add-t20
+add-t20 c =
     let s = c .before .before .before .before in
     let e = c .before .before .before .before .before .before .before .before in
     let idx = e .before .before .before .before .before .args .indices .now in
@@ -77,10 +77,10 @@ returns-5 c =
     let s = e .before .before .before in
     let a = s .before .before .args in
     let idx = a .indices .now in
-    let z : Sized (a .rate) (a .kind) idx =
-    record { settings = sym (s .settings-right .ensures) ∙ not-false _ (e .before .before .if1 .left); whole = omega (arith, e .before .if2 .left); few = omega (arith, e .if3 .left) } in
+    let z : Sized (a .settings) idx =
+    record { right = sym (s .is-right .ensures) ∙ not-false _ (e .before .before .if1 .left); whole = omega (arith, e .before .if2 .left); few = omega (arith, e .if3 .left) } in
     let none = sym (c .before .before .before .before .before .before .before .first-wide .ensures) ∙ ap foundAs (c .before .before .before .before .before .enum-told .given .1) in
-    sym (refuses-zero (a .rate) (a .kind) idx (a .room) z none _ (sym (c .before .before .before .before .first-early .ensures) ∙ ap foundAs (c .before .before .f2 .given .1)))
+    sym (refuses-zero (a .settings) idx (a .room) z none _ (sym (c .before .before .before .before .first-early .ensures) ∙ ap foundAs (c .before .before .f2 .given .1)))
 
 enum-told-2 : tie.Need-enum-told-2
 enum-told-2 c = search needs
@@ -97,11 +97,11 @@ returns-6 c =
     let s = e .before .before .before in
     let a = s .before .before .args in
     let idx = a .indices .now in
-    let z : Sized (a .rate) (a .kind) idx =
-    record { settings = sym (s .settings-right .ensures) ∙ not-false _ (e .before .before .if1 .left); whole = omega (arith, e .before .if2 .left); few = omega (arith, e .if3 .left) } in
+    let z : Sized (a .settings) idx =
+    record { right = sym (s .is-right .ensures) ∙ not-false _ (e .before .before .if1 .left); whole = omega (arith, e .before .if2 .left); few = omega (arith, e .if3 .left) } in
     let none = sym (c .before .before .before .before .before .before .first-wide .ensures) ∙ ap foundAs (c .before .before .before .before .enum-told .given .1) in
     let quiet = sym (c .before .before .before .first-early .ensures) ∙ ap foundAs (c .before .enum-told2 .given .1) in
-    sym (refuses-short (a .rate) (a .kind) idx (a .room) z none quiet (c .if4 .taken))
+    sym (refuses-short (a .settings) idx (a .room) z none quiet (c .if4 .taken))
 
 returns-7 : tie.Need-returns-7
 returns-7 c =
@@ -109,28 +109,28 @@ returns-7 c =
     let s = e .before .before .before in
     let a = s .before .before .args in
     let idx = a .indices .now in
-    let z : Sized (a .rate) (a .kind) idx =
-    record { settings = sym (s .settings-right .ensures) ∙ not-false _ (e .before .before .if1 .left); whole = omega (arith, e .before .if2 .left); few = omega (arith, e .if3 .left) } in
+    let z : Sized (a .settings) idx =
+    record { right = sym (s .is-right .ensures) ∙ not-false _ (e .before .before .if1 .left); whole = omega (arith, e .before .if2 .left); few = omega (arith, e .if3 .left) } in
     let none = sym (c .before .before .before .before .before .before .first-wide .ensures) ∙ ap foundAs (c .before .before .before .before .enum-told .given .1) in
     let quiet = sym (c .before .before .before .first-early .ensures) ∙ ap foundAs (c .before .enum-told2 .given .1) in
-    sym (accepts (a .rate) (a .kind) idx (a .room) z none quiet (omega (arith, c .if4 .left)))
+    sym (accepts (a .settings) idx (a .room) z none quiet (omega (arith, c .if4 .left)))
 
 pub decide-spec : {M : Type 1} → statement M
 decide-spec =
     tie.close
     (tie.spec
-    settings-right-requires
+    is-right-requires
     returns
     returns-2
     returns-3
     first-wide-requires
     enum-known-f
-    add-t18
+    add-t17
     returns-4
     enum-told
     first-early-requires
     enum-known-f-2
-    add-t21
+    add-t20
     returns-5
     enum-told-2
     add-needed
