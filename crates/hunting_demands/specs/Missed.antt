@@ -63,21 +63,21 @@ small-fours zero i = lit< tt
 small-fours (suc n) zero = lit< tt
 small-fours (suc n) (suc i) = small-fours n i
 
-pub written-25 : verdict 0 0 (replicate 175 4) (needed (replicate 175 4)) ≡ Written (needed (replicate 175 4))
+pub written-25 : verdict (settings 0 0) (replicate 175 4) (needed (replicate 175 4)) ≡ Written (needed (replicate 175 4))
 unfolding verdict roomAnswer firstFrom
 written-25 = refl
 
-pub written-1 : verdict 1 0 (replicate 7 4) (needed (replicate 7 4)) ≡ Written (needed (replicate 7 4))
+pub written-1 : verdict (settings 1 0) (replicate 7 4) (needed (replicate 7 4)) ≡ Written (needed (replicate 7 4))
 unfolding verdict roomAnswer firstFrom
 written-1 = refl
 
 -- sent: 8 kHz, type 0, 25 frames of fours, which take two multiframes
 abbrev pub sent : Utterance
-sent = record { rate = 0; kind = 0; indices = replicate 175 4; small = small-fours 175; written = written-25 }
+sent = record { settings = settings 0 0; indices = replicate 175 4; small = small-fours 175; written = written-25 }
 
 -- heard: 11 kHz, type 0, the last of those frames, which takes one
 abbrev pub heard : Utterance
-heard = record { rate = 1; kind = 0; indices = replicate 7 4; small = small-fours 7; written = written-1 }
+heard = record { settings = settings 1 0; indices = replicate 7 4; small = small-fours 7; written = written-1 }
 
 -- ---- what came: 08 00 00 EE for the first header, 08 00 0E EE, and 09 00 0F 3F for the second, 10 00 1D 0D
 abbrev pub words : ℕ → ℕ
@@ -172,7 +172,7 @@ word-came : (k : ℕ) → k < 2 → wordIn garbled k ≡ words k
 word-came k h = made-word words streams 2 k h (word-small k)
 
 stream-came : (k : ℕ) → k < 2 → streamIn garbled k ≡ streamIn (imageOf sent) k
-stream-came k h = made-stream words streams 2 k h ∙ sym (image-stream (sent .rate) (sent .kind) (sent .indices) m k h)
+stream-came k h = made-stream words streams 2 k h ∙ sym (image-stream (sent .settings) (sent .indices) m k h)
 
 searched-are : searched (bits garbled) ≡ 2304
 searched-are = searched-all (bits garbled) (omega (arith, length-bits garbled, cut .size)) ∙ omega (arith, length-bits garbled, cut .size)
@@ -181,13 +181,13 @@ searched-are = searched-all (bits garbled) (omega (arith, length-bits garbled, c
 first-flips : headerFlips (imageOf sent) garbled 0 ≡ 3
 unfolding onesIn
 first-flips =
-    ap₂ (λ (a b : ℕ). ones (bitXor a b)) (word-came 0 (lit< tt)) (image-word (sent .rate) (sent .kind) (sent .indices) m 0 (lit< tt) ∙ first-word)
+    ap₂ (λ (a b : ℕ). ones (bitXor a b)) (word-came 0 (lit< tt)) (image-word (sent .settings) (sent .indices) m 0 (lit< tt) ∙ first-word)
     ∙ sym (ones-in 32 0x000E0000 (lit< tt))
 
 second-flips : headerFlips (imageOf sent) garbled 1 ≡ 8
 unfolding onesIn
 second-flips =
-    ap₂ (λ (a b : ℕ). ones (bitXor a b)) (word-came 1 (lit< tt)) (image-word (sent .rate) (sent .kind) (sent .indices) m 1 (lit< tt) ∙ second-word)
+    ap₂ (λ (a b : ℕ). ones (bitXor a b)) (word-came 1 (lit< tt)) (image-word (sent .settings) (sent .indices) m 1 (lit< tt) ∙ second-word)
     ∙ sym (ones-in 32 0x32120019 (lit< tt))
 
 -- so the first is lost, and the second is read as a codeword of 11 kHz without a flip
@@ -200,7 +200,7 @@ second-read =
     let w = wordIn garbled 1 in
     let c = message 1 0 1 0 in
     let e : flipsTo w c ≡ 0 = ap₂ (λ (a b : ℕ). ones (bitXor a b)) (word-came 1 (lit< tt)) heard-word ∙ sym (ones-in 1 0 (lit< tt)) in
-    near w c (message-lt 1 0 1 0) (omega arith) ∙ ap (Codeword c) e
+    near w c (message-lt (settings 1 0) 1 0) (omega arith) ∙ ap (Codeword c) e
 
 -- ---- what the hunting reader finds: the second multiframe alone
 module _ (least : ℕ) (low : fewestMatches ≤ least) (high : least ≤ syncBits) where

@@ -117,7 +117,7 @@ writeReturned n o p = record { number = n; output = o; place = p }
 
 abbrev pub dsrWrite : ℕ → ℕ → List ℕ → List ℕ → WriteReturned
 dsrWrite rate kind indices out =
-    writeReturned (W.numberOf (writing rate kind indices out .answer)) (writing rate kind indices out .output) (W.placeOf (writing rate kind indices out .answer))
+    writeReturned (W.numberOf (writing (settings rate kind) indices out .answer)) (writing (settings rate kind) indices out .output) (W.placeOf (writing (settings rate kind) indices out .answer))
 
 -- dsr_read: its number, both buffers and the lent numbers
 abbrev pub dsrRead : List ℕ → List ℤ → List ℤ → List ℕ → List ℕ → List ℕ → Returned

@@ -14,7 +14,7 @@ use Rattle.link.specs.Link.{returning, dsrWrite, dsrRead}
 
 -- 16 kHz, noise robust, 2 multiframes, 30 frames of speech, 4 bad pairs, end
 abbrev pub talk : Outcome
-talk = outcome (Read (record { rate = 3; kind = 1; multiframes = 2; speech = 30; bad = 4; end = 1 })) (1 ∷ []) (2 ∷ [])
+talk = outcome (Read (record { settings = settings 3 1; multiframes = 2; speech = 30; bad = 4; end = 1 })) (1 ∷ []) (2 ∷ [])
 
 -- seven numbers lent, which came as 90 to 96; index and report came as 5 and 6
 abbrev pub seven : List ℕ

@@ -20,9 +20,9 @@ use Rattle.link.specs.Link.{dsrWrite}
 use Rattle.link_demands.specs.Calls.{beyond, write-zero}
 
 -- dsr_write's success is the writer's
-accepted : (rate kind : ℕ) (indices out : List ℕ) (n : ℕ) → writing rate kind indices out .answer ≡ Written n → verdict rate kind indices (length out) ≡ Written n
+accepted : (rate kind : ℕ) (indices out : List ℕ) (n : ℕ) → writing (settings rate kind) indices out .answer ≡ Written n → verdict (settings rate kind) indices (length out) ≡ Written n
 unfolding writing
-accepted rate kind indices out n e = by (verdict rate kind indices (length out)) e
+accepted rate kind indices out n e = by (verdict (settings rate kind) indices (length out)) e
   where
     by : (v : WA.Answer) → W.finished rate kind indices out v .answer ≡ Written n → v ≡ Written n
     by (Written k) e = e
@@ -44,7 +44,7 @@ module _ (rate kind : ℕ) (indices out : List ℕ) (c : Call rate kind indices 
   abbrev n : ℕ
   n = dsrWrite rate kind indices out .place
 
-  ok : writing rate kind indices out .answer ≡ Written n
+  ok : writing (settings rate kind) indices out .answer ≡ Written n
   ok = write-zero rate kind indices out (c .written)
 
   pub took : Accepted rate kind indices (length out) n
@@ -56,19 +56,19 @@ module _ (rate kind : ℕ) (indices out : List ℕ) (c : Call rate kind indices 
     kind = kind;
     indices = indices;
     small = c .small;
-    written = accepts rate kind indices (needed indices) (took .sizes) (took .narrow-indices) (took .speaks) (omega arith);
+    written = accepts (settings rate kind) indices (needed indices) (took .sizes) (took .narrow-indices) (took .speaks) (omega arith);
   }
 
   pub place-is : dsrWrite rate kind indices out .place ≡ multiframeOctets * countOf indices
-  place-is = success rate kind indices out n ok .0
+  place-is = success (settings rate kind) indices out n ok .0
 
   pub octets-are : octetsOf rate kind indices out ≡ imageOf called
   octets-are =
-      ap (take n) (success rate kind indices out n ok .1)
-      ∙ take-at (imageOf called) (drop (0 + n) out) n (length-image rate kind indices (countOf indices) ∙ sym place-is)
+      ap (take n) (success (settings rate kind) indices out n ok .1)
+      ∙ take-at (imageOf called) (drop (0 + n) out) n (length-image (settings rate kind) indices (countOf indices) ∙ sym place-is)
 
   -- octets beyond them are as they came
   pub output-beyond-is : drop (dsrWrite rate kind indices out .place) (dsrWrite rate kind indices out .output) ≡ drop (dsrWrite rate kind indices out .place) out
   output-beyond-is =
-      ap (drop n) (success rate kind indices out n ok .1)
-      ∙ beyond out (imageOf called) n (omega (arith, place-is, took .room)) (length-image rate kind indices (countOf indices) ∙ sym place-is)
+      ap (drop n) (success (settings rate kind) indices out n ok .1)
+      ∙ beyond out (imageOf called) n (omega (arith, place-is, took .room)) (length-image (settings rate kind) indices (countOf indices) ∙ sym place-is)

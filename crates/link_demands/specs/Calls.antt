@@ -53,8 +53,8 @@ module _ (rate kind : ℕ) (indices out : List ℕ) where
   refusal-numbered (WR.OutputShort n) e = omega arith
 
   -- 0 is success: the place is the octets written
-  pub write-zero : dsrWrite rate kind indices out .number ≡ 0 → writing rate kind indices out .answer ≡ Written (dsrWrite rate kind indices out .place)
-  write-zero e = by (writing rate kind indices out .answer) e
+  pub write-zero : dsrWrite rate kind indices out .number ≡ 0 → writing (settings rate kind) indices out .answer ≡ Written (dsrWrite rate kind indices out .place)
+  write-zero e = by (writing (settings rate kind) indices out .answer) e
     where
       by : (a : WA.Answer) → W.numberOf a ≡ 0 → a ≡ Written (W.placeOf a)
       by (Written n) e = refl

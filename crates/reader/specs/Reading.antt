@@ -11,7 +11,7 @@ use Rattle.lists.specs.Parts.{part, over}
 use Rattle.lists.specs.Rows.{joined}
 use Rattle.layout.specs.Layout.{multiframePairs, indexOctets, reportOctets, codebookNumbers, thresholdNumbers, firstPair}
 use Rattle.cutting.specs.Cutting.{Ending, whole, refused, cutting}
-use Rattle.header.specs.Message.{rateOf, typeOf, expOf}
+use Rattle.header.specs.Message.{rateOf, settingsOf, expOf}
 use Rattle.header.specs.declared.Header.the-variants.{Lost}
 use Rattle.settling.specs.Settling.{readings, settling, headerNote}
 use Rattle.settling.specs.declared.Settings.{Settings}
@@ -59,7 +59,7 @@ answerNumber (Read s) = 0
 answerNumber (Refused r) = numberOf r
 
 abbrev pub answerValues : Answer → List ℕ
-answerValues (Read s) = s .rate ∷ s .kind ∷ s .multiframes ∷ s .speech ∷ s .bad ∷ s .end ∷ []
+answerValues (Read s) = s .settings .rate ∷ s .settings .kind ∷ s .multiframes ∷ s .speech ∷ s .bad ∷ s .end ∷ []
 answerValues (Refused r) = placeOf r ∷ []
 
 -- ---- what a reading gives, of multiframes at places of the octets; ns are the notes of all pairs
@@ -77,8 +77,7 @@ reportPart octets places ns c =
 abbrev pub summary : List ℕ → List ℕ → List ℕ → ℕ → Summary
 summary octets places ns c =
     record {
-      rate = rateOf c;
-      kind = typeOf c;
+      settings = settingsOf c;
       multiframes = length places;
       speech = speechOf (length places) (indexPart octets places ns);
       bad = badPairs ns;

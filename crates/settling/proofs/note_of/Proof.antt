@@ -61,7 +61,7 @@ returns-2 c =
     let d = f .before .before in
     let st = d .before .before in
     note-sum (st .args .common) (st .args .k) _ _ _ _ _ (d .h .given .1)
-    (s .step-note .ensures ∙ ap (λ (n : ℕ). stepNote n (st .args .k)) (f .fields-of .ensures .1 .1 .0))
+    (s .step-note .ensures ∙ ap (λ (n : ℕ). stepNote n (st .args .k)) (f .fields-of .ensures .1 .0))
     (c .common-note .ensures ∙ ap (λ (n : ℕ). commonNote n (st .args .common)) (c .before .common-of .ensures))
 
 pub note-of-spec : {M : Type 1} → statement M
