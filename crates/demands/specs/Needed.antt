@@ -189,12 +189,12 @@ pub record Passes15 : Type 0 where
 
 pub passes-15 : Passes15
 passes-15 = record {
-  syncs = λ k h. image-sync 0 0 eighth 1 k h ∙ sym (image-sync 0 0 (lone 1) 1 k h);
-  headers = λ k h. image-word 0 0 eighth 1 k h ∙ sym (image-word 0 0 (lone 1) 1 k h);
-  first = image-packet 0 0 eighth 1 0 (omega arith) ∙ packet-eighth
-      ∙ sym (ap (λ (p : List Bool). flip (flip p 0) 15) (image-packet 0 0 (lone 1) 1 0 (omega arith) ∙ packet-1));
+  syncs = λ k h. image-sync (settings 0 0) eighth 1 k h ∙ sym (image-sync (settings 0 0) (lone 1) 1 k h);
+  headers = λ k h. image-word (settings 0 0) eighth 1 k h ∙ sym (image-word (settings 0 0) (lone 1) 1 k h);
+  first = image-packet (settings 0 0) eighth 1 0 (omega arith) ∙ packet-eighth
+      ∙ sym (ap (λ (p : List Bool). flip (flip p 0) 15) (image-packet (settings 0 0) (lone 1) 1 0 (omega arith) ∙ packet-1));
   others = λ q h l.
-      image-packet 0 0 eighth 1 q (omega arith) ∙ past-packet eighth (lone 1) q (omega arith) (omega arith) ∙ sym (image-packet 0 0 (lone 1) 1 q (omega arith));
+      image-packet (settings 0 0) eighth 1 q (omega arith) ∙ past-packet eighth (lone 1) q (omega arith) (omega arith) ∙ sym (image-packet (settings 0 0) (lone 1) 1 q (omega arith));
   different = λ e. true-false (sym (ap (λ (p : List Bool). getD p 0 false) (sym packet-eighth ∙ e ∙ packet-1)));
 }
 
@@ -255,12 +255,12 @@ pub record Confuses : Type 0 where
 pub three-confuse : Confuses
 unfolding flipsTo
 three-confuse = record {
-  three-of-8 = ap₂ (λ (a b : ℕ). ones (bitXor a b)) word (image-word 0 0 (lone 1) 1 0 (lit< tt) ∙ ap codeword (message-counts .0)) ∙ three-8;
-  three-of-11 = ap₂ (λ (a b : ℕ). ones (bitXor a b)) word (image-word 1 0 (lone 1) 1 0 (lit< tt) ∙ ap codeword message-9) ∙ three-11;
-  whole-of-8 = λ q h. packets 0 q h;
-  whole-of-11 = λ q h. packets 1 q h;
-  syncs-of-8 = made-sync halfwayWord streams 1 0 (lit< tt) ∙ sym (image-sync 0 0 (lone 1) 1 0 (lit< tt));
-  syncs-of-11 = made-sync halfwayWord streams 1 0 (lit< tt) ∙ sym (image-sync 1 0 (lone 1) 1 0 (lit< tt));
+  three-of-8 = ap₂ (λ (a b : ℕ). ones (bitXor a b)) word (image-word (settings 0 0) (lone 1) 1 0 (lit< tt) ∙ ap codeword (message-counts .0)) ∙ three-8;
+  three-of-11 = ap₂ (λ (a b : ℕ). ones (bitXor a b)) word (image-word (settings 1 0) (lone 1) 1 0 (lit< tt) ∙ ap codeword message-9) ∙ three-11;
+  whole-of-8 = λ q h. packets (settings 0 0) q h;
+  whole-of-11 = λ q h. packets (settings 1 0) q h;
+  syncs-of-8 = made-sync halfwayWord streams 1 0 (lit< tt) ∙ sym (image-sync (settings 0 0) (lone 1) 1 0 (lit< tt));
+  syncs-of-11 = made-sync halfwayWord streams 1 0 (lit< tt) ∙ sym (image-sync (settings 1 0) (lone 1) 1 0 (lit< tt));
 }
   where
     streams : ℕ → List Bool

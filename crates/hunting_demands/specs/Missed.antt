@@ -20,6 +20,7 @@ use Rattle.gf2.specs.Light.{ones-in}
 use Rattle.lists.specs.Tests.{all-holds}
 use Rattle.lists.specs.Parts.{part, over}
 use Rattle.layout.specs.Layout.{widths, frameIndices, packetBits, packetStart, multiframePairs, streamOctets, indexOctets, reportOctets, firstPair}
+use Rattle.settings.specs.Settings.{settings}
 use Rattle.bits.specs.Bits.{field, fields, value, laid, numbers, bits, octets}
 use Rattle.bits.specs.Laws.{length-bits}
 use Rattle.crc.specs.Crc.{after, crc}
@@ -100,18 +101,18 @@ word-of w a b c d e =
     ap (λ (n : ℕ). n / 256) (div-div-eq-div-mul w 256 256) ∙ div-div-eq-div-mul w 65536 256 ∙ ap (λ (l : List ℕ). getD l 3 0) e in
     omega arith
 
-first-word : codeword (message 0 0 1 0) ≡ 0xEE0E0008
+first-word : codeword (message (settings 0 0) 1 0) ≡ 0xEE0E0008
 first-word = ap codeword (message-counts .0) ∙ word-of (codeword 8) 0x08 0x00 0x0E 0xEE E.count-1
 
-second-word : codeword (message 0 0 2 0) ≡ 0x0D1D0010
+second-word : codeword (message (settings 0 0) 2 0) ≡ 0x0D1D0010
 second-word = ap codeword (message-counts .1) ∙ word-of (codeword 16) 0x10 0x00 0x1D 0x0D E.count-2
 
 -- the sum of two codewords is one
-heard-word : codeword (message 1 0 1 0) ≡ 0x3F0F0009
+heard-word : codeword (message (settings 1 0) 1 0) ≡ 0x3F0F0009
 heard-word =
     let e : bitXor (codeword 8) (codeword 1) ≡ 0x3F0F0009 =
     ap₂ bitXor (word-of (codeword 8) 0x08 0x00 0x0E 0xEE E.count-1) (word-of (codeword 1) 0x01 0x00 0x01 0xD1 E.rate-1) in
-    let m : message 1 0 1 0 ≡ 9 = sym (packed 1 0 1 0) in
+    let m : message (settings 1 0) 1 0 ≡ 9 = sym (packed (settings 1 0) 1 0) in
     ap codeword m
     ∙ codeword-of 0x3F0F0009 (lit< tt) (sym (ap syndrome e) ∙ syndrome-xor (codeword 8) (codeword 1) ∙ ap₂ bitXor (syndrome-codeword 8 (lit< tt)) (syndrome-codeword 1 (lit< tt)))
 
@@ -194,11 +195,11 @@ second-flips =
 first-lost : reading (wordIn garbled 0) ≡ Lost
 first-lost = header-lost sent garbled 0 (lit< tt) first-flips
 
-second-read : reading (wordIn garbled 1) ≡ Codeword (message 1 0 1 0) 0
+second-read : reading (wordIn garbled 1) ≡ Codeword (message (settings 1 0) 1 0) 0
 unfolding flipsTo onesIn
 second-read =
     let w = wordIn garbled 1 in
-    let c = message 1 0 1 0 in
+    let c = message (settings 1 0) 1 0 in
     let e : flipsTo w c ≡ 0 = ap₂ (λ (a b : ℕ). ones (bitXor a b)) (word-came 1 (lit< tt)) heard-word ∙ sym (ones-in 1 0 (lit< tt)) in
     near w c (message-lt (settings 1 0) 1 0) (omega arith) ∙ ap (Codeword c) e
 
@@ -212,7 +213,7 @@ module _ (least : ℕ) (low : fewestMatches ≤ least) (high : least ≤ syncBit
   not-before (suc j) h = unlike-fails least (bits garbled) (suc j) (omega (arith, few-match j (omega arith)))
 
   second-passes : passes least (bits garbled) multiframeBits ≡ true
-  second-passes = passes-there least (bits garbled) multiframeBits (message 1 0 1 0) 0 (syncs-match 1 (lit< tt)) (ap reading (stands .words 1 (lit< tt)) ∙ second-read)
+  second-passes = passes-there least (bits garbled) multiframeBits (message (settings 1 0) 1 0) 0 (syncs-match 1 (lit< tt)) (ap reading (stands .words 1 (lit< tt)) ∙ second-read)
 
   second-alone : InARow (bits garbled) 0 multiframeBits least 1
   second-alone = record {
@@ -226,26 +227,26 @@ module _ (least : ℕ) (low : fewestMatches ≤ least) (high : least ≤ syncBit
 -- and that is what is heard
 heard-cut : Multiframes (imageOf heard) 1
 heard-cut = record {
-  size = length-image 1 0 (heard .indices) 1;
-  small = image-small 1 0 (heard .indices) 1;
-  syncs = image-sync 1 0 (heard .indices) 1;
+  size = length-image (settings 1 0) (heard .indices) 1;
+  small = image-small (settings 1 0) (heard .indices) 1;
+  syncs = image-sync (settings 1 0) (heard .indices) 1;
 }
 
 heard-stands : Stands (imageOf heard) 1 garbled multiframeBits
 heard-stands = record { words = word; streams = body }
   where
     word : (k : ℕ) → k < 1 → wordAt (bits garbled) (placeInRow multiframeBits k) ≡ wordIn (imageOf heard) k
-    word zero h = stands .words 1 (lit< tt) ∙ word-came 1 (lit< tt) ∙ sym (image-word 1 0 (heard .indices) 1 0 h ∙ heard-word)
+    word zero h = stands .words 1 (lit< tt) ∙ word-came 1 (lit< tt) ∙ sym (image-word (settings 1 0) (heard .indices) 1 0 h ∙ heard-word)
     word (suc k) h = absurd (omega arith)
 
     body : (k : ℕ) → k < 1 → streamAt (bits garbled) (placeInRow multiframeBits k) ≡ bits (streamIn (imageOf heard) k)
     body zero h =
         stands .streams 1 (lit< tt)
-        ∙ ap bits (made-stream words streams 2 1 (lit< tt) ∙ ap (octets streamOctets) same-stream ∙ sym (image-stream 1 0 (heard .indices) 1 0 h))
+        ∙ ap bits (made-stream words streams 2 1 (lit< tt) ∙ ap (octets streamOctets) same-stream ∙ sym (image-stream (settings 1 0) (heard .indices) 1 0 h))
     body (suc k) h = absurd (omega arith)
 
 -- ---- what the octet reader says: one header is lost, so no two agree
-unsettled : settling (Lost ∷ Codeword (message 1 0 1 0) 0 ∷ []) ≡ S.Unsettled
+unsettled : settling (Lost ∷ Codeword (message (settings 1 0) 1 0) 0 ∷ []) ≡ S.Unsettled
 unfolding settling firstAgreeing onlyOne
 unsettled = refl
 
@@ -256,7 +257,7 @@ module _ (least : ℕ) (codebook thresholds : List ℤ) (index report : List ℕ
   -- THE COUNTEREXAMPLE
   pub record Misses : Type 0 where
     -- sent: 8 kHz, two multiframes, 25 frames
-    pub sent-rate : sent .rate ≡ 0
+    pub sent-rate : sent .settings .rate ≡ 0
     pub sent-multiframes : multiframesOf sent ≡ 2
     pub sent-frames : frameCount (sent .indices) ≡ 25
     -- no octet is lost or added, and syncs and packets come as they were sent
@@ -274,17 +275,17 @@ module _ (least : ℕ) (codebook thresholds : List ℤ) (index report : List ℕ
     -- MISLED WITHOUT A NOTE: the hunting reader gives 11 kHz, one multiframe, one frame and end 1, and every note is 0; a multiframe's
     -- bits outside, and as many places tested before the one found, are all that tells
     pub answers : huntingReading garbled 0 least codebook thresholds index report
-        ≡ outcome (Read (record { summary = record { rate = 1; kind = 0; multiframes = 1; speech = 1; bad = 0; end = 1 }; outside = multiframeBits; tested = suc multiframeBits }))
+        ≡ outcome (Read (record { summary = record { settings = settings 1 0; multiframes = 1; speech = 1; bad = 0; end = 1 }; outside = multiframeBits; tested = suc multiframeBits }))
         (over index 0 indexOctets (replicate frameIndices 4 ++ replicate (indexOctets - frameIndices) 0)) (over report 0 reportOctets (replicate reportOctets 0))
     -- the octet reader is not misled: it refuses them, 16
     pub refuses : R.reading garbled codebook thresholds index report ≡ R.outcome (RA.Refused Unsettled) index report
 
   module _ (low : fewestMatches ≤ least) (high : least ≤ syncBits) (lent : Lent 2 codebook thresholds index report) where
     size-came : length garbled ≡ length (imageOf sent)
-    size-came = cut .size ∙ sym (length-image 0 0 (sent .indices) 2)
+    size-came = cut .size ∙ sym (length-image (settings 0 0) (sent .indices) 2)
 
     syncs-came : (k : ℕ) → k < m → syncIn garbled k ≡ syncIn (imageOf sent) k
-    syncs-came k h = cut .syncs k h ∙ sym (image-sync 0 0 (sent .indices) 2 k h)
+    syncs-came k h = cut .syncs k h ∙ sym (image-sync (settings 0 0) (sent .indices) 2 k h)
 
     packets-came : (q : ℕ) → q < pairsOf sent → packetIn garbled q ≡ packetIn (imageOf sent) q
     packets-came q h = ap (λ (x : List ℕ). part (packetStart q) packetBits (bits x)) (stream-came (q / 12) (omega arith))

@@ -19,6 +19,7 @@ use Rattle.lists.specs.Tests.{true-false}
 use Rattle.lists.specs.Parts.{part}
 use Rattle.lists.specs.Rows.{each, joined, length-joined, joined-part}
 use Rattle.layout.specs.Layout.{packetBits, packetStart, multiframePairs, multiframeOctets, mostMultiframes, indexOctets, reportOctets, codebookNumbers, thresholdNumbers}
+use Rattle.settings.specs.Settings.{settings}
 use Rattle.bits.specs.Bits.{field, fields, value, bits}
 use Rattle.bits.specs.Laws.{length-field, length-bits}
 use Rattle.cutting.specs.Cutting.{syncFirst, syncSecond}
@@ -324,7 +325,7 @@ other-fits = record { syncs = λ k. sync-size; headers = λ k. lit< tt; around =
 other-rate : commonBits (sentMessage says1At11 0) ≡ commonBits (sentMessage says1 0) → ⊥
 other-rate e =
     let z : _≡_ {A = ℕ} 1 0 =
-    sym (common-rate (message 1 0 1 0) ∙ rate-back 1 0 1 0) ∙ ap rateOf e ∙ common-rate (message 0 0 1 0) ∙ rate-back 0 0 1 0 in
+    sym (common-rate (message (settings 1 0) 1 0) ∙ rate-back (settings 1 0) 1 0) ∙ ap rateOf e ∙ common-rate (message (settings 0 0) 1 0) ∙ rate-back (settings 0 0) 1 0 in
     omega arith
 
 both-of : (P : ℕ → Type 0) → P 0 → P 1 → (k : ℕ) → k < 2 → P k

@@ -5,6 +5,7 @@ use mathlib.Core.Path.{_≡_, refl}
 use mathlib.Core.List.{List, [], _∷_}
 use Prim.Native.Nat.{ℕ}
 use lib.ListN.{replicate}
+use Rattle.settings.specs.Settings.{settings}
 use Rattle.hunt.specs.declared.Hunted.the-variants as HA
 use Rattle.hunt.specs.declared.Refusal.the-variants as HR
 use Rattle.reader.specs.declared.Refusal.the-variants as RR

@@ -10,6 +10,7 @@ use Rattle.lists.specs.Tests.{when}
 use Rattle.lists.specs.Parts.{part, over}
 use Rattle.lists.specs.Rows.{each, joined}
 use Rattle.layout.specs.Layout.{widths, dataBits, packetBits, packetStart, streamOctets, indexOctets, multiframePairs}
+use Rattle.settings.specs.Settings.{settings}
 use Rattle.bits.specs.Bits.{bits, octets}
 use Rattle.crc.specs.Crc.{right}
 use Rattle.packet.specs.Packet.{apart, stream}
@@ -84,7 +85,7 @@ answerNumbers = 6
 
 -- rate, type, multiframes, speech, bad pairs, end
 abbrev pub summaryNumbers : Summary → List ℕ
-summaryNumbers s = s .rate ∷ s .kind ∷ s .multiframes ∷ s .speech ∷ s .bad ∷ s .end ∷ []
+summaryNumbers s = s .settings .rate ∷ s .settings .kind ∷ s .multiframes ∷ s .speech ∷ s .bad ∷ s .end ∷ []
 
 -- the number, the two buffers and the lent numbers
 pub record Returned : Type 0 where

@@ -5,6 +5,7 @@ use mathlib.Core.Path.{_≡_, refl}
 use mathlib.Core.List.{List, [], _∷_}
 use Prim.Native.Nat.{ℕ}
 use lib.ListN.{replicate}
+use Rattle.settings.specs.Settings.{settings}
 use Rattle.reader.specs.Reading.{Outcome, outcome, reading, verdict}
 use Rattle.reader.specs.declared.Refusal.the-variants.{CutShort, IndexShort, AllBad}
 use Rattle.reader.specs.declared.Answer.the-variants.{Read, Refused}

@@ -7,6 +7,7 @@ use native.Mathlib.Omega.{arith}
 use lib.ListN.{length, take, drop}
 use lib.Seq.{take-at}
 use Rattle.layout.specs.Layout.{multiframeOctets}
+use Rattle.settings.specs.Settings.{settings}
 use Rattle.writer.specs.Writing as W
 use Rattle.writer.specs.Writing.{frameCount, multiframesFor, needed, writing, verdict}
 use Rattle.writer.specs.Laws.{length-image, Accepted, accepts}
@@ -24,7 +25,7 @@ accepted : (rate kind : ℕ) (indices out : List ℕ) (n : ℕ) → writing (set
 unfolding writing
 accepted rate kind indices out n e = by (verdict (settings rate kind) indices (length out)) e
   where
-    by : (v : WA.Answer) → W.finished rate kind indices out v .answer ≡ Written n → v ≡ Written n
+    by : (v : WA.Answer) → W.finished (settings rate kind) indices out v .answer ≡ Written n → v ≡ Written n
     by (Written k) e = e
     by (WV.Refused r) e = e
 
@@ -47,13 +48,12 @@ module _ (rate kind : ℕ) (indices out : List ℕ) (c : Call rate kind indices 
   ok : writing (settings rate kind) indices out .answer ≡ Written n
   ok = write-zero rate kind indices out (c .written)
 
-  pub took : Accepted rate kind indices (length out) n
-  took = L.accepted rate kind indices (length out) n (accepted rate kind indices out n ok)
+  pub took : Accepted (settings rate kind) indices (length out) n
+  took = L.accepted (settings rate kind) indices (length out) n (accepted rate kind indices out n ok)
 
   abbrev pub called : Utterance
   called = record {
-    rate = rate;
-    kind = kind;
+    settings = settings rate kind;
     indices = indices;
     small = c .small;
     written = accepts (settings rate kind) indices (needed indices) (took .sizes) (took .narrow-indices) (took .speaks) (omega arith);

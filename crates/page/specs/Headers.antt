@@ -69,7 +69,7 @@ codeword-is m h l =
     sym (codeword-packed m (sum m 16) h (sym (parity-sum m 16 (omega arith)) ∙ ap parity (mod-eq-of-lt h)))
     ∙ ap (λ (x : ℕ). bitOr (bitAnd x 1 * 2 ^ 31 % 2 ^ 32) (front m)) (sym (ones-in 31 (front m) l))
 
-message-is : (m : ℕ) → m < 2 ^ 16 → message (bitAnd m 3) (bitAnd (m / 4) 1) (bitAnd (m / 8) 15) (m / 128) ≡ m
+message-is : (m : ℕ) → m < 2 ^ 16 → message (settings (bitAnd m 3) (bitAnd (m / 4) 1)) (bitAnd (m / 8) 15) (m / 128) ≡ m
 message-is m h =
     ap₂ (λ (r t : ℕ). message (settings r t) (bitAnd (m / 8) 15) (m / 128)) (rate-masked m) (type-masked m)
     ∙ ap₂ (λ (c e : ℕ). message (settingsOf m) c e) (count-masked m) (exp-shifted m h) ∙ message-back m h
@@ -82,7 +82,7 @@ header-is : (m : ℕ) → m < 2 ^ 16 → front m < 2 ^ 31 → m / 128 ≡ 0
     → header (bitAnd m 3) (bitAnd (m / 4) 1) (bitAnd (m / 8) 15) ≡ octets headerOctets (field 32 (word m))
 header-is m h l z =
     ap (λ (w : ℕ). octets headerOctets (field 32 w))
-    (ap (λ (e : ℕ). codeword (message (bitAnd m 3) (bitAnd (m / 4) 1) (bitAnd (m / 8) 15) e)) (sym z) ∙ ap codeword (message-is m h) ∙ codeword-is m h l)
+    (ap (λ (e : ℕ). codeword (message (settings (bitAnd m 3) (bitAnd (m / 4) 1)) (bitAnd (m / 8) 15) e)) (sym z) ∙ ap codeword (message-is m h) ∙ codeword-is m h l)
 
 -- a multiframe from its header and its stream
 pub multiframe-is : (rate kind : ℕ) (idx : List ℕ) (k : ℕ) (h b : List ℕ) → header rate kind (k + 1) ≡ h

@@ -9,7 +9,7 @@ use native.Mathlib.Omega.{arith}
 use lib.IntN.{ℤ, pos, negsuc}
 use lib.ListN.{replicate}
 use borrow.Author.Tests.{eq-eqb, ne-eqb}
-use Rattle.settings.specs.declared.Settings.{Settings}
+use Rattle.settings.specs.Settings.{settings as set}
 use Rattle.header.specs.Message.{message, rateOf, countOf, commonBits}
 use Rattle.header.specs.Message.Laws.{rate-back, count-back, common-rate, common-message, message-counts, message-rate-1}
 use Rattle.header.specs.declared.Header.{Header}

@@ -18,7 +18,7 @@ use Rattle.lists.specs.Tests.{when, true-false}
 use Rattle.lists.specs.Parts.{part}
 use Rattle.layout.specs.Layout.{packetBits, frameIndices, firstFrame, secondFrame, firstPair, multiframePairs, multiframeFrames, multiframeOctets, mostFrames}
 use Rattle.settings.specs.declared.Settings.{Settings}
-use Rattle.settings.specs.Settings.{settings}
+use Rattle.settings.specs.Settings.{settings, settingsRight}
 use Rattle.crc.specs.Damage.{flips-burst, flips-double}
 use Rattle.packet.specs.Packet.{frameAt, packetOf}
 use Rattle.packet.specs.Laws.{length-packetOf}

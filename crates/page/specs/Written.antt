@@ -111,7 +111,7 @@ unfolding writing image
 silent rate kind h e f = rw e (ap (λ (i : List ℕ). seen 0 144 (i ++ lent 2)) (multiframe-is rate kind [] 0 h (replicate 138 0) f no-stream))
 
 long : (out : List ℕ) → 36720 ≤ length out → told 0 0 (replicate 42833 1) out ≡ (0, 36720)
-long out h = ap (λ (a : Answer). (numberOf a, placeOf a)) (written-ones 0 0 6119 refl (lit≤ tt) out h)
+long out h = ap (λ (a : Answer). (numberOf a, placeOf a)) (written-ones (settings 0 0) 6119 refl (lit≤ tt) out h)
 
 pub table : Table
 unfolding writing verdict roomAnswer firstFrom

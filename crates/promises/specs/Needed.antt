@@ -21,6 +21,7 @@ use Rattle.lists.specs.Tests.{when, by-test, true-false}
 use Rattle.lists.specs.Parts.{part, part-left, part-right}
 use Rattle.lists.specs.Rows.{each}
 use Rattle.layout.specs.Layout.{frameIndices, dataBits, multiframeFrames, multiframePairs, multiframeOctets, syncOctets, headerOctets, streamOctets, packetBits, pairOf, firstFrame, secondFrame, firstPair}
+use Rattle.settings.specs.Settings.{settings}
 use Rattle.settings.specs.declared.Settings.{Settings}
 use Rattle.bits.specs.Bits.{value, bits}
 use Rattle.crc.specs.Crc.{right}
@@ -230,7 +231,7 @@ fifteen-mistrusted = (
     warned-of-nothing = without-warning saysEighth zeroBook zeroThresholds (indexFor 1) (reportFor 1) (lent-zeros 1);
     not-written = λ w.
         passes-15 .different
-        (sym (image-packet 0 0 eighth 1 0 (lit< tt)) ∙ ap (λ (s : List ℕ). packetIn s 0) (w .image) ∙ image-packet 0 0 (lone 1) 1 0 (lit< tt));
+        (sym (image-packet (settings 0 0) eighth 1 0 (lit< tt)) ∙ ap (λ (s : List ℕ). packetIn s 0) (w .image) ∙ image-packet (settings 0 0) (lone 1) 1 0 (lit< tt));
   },
 )
 

@@ -10,6 +10,8 @@ use lib.ListN.{length, take, drop, replicate}
 use lib.Seq.{take-at}
 use Rattle.lists.specs.Parts.{over, length-over}
 use Rattle.layout.specs.Layout.{indexOctets, reportOctets, codebookNumbers}
+use Rattle.settings.specs.declared.Settings.{Settings}
+use Rattle.settings.specs.Settings.{settings}
 use Rattle.writer.specs.Writing as W
 use Rattle.writer.specs.Writing.{needed, multiframesFor, frameCount, verdict, image, writing}
 use Rattle.writer.specs.Laws.{length-image, accepted, accepts}
@@ -18,7 +20,7 @@ use Rattle.writer.specs.Image.{Utterance, imageOf, is-accepted}
 use Rattle.writer.specs.declared.Answer as WA
 use Rattle.writer.specs.declared.Answer.the-variants.{Written, Refused}
 use Rattle.writer.specs.declared.Refusal as WR
-use Rattle.writer.specs.declared.Refusal.the-variants.{Settings}
+use Rattle.writer.specs.declared.Refusal.the-variants.{Settings as WrongSettings}
 use Rattle.reader.specs.Reading.{Outcome, outcome, reading}
 use Rattle.reader.specs.ReadingLaws.{refusal-keeps}
 use Rattle.reader.specs.Steps.{wrong-codebook}
@@ -55,17 +57,17 @@ afterWriting codebook thresholds index report o (Written n) =
     (reading (take n o) codebook thresholds index report .report)
 afterWriting codebook thresholds index report o (Refused r) = made (NotWritten r) o index report
 
-unfoldable pub trip : ℕ → ℕ → List ℕ → List ℤ → List ℤ → List ℕ → List ℕ → List ℕ → Made
+unfoldable pub trip : Settings → List ℕ → List ℤ → List ℤ → List ℕ → List ℕ → List ℕ → Made
 trip settings idx codebook thresholds out index report =
     afterWriting codebook thresholds index report (writing settings idx out .output) (writing settings idx out .answer)
 
 -- what a caller of both needs: the same settings, all multiframes and frames, no bad pair, and the end
-abbrev pub whole : ℕ → ℕ → List ℕ → Summary
+abbrev pub whole : Settings → List ℕ → Summary
 whole settings idx =
-    record { rate = rate; kind = type; multiframes = multiframesFor (frameCount idx); speech = frameCount idx; bad = 0; end = 1 }
+    record { settings = settings; multiframes = multiframesFor (frameCount idx); speech = frameCount idx; bad = 0; end = 1 }
 
 -- the first n octets are the utterance's image, and octets beyond are as they came
-abbrev pub imaged : ℕ → ℕ → List ℕ → ℕ → List ℕ → List ℕ
+abbrev pub imaged : Settings → List ℕ → ℕ → List ℕ → List ℕ
 imaged settings idx n out = over out 0 n (image settings idx (multiframesFor (frameCount idx)))
 
 -- the frames as written and zeros after them, 168 octets a multiframe, and octets beyond as they came
@@ -137,8 +139,7 @@ module _ (settings : Settings) (idx : List ℕ) (codebook thresholds : List ℤ)
       let a = accepted settings idx (length out) n e in
       let u : Utterance =
       record {
-        rate = rate;
-        kind = type;
+        settings = settings;
         indices = idx;
         small = small;
         written = accepts settings idx (needed idx) (a .sizes) (a .narrow-indices) (a .speaks) (omega arith);
@@ -245,12 +246,12 @@ wrong-tables u codebook thresholds out index report room wrong =
     (sym (wrong-codebook (imageOf u) codebook thresholds index report wrong))
 
 -- so is 01's frame 1 with no codebook at all: its 144 octets stand in the output, and the octet beyond is as it came
-pub unread-1 : trip 0 0 (lone 1) [] zeroThresholds (replicate 145 255) (indexFor 1) (reportFor 1)
+pub unread-1 : trip (settings 0 0) (lone 1) [] zeroThresholds (replicate 145 255) (indexFor 1) (reportFor 1)
     ≡ made (NotRead WrongTables) (imageOf says1 ++ (255 ∷ [])) (indexFor 1) (reportFor 1)
 unread-1 = wrong-tables says1 [] zeroThresholds (replicate 145 255) (indexFor 1) (reportFor 1) (omega arith) (λ e. omega arith)
 
 -- and a rate of 2 is not written
-pub unwritten-2 : trip 2 0 (lone 1) zeroBook zeroThresholds (replicate 145 255) (indexFor 1) (reportFor 1)
-    ≡ made (NotWritten Settings) (replicate 145 255) (indexFor 1) (reportFor 1)
+pub unwritten-2 : trip (settings 2 0) (lone 1) zeroBook zeroThresholds (replicate 145 255) (indexFor 1) (reportFor 1)
+    ≡ made (NotWritten WrongSettings) (replicate 145 255) (indexFor 1) (reportFor 1)
 unfolding verdict
-unwritten-2 = not-written 2 0 (lone 1) zeroBook zeroThresholds (replicate 145 255) (indexFor 1) (reportFor 1) Settings refl
+unwritten-2 = not-written (settings 2 0) (lone 1) zeroBook zeroThresholds (replicate 145 255) (indexFor 1) (reportFor 1) WrongSettings refl
