@@ -16,7 +16,7 @@ rateOf m = m % 4
 pub typeOf : ℕ → ℕ
 typeOf m = m / 4 % 2
 
--- its settings
+-- its settings, both in one record: open, since the two are shut
 abbrev pub settingsOf : ℕ → Settings
 settingsOf m = settings (rateOf m) (typeOf m)
 

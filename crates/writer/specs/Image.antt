@@ -11,7 +11,7 @@ use lib.ListN.{length, getD, List·getD-eq-default}
 use lib.Pow.{pow-pos}
 use lib.Seq.{ext-getD}
 use borrow.Author.Tests.{eqb-false, ltb-false}
-use Rattle.lists.specs.Tests.{when, true-false, not-true}
+use Rattle.lists.specs.Tests.{true-false, not-true}
 use Rattle.lists.specs.Parts.{part, over}
 use Rattle.settings.specs.declared.Settings.{Settings}
 use Rattle.settings.specs.Settings.{settingsRight, rate-right, kind-right, right-not-2}
