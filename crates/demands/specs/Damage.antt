@@ -72,7 +72,7 @@ loosened le d =
 
 -- the message that the writer sends in header k
 abbrev pub sentMessage : Utterance → ℕ → ℕ
-sentMessage u k = message (u .rate) (u .kind) (k + 1) 0
+sentMessage u k = message (u .settings) (k + 1) 0
 
 -- ---- what is left
 -- damage is a difference
@@ -85,22 +85,22 @@ module _ (u : Utterance) (s : List ℕ) (k : ℕ) (h : k < multiframesOf u) wher
   -- header k is that far from the codeword sent
   pub header-near : flipsTo (wordIn s k) (sentMessage u k) ≡ headerFlips (imageOf u) s k
   unfolding flipsTo
-  header-near = ap (λ (w : ℕ). ones (bitXor (wordIn s k) w)) (sym (image-word (u .rate) (u .kind) (u .indices) (multiframesOf u) k h))
+  header-near = ap (λ (w : ℕ). ones (bitXor (wordIn s k) w)) (sym (image-word (u .settings) (u .indices) (multiframesOf u) k h))
 
   -- with at most two flips it is read as that codeword, and its flips are counted
   pub header-read : headerFlips (imageOf u) s k ≤ 2 → reading (wordIn s k) ≡ Codeword (decodedAs (wordIn s k) (sentMessage u k))
   header-read few =
-      near (wordIn s k) (sentMessage u k) (message-lt (u .rate) (u .kind) (k + 1) 0) (subst (λ (n : ℕ). n ≤ 2) (sym header-near) few)
+      near (wordIn s k) (sentMessage u k) (message-lt (u .settings) (k + 1) 0) (subst (λ (n : ℕ). n ≤ 2) (sym header-near) few)
 
   -- and with three it is lost
   pub header-lost : headerFlips (imageOf u) s k ≡ 3 → reading (wordIn s k) ≡ Lost
-  header-lost e = lost-at-three (wordIn s k) (sentMessage u k) (message-lt (u .rate) (u .kind) (k + 1) 0) (header-near ∙ e)
+  header-lost e = lost-at-three (wordIn s k) (sentMessage u k) (message-lt (u .settings) (k + 1) 0) (header-near ∙ e)
 
 -- ---- pairs
 module _ {most : ℕ} (u : Utterance) (s : List ℕ) (d : DamageUpTo most (multiframesOf u) (imageOf u) s) where
   module _ (q : ℕ) (h : q < pairsOf u) where
     sent : packetIn (imageOf u) q ≡ packetOf (u .indices) q
-    sent = image-packet (u .rate) (u .kind) (u .indices) (multiframesOf u) q h
+    sent = image-packet (u .settings) (u .indices) (multiframesOf u) q h
 
     -- a pair is damaged or it is as it was sent, and the CRC tells which
     pub data Fate : Type 0 where

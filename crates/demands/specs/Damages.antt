@@ -32,12 +32,12 @@ module _ (most : ℕ) (u : Utterance) (w : ℕ → ℕ) (x : ℕ → List Bool) 
   pub damage-up-to : PartsUpTo → DamageUpTo most (multiframesOf u) (imageOf u) (made w x (multiframesOf u))
   unfolding flipsTo
   damage-up-to p = record {
-    size = length-made w x m ∙ sym (length-image (u .rate) (u .kind) (u .indices) m);
+    size = length-made w x m ∙ sym (length-image (u .settings) (u .indices) m);
     small = small-made w x m;
-    syncs = λ k h. made-sync w x m k h ∙ sym (image-sync (u .rate) (u .kind) (u .indices) m k h);
+    syncs = λ k h. made-sync w x m k h ∙ sym (image-sync (u .settings) (u .indices) m k h);
     headers = λ k h.
         subst (λ (n : ℕ). n ≤ most)
-        (sym (ap₂ (λ (a b : ℕ). ones (bitXor a b)) (made-word w x m k h (p .words k h)) (image-word (u .rate) (u .kind) (u .indices) m k h)))
+        (sym (ap₂ (λ (a b : ℕ). ones (bitXor a b)) (made-word w x m k h (p .words k h)) (image-word (u .settings) (u .indices) m k h)))
         (p .near-words k h);
     packets = λ q h. packet q h (p .each q h);
   }
@@ -50,7 +50,7 @@ module _ (most : ℕ) (u : Utterance) (w : ℕ → ℕ) (x : ℕ → List Bool) 
           → (packetIn (made w x m) q ≡ packetIn (imageOf u) q) ⊎ Damaged (packetIn (imageOf u) q) (packetIn (made w x m) q)
       packet q h e =
           let got = made-packet w x m q h (p .sizes (q / 12) (omega arith)) in
-          let sent = image-packet (u .rate) (u .kind) (u .indices) m q h in
+          let sent = image-packet (u .settings) (u .indices) m q h in
           ⊎-elim (λ a. inl (got ∙ a ∙ sym sent)) (λ a. inr (subst (λ (l : List Bool). Damaged l (packetIn (made w x m) q)) (sym sent) (subst (Damaged (packetOf (u .indices) q)) (sym got) a))) e
 
 -- demand 3's: within two flips
@@ -64,7 +64,7 @@ damage-made = damage-up-to 2
 pub unharmed : (u : Utterance) → Damage (multiframesOf u) (imageOf u) (imageOf u)
 unharmed u = record {
   size = refl;
-  small = image-small (u .rate) (u .kind) (u .indices) (multiframesOf u);
+  small = image-small (u .settings) (u .indices) (multiframesOf u);
   syncs = λ k h. refl;
   headers = λ k h. subst (λ (n : ℕ). ones n ≤ 2) (sym (xor-self (wordIn (imageOf u) k))) (omega (arith, ones-le 0 0 (lit< tt)));
   packets = λ q h. inl refl;

@@ -16,6 +16,7 @@ use Rattle.header.specs.declared.Header.the-variants.{Codeword, Lost}
 use lib.Dec.{lit<}
 use lib.ListN.{length, replicate}
 use Rattle.layout.specs.Layout.{widths, dataBits, packetBits}
+use Rattle.settings.specs.Settings.{settings}
 use Rattle.bits.specs.Bits.{field, laid}
 use Rattle.crc.specs.Crc.{rem, crc, after, Right, flip}
 use Rattle.packet.specs.Packet.{frame, guarded, packet}
@@ -24,7 +25,7 @@ use Rattle.replacing.specs.Examples.{standIns, one-bad, two-bad}
 
 -- the header of 8 kHz, type 0 and this count, in sending order
 abbrev pub header8 : ℕ → List ℕ
-header8 count = octets (codeword (message 0 0 count 0))
+header8 count = octets (codeword (message (settings 0 0) count 0))
 
 -- 01 00 01 01 as a word
 abbrev pub halfway : ℕ
@@ -40,15 +41,15 @@ pub record Table : Type 0 where
   pub header-count-2 : header8 2 ≡ 0x10 ∷ 0x00 ∷ 0x1D ∷ 0x0D ∷ []
   pub header-count-3 : header8 3 ≡ 0x18 ∷ 0x00 ∷ 0x13 ∷ 0xE3 ∷ []
   -- "SampRate 1 alone: 01 00 01 D1, six ones."
-  pub rate-1-alone : octets (codeword (message 1 0 0 0)) ≡ 0x01 ∷ 0x00 ∷ 0x01 ∷ 0xD1 ∷ []
-  pub rate-1-six-ones : ones (codeword (message 1 0 0 0)) ≡ 6
+  pub rate-1-alone : octets (codeword (message (settings 1 0) 0 0)) ≡ 0x01 ∷ 0x00 ∷ 0x01 ∷ 0xD1 ∷ []
+  pub rate-1-six-ones : ones (codeword (message (settings 1 0) 0 0)) ≡ 6
   -- "01 00 01 01 is three from it and three from zero: lost."
   pub halfway-octets : octets halfway ≡ 0x01 ∷ 0x00 ∷ 0x01 ∷ 0x01 ∷ []
-  pub three-from-it : flipsTo halfway (message 1 0 0 0) ≡ 3
-  pub three-from-nothing : flipsTo halfway (message 0 0 0 0) ≡ 3
+  pub three-from-it : flipsTo halfway (message (settings 1 0) 0 0) ≡ 3
+  pub three-from-nothing : flipsTo halfway (message (settings 0 0) 0 0) ≡ 3
   pub halfway-lost : reading halfway ≡ Lost
   -- "EXP9 alone: 00 80 80 E8."
-  pub exp-9-alone : octets (codeword (message 0 0 0 256)) ≡ 0x00 ∷ 0x80 ∷ 0x80 ∷ 0xE8 ∷ []
+  pub exp-9-alone : octets (codeword (message (settings 0 0) 0 256)) ≡ 0x00 ∷ 0x80 ∷ 0x80 ∷ 0xE8 ∷ []
   -- "Frame 1,0,0,0,0,0,0 with a zero frame: the CRC is the single term X, stream bit 90."
   pub single-term : crc (frame widths oneFrame ++ frame widths zeroFrame) ≡ rem false false true false
   pub stream-bit-90 : packet widths oneFrame zeroFrame ≡ true ∷ (replicate 89 false ++ (true ∷ false ∷ []))

@@ -6,7 +6,6 @@ use mathlib.Core.Bool.{true}
 use mathlib.Core.List.{List, [], _∷_}
 use mathlib.Core.Logic.{_⊎_, inl, inr}
 use Prim.Native.Nat.{ℕ, _+_, _%_, _≤_, _<_}
-use native.Mathlib.Nat.{mod-eq-of-lt}
 use native.Mathlib.Decide.{decLt}
 use native.Mathlib.Omega.{arith}
 use lib.Dec.{leb}
@@ -14,9 +13,10 @@ use lib.ListN.{length, getD, List·getD-eq-default}
 use borrow.Author.Tests.{eq-eqb, le-leb, lt-leb}
 use Rattle.lists.specs.Tests.{when, true-false}
 use Rattle.lists.specs.Rows.{each, length-each, each-at, same-each}
+use Rattle.settings.specs.declared.Settings.{Settings}
 use Rattle.header_code.specs.Code.{flipsTo}
-use Rattle.header.specs.Message.{message, rateOf, typeOf, countOf, expOf, commonBits}
-use Rattle.header.specs.Message.Laws.{rate-back, type-back, count-back, exp-back, common-rate, common-type, common-exp, common-message}
+use Rattle.header.specs.Message.{message, rateOf, countOf, expOf, commonBits, settingsOf}
+use Rattle.header.specs.Message.Laws.{count-back, exp-back, common-exp, common-message, settings-back, common-settings}
 use Rattle.header.specs.Reading as H
 use Rattle.header.specs.Reading.Laws.{lost-not-read, same-message}
 use Rattle.header.specs.declared.Decoded.{Decoded}
@@ -26,25 +26,25 @@ use Rattle.settling.specs.Settling.{among, readings, settling, headerNote}
 use Rattle.settling.specs.Laws.{Has, Earlier, First, settled-first, has-read, read-has, settled-same, two-settle, note-lost, only-clean, only-mended, only-lost}
 use Rattle.settling.specs.declared.Settlement.the-variants.{Settled, Unsettled}
 use Rattle.writer.specs.Made.{wordIn}
-use Rattle.writer.specs.Image.{Utterance, multiframesOf, imageOf, rate-small, kind-small}
-use Rattle.demands.specs.Damage.{Damage, headerFlips, sentMessage, header-near, header-read, header-lost}
+use Rattle.writer.specs.Image.{Utterance, multiframesOf, imageOf, settings-right}
+use Rattle.demands.specs.Damage.{Damage, headerFlips, sentMessage, header-read, header-lost, header-near}
 use Rattle.demands.specs.Whole.{rowOf, readings-are}
 
 -- the common bits that the writer sends, whatever the counter
 abbrev pub sentCommon : Utterance → ℕ
-sentCommon u = commonBits (message (u .rate) (u .kind) 0 0)
+sentCommon u = commonBits (message (u .settings) 0 0)
 
 pub common-sent : (u : Utterance) (k : ℕ) → commonBits (sentMessage u k) ≡ sentCommon u
-common-sent u k = common-message (u .rate) (u .kind) (k + 1) 0
+common-sent u k = common-message (u .settings) (k + 1) 0
 
-pub rate-sent : (u : Utterance) → rateOf (sentCommon u) ≡ u .rate
-rate-sent u = common-rate (message (u .rate) (u .kind) 0 0) ∙ rate-back (u .rate) (u .kind) 0 0 ∙ mod-eq-of-lt (rate-small u)
+pub settings-sent : (u : Utterance) → settingsOf (sentCommon u) ≡ u .settings
+settings-sent u = common-settings (message (u .settings) 0 0) ∙ settings-back (u .settings) 0 0 (settings-right u)
 
-pub kind-sent : (u : Utterance) → typeOf (sentCommon u) ≡ u .kind
-kind-sent u = common-type (message (u .rate) (u .kind) 0 0) ∙ type-back (u .rate) (u .kind) 0 0 ∙ mod-eq-of-lt (kind-small u)
+pub rate-sent : (u : Utterance) → rateOf (sentCommon u) ≡ u .settings .rate
+rate-sent u = ap (λ (s : Settings). s .rate) (settings-sent u)
 
 pub exp-sent : (u : Utterance) → expOf (sentCommon u) ≡ 0
-exp-sent u = common-exp (message (u .rate) (u .kind) 0 0) ∙ exp-back (u .rate) (u .kind) 0 0
+exp-sent u = common-exp (message (u .settings) 0 0) ∙ exp-back (u .settings) 0 0
 
 -- a header read as sent, in step and as settled, has its flips for a note
 note-of-read : (u : Utterance) (k w : ℕ) → headerNote (sentCommon u) k (Codeword (H.decodedAs w (sentMessage u k))) ≡ flipsTo w (sentMessage u k)
@@ -52,7 +52,7 @@ unfolding headerNote
 note-of-read u k w =
     let f = flipsTo w (sentMessage u k) in
     let z : f + 0 + 0 ≡ f = omega arith in
-    rw (eq-eqb (countOf (sentMessage u k)) ((k + 1) % 16) (count-back (u .rate) (u .kind) (k + 1) 0), eq-eqb (commonBits (sentMessage u k)) (sentCommon u) (common-sent u k)) z
+    rw (eq-eqb (countOf (sentMessage u k)) ((k + 1) % 16) (count-back (u .settings) (k + 1) 0), eq-eqb (commonBits (sentMessage u k)) (sentCommon u) (common-sent u k)) z
 
 -- what a header is read as whose word came for this message: up to two flips are mended and counted, three lose it
 abbrev pub heardAs : ℕ → ℕ → Header

@@ -15,6 +15,7 @@ use lib.Seq.{take-at, drop-append-add}
 use Rattle.gf2.specs.Light.{ones-in}
 use Rattle.lists.specs.Parts.{part}
 use Rattle.layout.specs.Layout.{widths, frameIndices, firstFrame, packetBits, streamOctets}
+use Rattle.settings.specs.Settings.{settings}
 use Rattle.frames.specs.Frames.{zeroFrame}
 use Rattle.bits.specs.Bits.{field, laid}
 use Rattle.carrier.specs.Carrier.{streamPacket}
@@ -49,20 +50,20 @@ small-lone x h (suc (suc (suc (suc (suc zero))))) = lit< tt
 small-lone x h (suc (suc (suc (suc (suc (suc zero)))))) = lit< tt
 small-lone x h (suc (suc (suc (suc (suc (suc (suc i))))))) = lit< tt
 
-pub written-1 : verdict 0 0 (lone 1) (needed (lone 1)) ≡ Written (needed (lone 1))
+pub written-1 : verdict (settings 0 0) (lone 1) (needed (lone 1)) ≡ Written (needed (lone 1))
 unfolding verdict roomAnswer firstFrom zeroFrame
 written-1 = refl
 
-pub written-2 : verdict 0 0 (lone 2) (needed (lone 2)) ≡ Written (needed (lone 2))
+pub written-2 : verdict (settings 0 0) (lone 2) (needed (lone 2)) ≡ Written (needed (lone 2))
 unfolding verdict roomAnswer firstFrom zeroFrame
 written-2 = refl
 
 -- 8 kHz, type 0, the frame 1,0,0,0,0,0,0; and the same with 2 for 1
 abbrev pub says1 : Utterance
-says1 = record { rate = 0; kind = 0; indices = lone 1; small = small-lone 1 (lit< tt); written = written-1 }
+says1 = record { settings = settings 0 0; indices = lone 1; small = small-lone 1 (lit< tt); written = written-1 }
 
 abbrev pub says2 : Utterance
-says2 = record { rate = 0; kind = 0; indices = lone 2; small = small-lone 2 (lit< tt); written = written-2 }
+says2 = record { settings = settings 0 0; indices = lone 2; small = small-lone 2 (lit< tt); written = written-2 }
 
 -- ---- one multiframe whose first packet is another
 abbrev pub firstSwapped : List ℕ → List Bool → List Bool
@@ -106,7 +107,7 @@ module _ (u : Utterance) (single : multiframesOf u ≡ 1) (p : List Bool) (d : D
   hurt =
       damage-made u flippedWord swappedStream
       record {
-        words = λ k h. xor-lt 32 (codeword (sentMessage u k)) 3 (codeword-lt (sentMessage u k) (message-lt (u .rate) (u .kind) (k + 1) 0)) (lit< tt);
+        words = λ k h. xor-lt 32 (codeword (sentMessage u k)) 3 (codeword-lt (sentMessage u k) (message-lt (u .settings) (k + 1) 0)) (lit< tt);
         near-words = λ k h. two-flips k;
         sizes = λ k h. length-swapped (u .indices) p size;
         each = each-packet;

@@ -17,6 +17,7 @@ use Rattle.gf2.specs.Light.{ones-in}
 use Rattle.lists.specs.Tests.{true-false}
 use Rattle.lists.specs.Parts.{part, over}
 use Rattle.layout.specs.Layout.{frameIndices, packetBits, streamOctets, indexOctets, reportOctets, codebookNumbers, thresholdNumbers, firstPair}
+use Rattle.settings.specs.Settings.{settings}
 use Rattle.frames.specs.Frames.{zeroFrame}
 use Rattle.carrier.specs.Carrier.{streamPacket}
 use Rattle.crc.specs.Crc.{flip, Damaged}
@@ -120,15 +121,15 @@ module _ (u : Utterance) where
 
   pub writes-again-met : A.Premises (imageOf u) zeroBook zeroThresholds (indexFor m) (reportFor m) output (spoken u)
   writes-again-met = record {
-    small = image-small (u .rate) (u .kind) (u .indices) m;
+    small = image-small (u .settings) (u .indices) m;
     succeeds = ap (λ (o : Outcome). o .answer) (reads-image u zeroBook zeroThresholds (indexFor m) (reportFor m) (lent-zeros m));
     notes-0 = λ i h.
         ap (λ (l : List ℕ). getD l i 0) report-is
         ∙ front-at (reportFor m) (replicate (reportOctets * m) 0) (reportOctets * m) i (subst (λ (k : ℕ). i < k) (sym (length-replicate (reportOctets * m) 0)) h) ∙ no-more (reportOctets * m) i;
     ended = refl;
-    no-inverses = length-image (u .rate) (u .kind) (u .indices) m;
+    no-inverses = length-image (u .settings) (u .indices) m;
     octets = needed (u .indices);
-    accepts = ap (λ (l : List ℕ). writing (u .rate) (u .kind) l output .answer) frames-are
+    accepts = ap (λ (l : List ℕ). writing (u .settings) l output .answer) frames-are
         ∙ ap (λ (o : W.Outcome). o .answer) (writes u output (le-of-eq (sym (length-replicate (needed (u .indices)) 0))));
   }
 
@@ -205,7 +206,7 @@ module _ (u : Utterance) where
   hurts =
       damage-made u hurtWord hurtStream
       record {
-        words = λ k h. xor-lt 32 (codeword (sentMessage u k)) 3 (codeword-lt (sentMessage u k) (message-lt (u .rate) (u .kind) (k + 1) 0)) (lit< tt);
+        words = λ k h. xor-lt 32 (codeword (sentMessage u k)) 3 (codeword-lt (sentMessage u k) (message-lt (u .settings) (k + 1) 0)) (lit< tt);
         near-words = λ k h. two-flips k;
         sizes = λ k h. length-hurt k;
         each = λ q h.
@@ -220,7 +221,7 @@ module _ (u : Utterance) where
   third-good b =
       ⊎-elim
       (λ t. t (made-packet hurtWord hurtStream (multiframesOf u) 2 (omega arith) (length-hurt 0) ∙ part-on 0 0 (omega arith)
-      ∙ sym (image-packet (u .rate) (u .kind) (u .indices) (multiframesOf u) 2 (omega arith))))
+      ∙ sym (image-packet (u .settings) (u .indices) (multiframesOf u) 2 (omega arith))))
       (λ r. true-false (sym (r .0) ∙ zero-consistent (frameAt (u .indices) 4) (frameAt (u .indices) 5))) b
 
   -- ---- NAMES THE DAMAGE: every utterance of two multiframes or more meets its premises
@@ -233,24 +234,20 @@ small-ones zero i = lit< tt
 small-ones (suc n) zero = lit< tt
 small-ones (suc n) (suc i) = small-ones n i
 
-written-24 : verdict 0 0 (replicate 168 1) (needed (replicate 168 1)) ≡ Written (needed (replicate 168 1))
+written-24 : verdict (settings 0 0) (replicate 168 1) (needed (replicate 168 1)) ≡ Written (needed (replicate 168 1))
 unfolding verdict roomAnswer firstFrom zeroFrame
 written-24 = refl
 
 pub says24 : Utterance
-says24 = record { rate = 0; kind = 0; indices = replicate 168 1; small = small-ones 168; written = written-24 }
+says24 = record { settings = settings 0 0; indices = replicate 168 1; small = small-ones 168; written = written-24 }
 
 pub two-multiframes : multiframesOf says24 ≡ 2
 unfolding says24
 two-multiframes = refl
 
-pub rate-24 : says24 .rate ≡ 0
+pub settings-24 : says24 .settings ≡ settings 0 0
 unfolding says24
-rate-24 = refl
-
-pub kind-24 : says24 .kind ≡ 0
-unfolding says24
-kind-24 = refl
+settings-24 = refl
 
 pub frames-24 : frameCount (says24 .indices) ≡ 24
 unfolding says24

@@ -38,14 +38,13 @@ use Rattle.writer.specs.Made.{part-within}
 use Rattle.writer.specs.Image.{image-sync, Utterance, multiframesOf, pairsOf, imageOf, is-accepted, rate-not-2, whole-frames}
 use Rattle.demands.specs.Damage.{DamageUpTo, Damage, loosened, Touched, headerFlips}
 use Rattle.demands.specs.Whole.{rowOf, Lent, reads-as, headerNoteIn, pairNoteIn, header-note-is, pair-note-is, front-part}
-use Rattle.demands.specs.Headers.{Settling, enough, settles, note-of-header, sentCommon, rate-sent, kind-sent, exp-sent}
+use Rattle.demands.specs.Headers.{Settling, enough, settles, note-of-header, sentCommon, settings-sent, rate-sent, exp-sent}
 use Rattle.demands.specs.Received.{BadPair, ByRule, Tells, is-so, not-so, Count, tells-rule, tells-bad, touched-note, note-one, note-two, bad-counted, frames-kept}
 
 -- what a success answer and both buffers have to say of a damaged image s
 pub record Names (u : Utterance) (s : List ℕ) (codebook thresholds : List ℤ) (given : Summary) (index report : List ℕ) : Type 0 where
   -- "gives the settings sent and m"
-  pub rate : given .rate ≡ u .rate
-  pub kind : given .kind ≡ u .kind
+  pub settings : given .settings ≡ u .settings
   pub multiframes : given .multiframes ≡ multiframesOf u
   -- "the note of every damaged pair is 1", and of no other
   pub damaged : (q : ℕ) → q < pairsOf u → (pairNoteIn report q ≡ 1) ↔ Touched (imageOf u) s q
@@ -146,14 +145,14 @@ module _ (u : Utterance) (s : List ℕ) (codebook thresholds : List ℤ) (index 
     }
 
     size : length s ≡ multiframeOctets * m
-    size = d .size ∙ length-image (u .rate) (u .kind) (u .indices) m
+    size = d .size ∙ length-image (u .settings) (u .indices) m
 
     pub read-is : result
         ≡ outcome (Read (summary s (rowOf m) ns (sentCommon u))) (over index 0 (indexOctets * length (rowOf m)) (indexPart s (rowOf m) ns))
         (over report 0 (reportOctets * length (rowOf m)) (reportPart s (rowOf m) ns (sentCommon u)))
     read-is =
-        reads-as s m (few-multiframes (u .rate) (u .kind) (u .indices) (is-accepted u .sizes)) size
-        (λ k h. d .syncs k h ∙ image-sync (u .rate) (u .kind) (u .indices) m k h) codebook thresholds index report (sentCommon u) (omega arith) (p .lent) fits-in
+        reads-as s m (few-multiframes (u .settings) (u .indices) (is-accepted u .sizes)) size
+        (λ k h. d .syncs k h ∙ image-sync (u .settings) (u .indices) m k h) codebook thresholds index report (sentCommon u) (omega arith) (p .lent) fits-in
 
     -- the report's octets are the notes
     pub pair-note : (q : ℕ) → q < pairsOf u → pairNoteIn (result .report) q ≡ getD (receivedNotes s (rowOf (multiframesOf u)) codebook thresholds) q 0
@@ -222,8 +221,7 @@ module _ (u : Utterance) (s : List ℕ) (codebook thresholds : List ℤ) (index 
       given = summary s (rowOf m) ns (sentCommon u);
       succeeds = ap (λ (o : Outcome). o .answer) read-is;
       names = record {
-        rate = rate-sent u;
-        kind = kind-sent u;
+        settings = settings-sent u;
         multiframes = rows;
         damaged = λ q h. (
           (λ e. note-one u s d codebook thresholds q h (sym (pair-note q h) ∙ e)),

@@ -27,6 +27,8 @@ use Rattle.gf2.specs.Xor.{xor-swap}
 use Rattle.lists.specs.Tests.{true-false}
 use Rattle.lists.specs.Rows.{each, joined, length-joined, joined-part}
 use Rattle.layout.specs.Layout.{frameIndices, multiframeFrames, indexOctets, packetBits, multiframePairs, multiframeOctets, mostMultiframes, streamOctets, firstPair, multiframeOf, sync}
+use Rattle.settings.specs.declared.Settings.{Settings}
+use Rattle.settings.specs.Settings.{settings}
 use Rattle.frames.specs.Frames.{zeroFrame}
 use Rattle.bits.specs.Bits.{field, laid}
 use Rattle.crc.specs.Crc.{crc, after, flip, Damaged}
@@ -37,7 +39,7 @@ use Rattle.header_code.specs.Code.{codeword, flipsTo}
 use Rattle.header_code.specs.Code.Distance.{codeword-lt}
 use Rattle.header_code.specs.Code.Syndrome.{codeword-xor}
 use Rattle.header_code.specs.Code.Examples.{three-from-rate-1}
-use Rattle.header.specs.Message.{message, rateOf, typeOf}
+use Rattle.header.specs.Message.{message, settingsOf}
 use Rattle.header.specs.Message.Laws.{message-lt, message-back, message-counts, rate-masked, type-masked, count-masked, exp-shifted}
 use Rattle.header.specs.Reading.Laws.{flips-of}
 use Rattle.carrier.specs.Carrier.{streamPacket, received, pairCount}
@@ -67,13 +69,13 @@ module _ (u : Utterance) (s : List ℕ) (d : Damage (multiframesOf u) (imageOf u
   m = multiframesOf u
 
   few : m ≤ mostMultiframes
-  few = few-multiframes (u .rate) (u .kind) (u .indices) (is-accepted u .sizes)
+  few = few-multiframes (u .settings) (u .indices) (is-accepted u .sizes)
 
   size : length s ≡ multiframeOctets * m
-  size = d .size ∙ length-image (u .rate) (u .kind) (u .indices) m
+  size = d .size ∙ length-image (u .settings) (u .indices) m
 
   syncs : (k : ℕ) → k < m → syncIn s k ≡ sync
-  syncs k h = d .syncs k h ∙ image-sync (u .rate) (u .kind) (u .indices) m k h
+  syncs k h = d .syncs k h ∙ image-sync (u .settings) (u .indices) m k h
 
   pub mended-unsettles : m ≡ 1 → (headerFlips (imageOf u) s 0 ≡ 0 → ⊥) → reading s codebook thresholds index report ≡ outcome (Refused Unsettled) index report
   mended-unsettles one touched =
@@ -136,7 +138,7 @@ module _ (u : Utterance) where
   all-hurts =
       damage-made u sentWord allHit
       record {
-        words = λ k h. codeword-lt (sentMessage u k) (message-lt (u .rate) (u .kind) (k + 1) 0);
+        words = λ k h. codeword-lt (sentMessage u k) (message-lt (u .settings) (k + 1) 0);
         near-words = λ k h. omega (arith, none-wrong k);
         sizes = λ k h. hit-size k;
         each = λ q h. inr (subst (Damaged (packetOf (u .indices) q)) (sym (hit-part q)) (one-flip q));
@@ -146,7 +148,7 @@ module _ (u : Utterance) where
   all-bad codebook thresholds q h =
       inl (λ e. differs (packetOf (u .indices) q) (flip (packetOf (u .indices) q) 0) (one-flip q)
       (sym (made-packet sentWord allHit (multiframesOf u) q h (hit-size (q / 12)) ∙ hit-part q) ∙ e
-      ∙ image-packet (u .rate) (u .kind) (u .indices) (multiframesOf u) q h))
+      ∙ image-packet (u .settings) (u .indices) (multiframesOf u) q h))
 
 -- ---- DISTANCE 15 PASSES: the image of one utterance is that of another with packet bits 0 and 15 flipped, and nothing else. A damage that
 -- allowed this distance would have its image equal an undamaged one
@@ -163,12 +165,12 @@ small-eighth (suc (suc (suc (suc (suc zero))))) = lit< tt
 small-eighth (suc (suc (suc (suc (suc (suc zero)))))) = lit< tt
 small-eighth (suc (suc (suc (suc (suc (suc (suc i))))))) = lit< tt
 
-pub written-eighth : verdict 0 0 eighth (needed eighth) ≡ Written (needed eighth)
+pub written-eighth : verdict (settings 0 0) eighth (needed eighth) ≡ Written (needed eighth)
 unfolding verdict roomAnswer firstFrom zeroFrame
 written-eighth = refl
 
 abbrev pub saysEighth : Utterance
-saysEighth = record { rate = 0; kind = 0; indices = eighth; small = small-eighth; written = written-eighth }
+saysEighth = record { settings = settings 0 0; indices = eighth; small = small-eighth; written = written-eighth }
 
 packet-1 : packetOf (lone 1) 0 ≡ true ∷ (replicate 89 false ++ (true ∷ false ∷ []))
 unfolding packetOf packet guarded crc after row laid field xor
@@ -187,23 +189,23 @@ pub record Passes15 : Type 0 where
 
 pub passes-15 : Passes15
 passes-15 = record {
-  syncs = λ k h. image-sync 0 0 eighth 1 k h ∙ sym (image-sync 0 0 (lone 1) 1 k h);
-  headers = λ k h. image-word 0 0 eighth 1 k h ∙ sym (image-word 0 0 (lone 1) 1 k h);
-  first = image-packet 0 0 eighth 1 0 (omega arith) ∙ packet-eighth
-      ∙ sym (ap (λ (p : List Bool). flip (flip p 0) 15) (image-packet 0 0 (lone 1) 1 0 (omega arith) ∙ packet-1));
+  syncs = λ k h. image-sync (settings 0 0) eighth 1 k h ∙ sym (image-sync (settings 0 0) (lone 1) 1 k h);
+  headers = λ k h. image-word (settings 0 0) eighth 1 k h ∙ sym (image-word (settings 0 0) (lone 1) 1 k h);
+  first = image-packet (settings 0 0) eighth 1 0 (omega arith) ∙ packet-eighth
+      ∙ sym (ap (λ (p : List Bool). flip (flip p 0) 15) (image-packet (settings 0 0) (lone 1) 1 0 (omega arith) ∙ packet-1));
   others = λ q h l.
-      image-packet 0 0 eighth 1 q (omega arith) ∙ past-packet eighth (lone 1) q (omega arith) (omega arith) ∙ sym (image-packet 0 0 (lone 1) 1 q (omega arith));
+      image-packet (settings 0 0) eighth 1 q (omega arith) ∙ past-packet eighth (lone 1) q (omega arith) (omega arith) ∙ sym (image-packet (settings 0 0) (lone 1) 1 q (omega arith));
   different = λ e. true-false (sym (ap (λ (p : List Bool). getD p 0 false) (sym packet-eighth ∙ e ∙ packet-1)));
 }
 
 -- ---- THREE FLIPS IN A HEADER CONFUSE TWO RATES: the same frames at 8 and at 11 kHz, and octets that are three header flips from the image of
 -- either and otherwise whole. This is how 8 kHz went to the 11 kHz model
-pub written-11 : verdict 1 0 (lone 1) (needed (lone 1)) ≡ Written (needed (lone 1))
+pub written-11 : verdict (settings 1 0) (lone 1) (needed (lone 1)) ≡ Written (needed (lone 1))
 unfolding verdict roomAnswer firstFrom zeroFrame
 written-11 = refl
 
 abbrev pub says1At11 : Utterance
-says1At11 = record { rate = 1; kind = 0; indices = lone 1; small = small-lone 1 (lit< tt); written = written-11 }
+says1At11 = record { settings = settings 1 0; indices = lone 1; small = small-lone 1 (lit< tt); written = written-11 }
 
 -- 01 00 01 01, halfway between SampRate 1 alone and nothing, laid on the header sent
 abbrev pub halfway : ℕ
@@ -215,9 +217,9 @@ halfwayWord k = bitXor (codeword 8) halfway
 abbrev pub confused : List ℕ
 confused = made halfwayWord (λ k. stream (lone 1) (firstPair k) multiframePairs) 1
 
-message-9 : message 1 0 1 0 ≡ 9
+message-9 : message (settings 1 0) 1 0 ≡ 9
 message-9 =
-    ap₂ (λ (a b : ℕ). message a b 1 0) (rate-masked 9) (type-masked 9) ∙ ap₂ (message (rateOf 9) (typeOf 9)) (count-masked 9) (exp-shifted 9 (lit< tt))
+    ap₂ (λ (a b : ℕ). message (settings a b) 1 0) (rate-masked 9) (type-masked 9) ∙ ap₂ (message (settingsOf 9)) (count-masked 9) (exp-shifted 9 (lit< tt))
     ∙ message-back 9 (lit< tt)
 
 -- the codewords of 8 kHz and 11 kHz differ by that of SampRate 1 alone
@@ -249,12 +251,12 @@ pub record Confuses : Type 0 where
 pub three-confuse : Confuses
 unfolding flipsTo
 three-confuse = record {
-  three-of-8 = ap₂ (λ (a b : ℕ). ones (bitXor a b)) word (image-word 0 0 (lone 1) 1 0 (lit< tt) ∙ ap codeword (message-counts .0)) ∙ three-8;
-  three-of-11 = ap₂ (λ (a b : ℕ). ones (bitXor a b)) word (image-word 1 0 (lone 1) 1 0 (lit< tt) ∙ ap codeword message-9) ∙ three-11;
-  whole-of-8 = λ q h. packets 0 q h;
-  whole-of-11 = λ q h. packets 1 q h;
-  syncs-of-8 = made-sync halfwayWord streams 1 0 (lit< tt) ∙ sym (image-sync 0 0 (lone 1) 1 0 (lit< tt));
-  syncs-of-11 = made-sync halfwayWord streams 1 0 (lit< tt) ∙ sym (image-sync 1 0 (lone 1) 1 0 (lit< tt));
+  three-of-8 = ap₂ (λ (a b : ℕ). ones (bitXor a b)) word (image-word (settings 0 0) (lone 1) 1 0 (lit< tt) ∙ ap codeword (message-counts .0)) ∙ three-8;
+  three-of-11 = ap₂ (λ (a b : ℕ). ones (bitXor a b)) word (image-word (settings 1 0) (lone 1) 1 0 (lit< tt) ∙ ap codeword message-9) ∙ three-11;
+  whole-of-8 = λ q h. packets (settings 0 0) q h;
+  whole-of-11 = λ q h. packets (settings 1 0) q h;
+  syncs-of-8 = made-sync halfwayWord streams 1 0 (lit< tt) ∙ sym (image-sync (settings 0 0) (lone 1) 1 0 (lit< tt));
+  syncs-of-11 = made-sync halfwayWord streams 1 0 (lit< tt) ∙ sym (image-sync (settings 1 0) (lone 1) 1 0 (lit< tt));
 }
   where
     streams : ℕ → List Bool
@@ -263,10 +265,10 @@ three-confuse = record {
     word : wordIn confused 0 ≡ bitXor (codeword 8) halfway
     word = made-word halfwayWord streams 1 0 (lit< tt) word-lt
 
-    packets : (rate q : ℕ) → q < 12 → packetIn confused q ≡ packetIn (image rate 0 (lone 1) 1) q
-    packets rate q h =
-        sym (ap (λ (s : List ℕ). packetIn s q) (image-made rate 0 (lone 1) 1)
-        ∙ made-packet (λ k. codeword (message rate 0 (k + 1) 0)) streams 1 q (omega arith) (length-stream (lone 1) (firstPair (q / 12)) multiframePairs)
+    packets : (x : Settings) (q : ℕ) → q < 12 → packetIn confused q ≡ packetIn (image x (lone 1) 1) q
+    packets x q h =
+        sym (ap (λ (s : List ℕ). packetIn s q) (image-made x (lone 1) 1)
+        ∙ made-packet (λ k. codeword (message x (k + 1) 0)) streams 1 q (omega arith) (length-stream (lone 1) (firstPair (q / 12)) multiframePairs)
         ∙ sym (made-packet halfwayWord streams 1 q (omega arith) (length-stream (lone 1) (firstPair (q / 12)) multiframePairs)))
 
 -- ---- both refusals, of the utterance 1 at 8 kHz
@@ -274,7 +276,7 @@ mended-1 : headerFlips (imageOf says1) (hurtImage says1) 0 ≡ 2
 unfolding onesIn
 mended-1 =
     let w = codeword (sentMessage says1 0) in
-    let l : bitXor w 3 < 2 ^ 32 = xor-lt 32 w 3 (codeword-lt (sentMessage says1 0) (message-lt 0 0 1 0)) (lit< tt) in
+    let l : bitXor w 3 < 2 ^ 32 = xor-lt 32 w 3 (codeword-lt (sentMessage says1 0) (message-lt (settings 0 0) 1 0)) (lit< tt) in
     let e : ones 3 ≡ 2 = sym (ones-in 2 3 (lit< tt)) in
     sym (header-near says1 (hurtImage says1) 0 (lit< tt))
     ∙ ap (λ (x : ℕ). flipsTo x (sentMessage says1 0)) (made-word (hurtWord says1) (hurtStream says1) 1 0 (lit< tt) l) ∙ flips-of (sentMessage says1 0) 3 ∙ e
@@ -288,7 +290,7 @@ untouched-1 : headerFlips (imageOf says1) (allHurt says1) 0 ≡ 0
 untouched-1 =
     sym (header-near says1 (allHurt says1) 0 (lit< tt))
     ∙ ap (λ (x : ℕ). flipsTo x (sentMessage says1 0))
-    (made-word (sentWord says1) (allHit says1) 1 0 (lit< tt) (codeword-lt (sentMessage says1 0) (message-lt 0 0 1 0))) ∙ none-wrong says1 0
+    (made-word (sentWord says1) (allHit says1) 1 0 (lit< tt) (codeword-lt (sentMessage says1 0) (message-lt (settings 0 0) 1 0))) ∙ none-wrong says1 0
 
 pub all-bad-1 : reading (allHurt says1) zeroBook zeroThresholds (indexFor 1) (reportFor 1) ≡ outcome (Refused AllBad) (indexFor 1) (reportFor 1)
 all-bad-1 =
@@ -333,7 +335,7 @@ module _ (s : List ℕ) (codebook thresholds : List ℤ) (index report output : 
   octets-are : octets ≡ multiframeOctets * (speechOf (length places) all / multiframeFrames + 1)
   octets-are =
       let x = spoken all (length places) some read-size in
-      success (given .rate) (given .kind) x output octets (ap (λ (l : List ℕ). writing (given .rate) (given .kind) l output .answer) (sym frames-are) ∙ accepts) .0
+      success (given .settings) x output octets (ap (λ (l : List ℕ). writing (given .settings) l output .answer) (sym frames-are) ∙ accepts) .0
       ∙ ap (λ (k : ℕ). multiframeOctets * (k / multiframeFrames + 1)) (count-spoken all (length places) some read-size)
 
   pub with-end : given .end ≡ 1 → octets ≡ multiframeOctets * given .multiframes

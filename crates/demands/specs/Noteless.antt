@@ -13,6 +13,7 @@ use Rattle.lists.specs.Tests.{when, true-false}
 use Rattle.lists.specs.Parts.{part, length-part, part-right}
 use Rattle.lists.specs.Rows.{joined, same-joined}
 use Rattle.layout.specs.Layout.{widths, frameIndices, dataBits, packetBits, multiframeFrames, multiframePairs, multiframeOctets, firstPair, sync}
+use Rattle.settings.specs.declared.Settings.{Settings}
 use Rattle.frames.specs.Frames.{zeroFrame, all-zero-at}
 use Rattle.bits.specs.Bits.{bits, total}
 use Rattle.bits.specs.Laws.{length-bits, length-numbers}
@@ -21,8 +22,8 @@ use Rattle.packet.specs.Packet.{indices, packet, apart, frameAt, packetOf, stre
 use Rattle.packet.specs.Laws.{total-widths, packet-92, length-row, getD-row}
 use Rattle.header_code.specs.Code.{codeword}
 use Rattle.header_code.specs.Code.Distance.{no-flips}
-use Rattle.header.specs.Message.{message, rateOf, typeOf, countOf, expOf}
-use Rattle.header.specs.Message.Laws.{message-back, common-rate, common-type, common-exp, count-mod}
+use Rattle.header.specs.Message.{message, countOf, expOf, settingsOf}
+use Rattle.header.specs.Message.Laws.{message-back, common-exp, count-mod, common-settings}
 use Rattle.header.specs.Reading as H
 use Rattle.header.specs.Reading.Laws.{flips-counted, reads}
 use Rattle.header.specs.declared.Header.{Header}
@@ -36,23 +37,22 @@ use Rattle.writer.specs.Image.{image-made, words, streams}
 
 -- ---- a header with note 0 is a codeword with the settled common bits and the counter of its place
 module _ (c k w : ℕ) where
-  pub clean-header : expOf c ≡ 0 → headerNote c k (H.reading w) ≡ 0 → w ≡ codeword (message (rateOf c) (typeOf c) (k + 1) 0)
+  pub clean-header : expOf c ≡ 0 → headerNote c k (H.reading w) ≡ 0 → w ≡ codeword (message (settingsOf c) (k + 1) 0)
   clean-header x e = by (H.reading w) (reads w) e
     where
-      by : (h : Header) → H.ReadAs w h → headerNote c k h ≡ 0 → w ≡ codeword (message (rateOf c) (typeOf c) (k + 1) 0)
+      by : (h : Header) → H.ReadAs w h → headerNote c k h ≡ 0 → w ≡ codeword (message (settingsOf c) (k + 1) 0)
       by Lost r e = absurd (omega (arith, note-lost c k))
       by (Codeword d) r e =
           let m = d .message in
           let p = note-zero c k d (r .2) e in
           let count = p .1 in
           let common = p .2 in
-          let rate : rateOf m ≡ rateOf c = sym (common-rate m) ∙ ap rateOf common in
-          let kind : typeOf m ≡ typeOf c = sym (common-type m) ∙ ap typeOf common in
+          let settings : settingsOf m ≡ settingsOf c = sym (common-settings m) ∙ ap settingsOf common in
           let exp : expOf m ≡ 0 = sym (common-exp m) ∙ ap expOf common ∙ x in
           no-flips w m (sym (flips-counted w d (r .1)) ∙ p .0)
           ∙ ap codeword
-          (sym (message-back m (r .0)) ∙ ap₂ (λ (a b : ℕ). message a b (countOf m) (expOf m)) rate kind ∙ ap₂ (message (rateOf c) (typeOf c)) count exp
-          ∙ count-mod (rateOf c) (typeOf c) (k + 1) 0)
+          (sym (message-back m (r .0)) ∙ ap (λ (x : Settings). message x (countOf m) (expOf m)) settings ∙ ap₂ (message (settingsOf c)) count exp
+          ∙ count-mod (settingsOf c) (k + 1) 0)
 
 -- ---- streams of the packets of index octets
 in-a-row : (idx : List ℕ) (q n : ℕ) → stream idx q n ≡ joined (λ p. packetOf idx (q + p)) n
@@ -62,7 +62,7 @@ in-a-row idx q (suc n) = ap (λ (l : List Bool). l ++ packetOf idx (q + n)) (in-
 
 -- ---- the octets are the image
 module _ (s : List ℕ) (m : ℕ) (size : length s ≡ multiframeOctets * m) (small : Small s) (syncs : (k : ℕ) → k < m → syncIn s k ≡ sync)
-    (rate kind : ℕ) (idx : List ℕ) (headers : (k : ℕ) → k < m → wordIn s k ≡ codeword (message rate kind (k + 1) 0))
+    (settings : Settings) (idx : List ℕ) (headers : (k : ℕ) → k < m → wordIn s k ≡ codeword (message settings (k + 1) 0))
     (packets : (q : ℕ) → q < multiframePairs * m → packetOf idx q ≡ packetIn s q) where
   stream-is : (k : ℕ) → k < m → stream idx (firstPair k) multiframePairs ≡ bits (streamIn s k)
   stream-is k h =
@@ -76,10 +76,10 @@ module _ (s : List ℕ) (m : ℕ) (size : length s ≡ multiframeOctets * m) (sm
       packets (12 * k + p) (omega arith) ∙ ap₂ (λ (i j : ℕ). part (92 * i) 92 (bits (streamIn s j))) r d)
       ∙ rows 92 12 l (omega arith) ∙ take-all 1104 l (omega arith)
 
-  pub is-image : image rate kind idx m ≡ s
+  pub is-image : image settings idx m ≡ s
   is-image =
-      image-made rate kind idx m
-      ∙ same-joined (λ k. framed (words rate kind idx k) (streams rate kind idx k)) (λ k. framed (wordIn s k) (bits (streamIn s k))) m
+      image-made settings idx m
+      ∙ same-joined (λ k. framed (words settings idx k) (streams settings idx k)) (λ k. framed (wordIn s k) (bits (streamIn s k))) m
       (λ k h. ap₂ framed (sym (headers k h)) (stream-is k h))
       ∙ made-again s m size small syncs
 

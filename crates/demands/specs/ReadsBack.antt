@@ -22,11 +22,12 @@ use Rattle.lists.specs.Tests.{true-false, not-false}
 use Rattle.lists.specs.Parts.{part, over, length-part}
 use Rattle.lists.specs.Rows.{joined, same-joined}
 use Rattle.layout.specs.Layout.{frameIndices, multiframeFrames, multiframePairs, indexOctets, reportOctets, firstPair}
+use Rattle.settings.specs.declared.Settings.{Settings}
 use Rattle.frames.specs.Frames.{allZero, zeroFrame, all-zero-at, Nonzero}
 use Rattle.packet.specs.Packet.{frameAt}
 use Rattle.packet.specs.Laws.{length-row, getD-row}
 use Rattle.cutting.specs.Laws.{every-length}
-use Rattle.header.specs.Message.{rateOf, typeOf}
+use Rattle.header.specs.Message.{settingsOf}
 use Rattle.header.specs.declared.Header.the-variants.{Lost}
 use Rattle.settling.specs.Settling.{readings, headerNote}
 use Rattle.carrier.specs.Carrier.{received, pairCount}
@@ -46,13 +47,13 @@ use Rattle.writer.specs.Image.{last-speaks, Utterance, multiframesOf, pairsOf, 
 use Rattle.demands.specs.Damage.{DamageUpTo, Damage, loosened, headerFlips}
 use Rattle.demands.specs.Damages.{unharmed}
 use Rattle.demands.specs.Whole.{rowOf, Lent, nothing-replaced}
-use Rattle.demands.specs.Headers.{Settling, enough, sentCommon, rate-sent, kind-sent, note-of-header}
+use Rattle.demands.specs.Headers.{Settling, enough, sentCommon, note-of-header, settings-sent}
 use Rattle.demands.specs.Received.{BadBefore, BadPair, Tells, is-so, not-so, tells-bad}
 use Rattle.demands.specs.NamesTheDamage as N
 
 -- the success answer: the same settings, m, speech equal to n, no bad pair, end 1
 abbrev pub spoken : Utterance → Summary
-spoken u = record { rate = u .rate; kind = u .kind; multiframes = multiframesOf u; speech = frameCount (u .indices); bad = 0; end = 1 }
+spoken u = record { settings = u .settings; multiframes = multiframesOf u; speech = frameCount (u .indices); bad = 0; end = 1 }
 
 -- the frames as written and zeros after them
 abbrev pub padded : Utterance → List ℕ
@@ -129,7 +130,7 @@ module _ (u : Utterance) where
   last-is-not k e = by (allZero (part (7 * k) 7 (padded u))) refl
     where
       x : Nonzero (u .indices) k
-      x = last-speaks (u .rate) (u .kind) (u .indices) (needed (u .indices)) (needed (u .indices)) (is-accepted u) k e
+      x = last-speaks (u .settings) (u .indices) (needed (u .indices)) (needed (u .indices)) (is-accepted u) k e
 
       by : (t : Bool) → allZero (part (7 * k) 7 (padded u)) ≡ t → allZero (part (7 * k) 7 (padded u)) ≡ false
       by true z = absurd (x .nonzero (sym (frame-octet k (x .place) (omega arith) (x .within)) ∙ all-zero-at (part (7 * k) 7 (padded u)) (x .place) z))
@@ -245,8 +246,8 @@ module _ (u : Utterance) (s : List ℕ) (d : DamageUpTo 3 (multiframesOf u) (ima
       ∙ ap (λ (f : List ℕ). getD f (i % 7) 0) (frame-is (i / 7) (omega (arith, la))) ∙ getD-row (u .indices) (7 * (i / 7)) 7 (i % 7) j
       ∙ ap (λ (t : ℕ). getD (u .indices) t 0) z ∙ sym (padded-at u i))
 
-  make : ℕ → ℕ → ℕ → ℕ → ℕ → ℕ → Summary
-  make a b c d e f = record { rate = a; kind = b; multiframes = c; speech = d; bad = e; end = f }
+  make : Settings → ℕ → ℕ → ℕ → ℕ → Summary
+  make a b c d e = record { settings = a; multiframes = b; speech = c; bad = d; end = e }
 
   answer-is : summary s places ns (sentCommon u) ≡ spoken u
   unfolding make
@@ -254,11 +255,11 @@ module _ (u : Utterance) (s : List ℕ) (d : DamageUpTo 3 (multiframesOf u) (ima
       let x : speechOf (length places) (indexPart s places ns) ≡ frameCount (u .indices) = ap₂ speechOf rows index-is ∙ speech-is-n u in
       let y : endOf (length places) (indexPart s places ns) ≡ 1 = ap₂ endOf rows index-is ∙ end-is-1 u in
       let z : badPairs ns ≡ 0 = none-bad ns pair-notes in
-      let p : make (rateOf (sentCommon u)) (typeOf (sentCommon u)) (length places) (speechOf (length places) (indexPart s places ns)) (badPairs ns) (endOf (length places) (indexPart s places ns))
-      ≡ make (u .rate) (u .kind) (multiframesOf u) (frameCount (u .indices)) 0 1 =
-      ap₂ (λ (a b : ℕ). make a b (length places) (speechOf (length places) (indexPart s places ns)) (badPairs ns) (endOf (length places) (indexPart s places ns))) (rate-sent u) (kind-sent u)
-      ∙ ap₂ (λ (a b : ℕ). make (u .rate) (u .kind) a b (badPairs ns) (endOf (length places) (indexPart s places ns))) rows x
-      ∙ ap₂ (λ (a b : ℕ). make (u .rate) (u .kind) (multiframesOf u) (frameCount (u .indices)) a b) z y in
+      let p : make (settingsOf (sentCommon u)) (length places) (speechOf (length places) (indexPart s places ns)) (badPairs ns) (endOf (length places) (indexPart s places ns))
+      ≡ make (u .settings) (multiframesOf u) (frameCount (u .indices)) 0 1 =
+      ap (λ (a : Settings). make a (length places) (speechOf (length places) (indexPart s places ns)) (badPairs ns) (endOf (length places) (indexPart s places ns))) (settings-sent u)
+      ∙ ap₂ (λ (a b : ℕ). make (u .settings) a b (badPairs ns) (endOf (length places) (indexPart s places ns))) rows x
+      ∙ ap₂ (λ (a b : ℕ). make (u .settings) (multiframesOf u) (frameCount (u .indices)) a b) z y in
       p
 
   -- HEADERS HURT: with no pair damaged and the settings settled, headers of at most three flips cost nothing but their notes
@@ -301,7 +302,7 @@ module _ (u : Utterance) (codebook thresholds : List ℤ) (output index report :
     pub lent : Lent (multiframesOf u) codebook thresholds index report
 
   abbrev pub written : W.Outcome
-  written = writing (u .rate) (u .kind) (u .indices) output
+  written = writing (u .settings) (u .indices) output
 
   -- "reading the written image"
   abbrev pub result : Outcome
@@ -320,7 +321,7 @@ module _ (u : Utterance) (codebook thresholds : List ℤ) (output index report :
   image-back room =
       let n = needed (u .indices) in
       ap (λ (o : W.Outcome). take n (o .output)) (writes u output room)
-      ∙ take-at (imageOf u) (drop (0 + n) output) n (length-image (u .rate) (u .kind) (u .indices) (multiframesOf u))
+      ∙ take-at (imageOf u) (drop (0 + n) output) n (length-image (u .settings) (u .indices) (multiframesOf u))
 
   back : Premises → Back
   back p =

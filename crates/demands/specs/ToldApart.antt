@@ -26,8 +26,7 @@ pub record Equal (u v : Utterance) (s t : List ℕ) : Type 0 where
 
 pub record Alike (u v : Utterance) (s t : List ℕ) : Type 0 where
   -- settings
-  pub rates : u .rate ≡ v .rate
-  pub kinds : u .kind ≡ v .kind
+  pub settings : u .settings ≡ v .settings
   -- and multiframe counts are equal
   pub counts : multiframesOf u ≡ multiframesOf v
   -- a pair is damaged in the one exactly if it is in the other
@@ -51,10 +50,10 @@ module _ (u v : Utterance) (s : List ℕ) (d : DamageUpTo headerBits (multiframe
     (k : ℕ) (within : k < multiframesOf u) (five : headerFlips (imageOf u) s k + headerFlips (imageOf v) s k ≤ 5) where
   counts : multiframesOf u ≡ multiframesOf v
   counts =
-      omega (arith, d .size, e .size, length-image (u .rate) (u .kind) (u .indices) (multiframesOf u), length-image (v .rate) (v .kind) (v .indices) (multiframesOf v))
+      omega (arith, d .size, e .size, length-image (u .settings) (u .indices) (multiframesOf u), length-image (v .settings) (v .indices) (multiframesOf v))
 
   -- two codewords that are that near to one word are the same
-  settings : (u .rate ≡ v .rate) × (u .kind ≡ v .kind)
+  settings : u .settings ≡ v .settings
   settings =
       let a = header-near u s k within in
       let b = header-near v s k (omega (arith, counts)) in
@@ -63,7 +62,7 @@ module _ (u v : Utterance) (s : List ℕ) (d : DamageUpTo headerBits (multiframe
         | yes y ↦ y
         | no n ↦
             absurd
-            (omega (arith, a, b, far-from-one (wordIn s k) (sentMessage u k) (sentMessage v k) (message-lt (u .rate) (u .kind) (k + 1) 0) (message-lt (v .rate) (v .kind) (k + 1) 0) n))
+            (omega (arith, a, b, far-from-one (wordIn s k) (sentMessage u k) (sentMessage v k) (message-lt (u .settings) (k + 1) 0) (message-lt (v .settings) (k + 1) 0) n))
       ])
 
   module _ (q : ℕ) (h : q < pairsOf u) where
@@ -90,8 +89,7 @@ module _ (u v : Utterance) (s : List ℕ) (d : DamageUpTo headerBits (multiframe
 
   alike : Alike u v s s
   alike = record {
-    rates = settings .0;
-    kinds = settings .1;
+    settings = settings;
     counts = counts;
     damaged = both-ways;
     packets = same-packet;

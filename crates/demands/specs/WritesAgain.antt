@@ -19,7 +19,7 @@ use Rattle.crc.specs.Crc.{Right, right}
 use Rattle.crc.specs.Laws.{right-true}
 use Rattle.packet.specs.Packet.{apart, packetOf}
 use Rattle.header_code.specs.Code.{codeword}
-use Rattle.header.specs.Message.{message, rateOf, typeOf}
+use Rattle.header.specs.Message.{message, settingsOf}
 use Rattle.header.specs.Reading as H
 use Rattle.header.specs.declared.Header.{Header}
 use Rattle.header.specs.declared.Header.the-variants.{Lost}
@@ -54,7 +54,7 @@ module _ (s : List ℕ) (codebook thresholds : List ℤ) (index report output : 
 
   -- "the settings and the first `speech` frames of the index buffer", written
   abbrev pub again : W.Outcome
-  again = writing (given .rate) (given .kind) (take (frameIndices * given .speech) (result .index)) output
+  again = writing (given .settings) (take (frameIndices * given .speech) (result .index)) output
 
   pub record Premises : Type 0 where
     -- "every image": octets
@@ -165,7 +165,7 @@ module _ (s : List ℕ) (codebook thresholds : List ℤ) (index report output : 
     notes-size = length-notes (received s places) (pairCount places) codebook thresholds
 
     -- its header words
-    headers : (k : ℕ) → k < m → wordIn s k ≡ codeword (message (rateOf c) (typeOf c) (k + 1) 0)
+    headers : (k : ℕ) → k < m → wordIn s k ≡ codeword (message (settingsOf c) (k + 1) 0)
     headers k h =
         let r : getD (readings s places) k Lost ≡ H.reading (wordIn s k) =
         ap (λ (l : List ℕ). getD (readings s l) k Lost) row ∙ ap (λ (l : List Header). getD l k Lost) (readings-are s m)
@@ -245,24 +245,24 @@ module _ (s : List ℕ) (codebook thresholds : List ℤ) (index report output : 
     packets q h =
         packet-spoken all m some all-size q (packetIn s q) h (packet-size q h) (is-right q h) (frames-at (received s places) (pairCount places) q h ∙ ap (apart widths) (got q h))
 
-    octets-are : image (rateOf c) (typeOf c) idx m ≡ s
-    octets-are = is-image s m size (p .small) syncs (rateOf c) (typeOf c) idx headers packets
+    octets-are : image (settingsOf c) idx m ≡ s
+    octets-are = is-image s m size (p .small) syncs (settingsOf c) idx headers packets
 
     -- ---- written again
-    again-is : again ≡ writing (rateOf c) (typeOf c) idx output
+    again-is : again ≡ writing (settingsOf c) idx output
     again-is =
-        ap₂ (λ (a b : ℕ). writing a b (take (frameIndices * given .speech) (result .index)) output) (ap (λ (g : Summary). g .rate) (w .given-is)) (ap (λ (g : Summary). g .kind) (w .given-is))
-        ∙ ap (λ (l : List ℕ). writing (rateOf c) (typeOf c) l output) idx-is
+        ap (λ (g : Summary). writing (g .settings) (take (frameIndices * given .speech) (result .index)) output) (w .given-is)
+        ∙ ap (λ (l : List ℕ). writing (settingsOf c) l output) idx-is
 
     proof : Again p
     proof =
-        let x = success (rateOf c) (typeOf c) idx output (p .octets) (ap (λ (o : W.Outcome). o .answer) (sym again-is) ∙ p .accepts) in
+        let x = success (settingsOf c) idx output (p .octets) (ap (λ (o : W.Outcome). o .answer) (sym again-is) ∙ p .accepts) in
         let k : multiframesFor (frameCount idx) ≡ m = multiframes-spoken all m some all-size ended in
         let n : p .octets ≡ length s = x .0 ∙ ap (λ (j : ℕ). multiframeOctets * j) k ∙ sym size in
         record {
           same-length = n;
           same-octets = ap (λ (o : W.Outcome). o .output) again-is ∙ x .1
-              ∙ ap₂ (λ (j : ℕ) (l : List ℕ). over output 0 j l) n (ap (image (rateOf c) (typeOf c) idx) k ∙ octets-are);
+              ∙ ap₂ (λ (j : ℕ) (l : List ℕ). over output 0 j l) n (ap (image (settingsOf c) idx) k ∙ octets-are);
         }
 
 pub writes-again : (s : List ℕ) (codebook thresholds : List ℤ) (index report output : List ℕ) (given : Summary)

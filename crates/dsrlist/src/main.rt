@@ -65,8 +65,8 @@ fn print_field(name: &[u8], value: usize) {
 
 // The total: the success answer's fields, in their order.
 fn print_total(s: Summary) {
-    print_field(b"rate ", s.rate as usize);
-    print_field(b" type ", s.kind as usize);
+    print_field(b"rate ", s.settings.rate as usize);
+    print_field(b" type ", s.settings.kind as usize);
     print_field(b" multiframes ", s.multiframes);
     print_field(b" speech ", s.speech);
     print_field(b" bad ", s.bad);

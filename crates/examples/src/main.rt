@@ -6,6 +6,7 @@ use layout::ReadingLayout;
 use layout::UtteranceLayout;
 use libc::STDOUT_FILENO;
 use reader::Answer;
+use settings::Settings;
 
 // Index octets of one frame more than the most that can be written, and an output for the most multiframes.
 const INDICES: usize = FrameLayout::INDICES * (UtteranceLayout::FRAMES + 1);
@@ -22,7 +23,7 @@ fn print_numbers(first: u64, second: u64) {
 
 // What the writer says to these indices at 8 kHz: its number, and the octets written or the place.
 fn show_writing(name: &[u8], indices: &[u8], out: &mut [u8]) {
-    let answer = writer::write(0, 0, indices, out);
+    let answer = writer::write(Settings { rate: 0, kind: 0 }, indices, out);
     io::write_all(STDOUT_FILENO, name);
     print_numbers(
         writer::number_of(answer) as u64,

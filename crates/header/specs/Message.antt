@@ -2,17 +2,23 @@
 -- EXP1 to EXP9 are one number of 0 to 511. The definitions are shut: whoever stands above uses the laws of the module below this one.
 -- Assumes nothing.
 use Prim.Native.Nat.{ℕ, _+_, _*_, _/_, _%_}
+use Rattle.settings.specs.declared.Settings.{Settings}
+use Rattle.settings.specs.Settings.{settings}
 pub mod Laws
 
 -- the message of its fields; of a number too large for its field the low bits count
-pub message : ℕ → ℕ → ℕ → ℕ → ℕ
-message rate type count exp = rate % 4 + 4 * (type % 2) + 8 * (count % 16) + 128 * (exp % 512)
+pub message : Settings → ℕ → ℕ → ℕ
+message s count exp = s .rate % 4 + 4 * (s .kind % 2) + 8 * (count % 16) + 128 * (exp % 512)
 
 pub rateOf : ℕ → ℕ
 rateOf m = m % 4
 
 pub typeOf : ℕ → ℕ
 typeOf m = m / 4 % 2
+
+-- its settings, both in one record: open, since the two are shut
+abbrev pub settingsOf : ℕ → Settings
+settingsOf m = settings (rateOf m) (typeOf m)
 
 pub countOf : ℕ → ℕ
 countOf m = m / 8 % 16
@@ -22,4 +28,4 @@ expOf m = m / 128 % 512
 
 -- the common bits are SampRate, feType and EXP (01, "Settings"): the message with its counter 0
 pub commonBits : ℕ → ℕ
-commonBits m = message (rateOf m) (typeOf m) 0 (expOf m)
+commonBits m = message (settingsOf m) 0 (expOf m)

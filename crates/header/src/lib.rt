@@ -1,10 +1,11 @@
 // The header code of ES 201 108: the codeword of sixteen message bits, and the reading of a received header, which mends at most two flips.
 // Whoever stands above relies on the promises and laws alone: the definitions are shut.
+use settings::Settings;
 ghost use mathlib.Core.Path.{_≡_};
 ghost use Prim.Native.Nat.{ℕ, _<_, _^_};
 ghost use lib.ListN.{getD};
 ghost use Rattle.header_code.specs.Code.{parity, codeword, syndrome};
-ghost use Rattle.header.specs.Message.{message, rateOf, typeOf, countOf, expOf, commonBits};
+ghost use Rattle.header.specs.Message.{message, settingsOf, countOf, expOf, commonBits};
 ghost use Rattle.header.specs.Reading.{reading};
 
 // What is known of a header that is read: the codeword's message, and the number of flipped bits.
@@ -19,10 +20,9 @@ pub enum Header {
     Lost,
 }
 
-// The fields of a message: SampRate, feType, MframeCnt, and EXP1 to EXP9 as one number.
+// The fields of a message: the settings (SampRate and feType), MframeCnt, and EXP1 to EXP9 as one number.
 pub struct Fields {
-    pub rate: u8,
-    pub kind: u8,
+    pub settings: Settings,
     pub count: u8,
     pub exp: u16,
 }
@@ -135,10 +135,10 @@ pub fn read(word: u32) -> Header
 
 // The message of its fields; of a number too large for its field the low bits count.
 pub fn message_of(f: Fields) -> u16
-    ensures { λ r. ⌜ r ≡ message (f .rate) (f .kind) (f .count) (f .exp) ⌝ }
+    ensures { λ r. ⌜ r ≡ message (f .settings) (f .count) (f .exp) ⌝ }
 {
-    let rate = (f.rate & 3) as u16;
-    let kind = (f.kind & 1) as u16;
+    let rate = (f.settings.rate & 3) as u16;
+    let kind = (f.settings.kind & 1) as u16;
     let count = (f.count & 15) as u16;
     let exp = f.exp & 511;
     rate | (kind << 2) | (count << 3) | (exp << 7)
@@ -146,15 +146,17 @@ pub fn message_of(f: Fields) -> u16
 
 // The fields of a message.
 pub fn fields_of(message: u16) -> Fields
-    ensures rate { λ r. ⌜ r .rate ≡ rateOf message ⌝ }
-    ensures kind { λ r. ⌜ r .kind ≡ typeOf message ⌝ }
+    ensures settings { λ r. ⌜ r .settings ≡ settingsOf message ⌝ }
     ensures count { λ r. ⌜ r .count ≡ countOf message ⌝ }
     ensures exp { λ r. ⌜ r .exp ≡ expOf message ⌝ }
 {
+    let rate = (message & 3) as u8;
+    let kind = ((message >> 2) & 1) as u8;
+    let settings = Settings { rate, kind };
+    let count = ((message >> 3) & 15) as u8;
     Fields {
-        rate: (message & 3) as u8,
-        kind: ((message >> 2) & 1) as u8,
-        count: ((message >> 3) & 15) as u8,
+        settings,
+        count,
         exp: message >> 7,
     }
 }

@@ -52,7 +52,7 @@ module _ (u : Utterance) where
   unfolding fields field
   sizes = record {
     syncs = λ k. refl;
-    words = λ k. xor-lt 32 (codeword (sentMessage u k)) 3 (codeword-lt (sentMessage u k) (message-lt (u .rate) (u .kind) (k + 1) 0)) (lit< tt);
+    words = λ k. xor-lt 32 (codeword (sentMessage u k)) 3 (codeword-lt (sentMessage u k) (message-lt (u .settings) (k + 1) 0)) (lit< tt);
     streams = length-hurt u;
     around = ap (λ (n : ℕ). 3 + n) (length-replicate 1205 false);
   }
@@ -60,7 +60,7 @@ module _ (u : Utterance) where
   searched-are : searched l ≡ 8 * 151 + multiframeBits * m
   searched-are =
       let size : length l ≡ 8 * 151 + 1152 * m = size-laid threeZeros (λ k. worstSync) (hurtWord u) (hurtStream u) m manyZeros 151 sizes in
-      let few : m ≤ 255 = few-multiframes (u .rate) (u .kind) (u .indices) (is-accepted u .sizes) in
+      let few : m ≤ 255 = few-multiframes (u .settings) (u .indices) (is-accepted u .sizes) in
       searched-all l (omega arith) ∙ size
 
   head-is : take 19 l ≡ threeZeros ++ worstSync
@@ -83,7 +83,7 @@ module _ (u : Utterance) where
   unfolding flipsTo
   aired-flips k h =
       ap₂ (λ (a b : ℕ). ones (bitXor a b)) (laid-word threeZeros (λ k. worstSync) (hurtWord u) (hurtStream u) m manyZeros 151 sizes k h)
-      (image-word (u .rate) (u .kind) (u .indices) m k h)
+      (image-word (u .settings) (u .indices) m k h)
       ∙ flips-of (sentMessage u k) 3 ∙ two-ones
 
   -- and the packets of the damaged image
@@ -118,7 +118,7 @@ module _ (u : Utterance) where
       ⊎-elim
       (λ t. t (packet-there u aired 0 3 fewestMatches aired-caught 2 (omega arith) ∙ packet-is 2 (omega arith)
       ∙ made-packet (hurtWord u) (hurtStream u) m 2 (omega arith) (length-hurt u 0) ∙ part-on u 0 0 (omega arith)
-      ∙ sym (image-packet (u .rate) (u .kind) (u .indices) m 2 (omega arith))))
+      ∙ sym (image-packet (u .settings) (u .indices) m 2 (omega arith))))
       (λ r. true-false (sym (r .0) ∙ zero-consistent (frameAt (u .indices) 4) (frameAt (u .indices) 5))) b
 
   pub names-aired : 2 ≤ multiframesOf u

@@ -80,9 +80,9 @@ module _ (img : List ℕ) (m : ℕ) (w : Multiframes img m) (s : List ℕ) (fron
 -- a damaged image is such octets
 pub damaged-cut : (u : Utterance) (img : List ℕ) → Damage (multiframesOf u) (imageOf u) img → Multiframes img (multiframesOf u)
 damaged-cut u img d = record {
-  size = d .size ∙ length-image (u .rate) (u .kind) (u .indices) (multiframesOf u);
+  size = d .size ∙ length-image (u .settings) (u .indices) (multiframesOf u);
   small = d .small;
-  syncs = λ k h. d .syncs k h ∙ image-sync (u .rate) (u .kind) (u .indices) (multiframesOf u) k h;
+  syncs = λ k h. d .syncs k h ∙ image-sync (u .settings) (u .indices) (multiframesOf u) k h;
 }
 
 module _ (u : Utterance) (img s : List ℕ) (from at least : ℕ) (codebook thresholds : List ℤ) (index report : List ℕ) where
@@ -134,7 +134,7 @@ module _ (u : Utterance) (img s : List ℕ) (from at least : ℕ) (codebook thre
         as-read img (multiframesOf u) (damaged-cut u img d) s at (p .there) from least codebook thresholds index report (p .low)
         (at-most-all (syncAt (bits s) (placeInRow at 0)) least (p .syncs 0 (omega arith)))
         (p .of-image .lent .codebook-size) (p .of-image .lent .thresholds-size) in-a-row (omega arith)
-        (few-multiframes (u .rate) (u .kind) (u .indices) (is-accepted u .sizes))
+        (few-multiframes (u .settings) (u .indices) (is-accepted u .sizes))
 
     pub names-at-any-bit : Named
     names-at-any-bit =

@@ -72,9 +72,9 @@ module _ (u : Utterance) (s : List ℕ) (from at least : ℕ) (c : Carried u s f
   -- they are the image with damaged headers
   pub damage : Damage m (imageOf u) got
   damage = record {
-    size = image-size s at m (c .inside) ∙ sym (length-image (u .rate) (u .kind) (u .indices) m);
+    size = image-size s at m (c .inside) ∙ sym (length-image (u .settings) (u .indices) m);
     small = image-small s at m (c .inside);
-    syncs = λ k h. image-sync s at m (c .inside) k h ∙ sym (I.image-sync (u .rate) (u .kind) (u .indices) m k h);
+    syncs = λ k h. image-sync s at m (c .inside) k h ∙ sym (I.image-sync (u .settings) (u .indices) m k h);
     headers = λ k h. subst (λ (n : ℕ). n ≤ 2) (sym (flips-are k h)) (c .headers k h);
     packets = λ q h. inl (packets-kept q h);
   }
@@ -118,7 +118,7 @@ module _ (u : Utterance) (s : List ℕ) (from at least : ℕ) (codebook threshol
       let c = p .carried in
       let n = multiframesOf u in
       let g = G.imageOf s (row at n) in
-      let few : n ≤ mostMultiframes = few-multiframes (u .rate) (u .kind) (u .indices) (is-accepted u .sizes) in
+      let few : n ≤ mostMultiframes = few-multiframes (u .settings) (u .indices) (is-accepted u .sizes) in
       let headers : (2 ≤ n) ⊎ (headerFlips (imageOf u) g 0 ≡ 0) = ⊎-elim inl (λ e. inr (flips-are u s from at least c 0 (omega arith) ∙ e)) (p .settled) in
       reads-in-a-row s from least codebook thresholds index report (p .low) (at-most-all (syncAt (bits s) (placeInRow at 0)) least (c .syncs 0 (omega arith))) (p .lent .codebook-size) (p .lent .thresholds-size) at n
       (in-a-row u s from at least c) (omega arith) few

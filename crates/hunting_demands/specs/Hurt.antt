@@ -61,7 +61,7 @@ module _ (u : Utterance) (front : List Bool) (y : ℕ → List Bool) (flips : �
     sizes : Sizes front y hurtWord keptStream m behind n
     sizes = record {
       syncs = f .syncs;
-      words = λ k. xor-lt 32 (codeword (sentMessage u k)) (flips k) (codeword-lt (sentMessage u k) (message-lt (u .rate) (u .kind) (k + 1) 0)) (f .headers k);
+      words = λ k. xor-lt 32 (codeword (sentMessage u k)) (flips k) (codeword-lt (sentMessage u k) (message-lt (u .settings) (k + 1) 0)) (f .headers k);
       streams = λ k. length-stream (u .indices) (firstPair k) multiframePairs;
       around = f .around;
     }
@@ -69,7 +69,7 @@ module _ (u : Utterance) (front : List Bool) (y : ℕ → List Bool) (flips : �
     pub searched-are : searched (bits hurt) ≡ 8 * n + multiframeBits * multiframesOf u
     searched-are =
         let size : length l ≡ 8 * n + 1152 * m = size-laid front y hurtWord keptStream m behind n sizes in
-        let few : m ≤ 255 = few-multiframes (u .rate) (u .kind) (u .indices) (is-accepted u .sizes) in
+        let few : m ≤ 255 = few-multiframes (u .settings) (u .indices) (is-accepted u .sizes) in
         searched-all l (omega (arith, f .few)) ∙ size
 
     pub front-there : (a v : ℕ) → a + v ≤ length front → part a v (bits hurt) ≡ part a v front
@@ -91,22 +91,22 @@ module _ (u : Utterance) (front : List Bool) (y : ℕ → List Bool) (flips : �
       pub stream-there : streamAt (bits hurt) (placeInRow (length front) k) ≡ bits (streamIn (imageOf u) k)
       stream-there =
           laid-stream front y hurtWord keptStream m behind n sizes k h
-          ∙ sym (ap bits (image-stream (u .rate) (u .kind) (u .indices) m k h) ∙ bits-octets streamOctets (keptStream k) (length-stream (u .indices) (firstPair k) multiframePairs))
+          ∙ sym (ap bits (image-stream (u .settings) (u .indices) m k h) ∙ bits-octets streamOctets (keptStream k) (length-stream (u .indices) (firstPair k) multiframePairs))
 
       pub flips-there : receivedFlips u hurt (length front) k ≡ ones (flips k)
       unfolding flipsTo
       flips-there =
-          ap₂ (λ (a b : ℕ). ones (bitXor a b)) word-there (image-word (u .rate) (u .kind) (u .indices) m k h) ∙ flips-of (sentMessage u k) (flips k)
+          ap₂ (λ (a b : ℕ). ones (bitXor a b)) word-there (image-word (u .settings) (u .indices) m k h) ∙ flips-of (sentMessage u k) (flips k)
 
       pub near-there : flipsTo (wordAt (bits hurt) (placeInRow (length front) k)) (sentMessage u k) ≡ ones (flips k)
       near-there = ap (λ (w : ℕ). flipsTo w (sentMessage u k)) word-there ∙ flips-of (sentMessage u k) (flips k)
 
       pub mended-there : ones (flips k) ≤ 2
           → reading (wordAt (bits hurt) (placeInRow (length front) k)) ≡ Codeword (decodedAs (wordAt (bits hurt) (placeInRow (length front) k)) (sentMessage u k))
-      mended-there le = near (wordAt l (placeInRow at k)) (sentMessage u k) (message-lt (u .rate) (u .kind) (k + 1) 0) (omega (arith, near-there))
+      mended-there le = near (wordAt l (placeInRow at k)) (sentMessage u k) (message-lt (u .settings) (k + 1) 0) (omega (arith, near-there))
 
       pub lost-there : ones (flips k) ≡ 3 → reading (wordAt (bits hurt) (placeInRow (length front) k)) ≡ Lost
-      lost-there e = ap reading word-there ∙ three-lost (sentMessage u k) (flips k) (message-lt (u .rate) (u .kind) (k + 1) 0) e
+      lost-there e = ap reading word-there ∙ three-lost (sentMessage u k) (flips k) (message-lt (u .settings) (k + 1) 0) e
 
       pub match-there : (least : ℕ) → least ≤ matches (y k) sync → least ≤ matches (syncAt (bits hurt) (placeInRow (length front) k)) sync
       match-there least = subst (λ (x : List Bool). least ≤ matches x sync) (sym sync-there)

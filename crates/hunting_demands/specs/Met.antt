@@ -214,7 +214,7 @@ module _ (u : Utterance) where
   shiftedOctets = octets (1 + multiframeOctets * multiframesOf u) (threeZeros ++ (bits (imageOf u) ++ fiveZeros))
 
   image-bits : length (bits (imageOf u)) ≡ multiframeBits * multiframesOf u
-  image-bits = length-bits (imageOf u) ∙ omega (arith, length-image (u .rate) (u .kind) (u .indices) (multiframesOf u))
+  image-bits = length-bits (imageOf u) ∙ omega (arith, length-image (u .settings) (u .indices) (multiframesOf u))
 
   shifted-size : length (threeZeros ++ (bits (imageOf u) ++ fiveZeros)) ≡ 8 * (1 + multiframeOctets * multiframesOf u)
   shifted-size =
@@ -224,12 +224,12 @@ module _ (u : Utterance) where
   shifted-met least low =
       let same : bits shiftedOctets ≡ threeZeros ++ (bits (imageOf u) ++ fiveZeros) =
       bits-octets (1 + multiframeOctets * multiframesOf u) (threeZeros ++ (bits (imageOf u) ++ fiveZeros)) shifted-size in
-      let few : multiframesOf u ≤ 255 = few-multiframes (u .rate) (u .kind) (u .indices) (is-accepted u .sizes) in
+      let few : multiframesOf u ≤ 255 = few-multiframes (u .settings) (u .indices) (is-accepted u .sizes) in
       let size : length (bits shiftedOctets) ≡ 8 * (1 + 144 * multiframesOf u) = ap length same ∙ shifted-size in
       let all : searched (bits shiftedOctets) ≡ 8 * (1 + 144 * multiframesOf u) = searched-all (bits shiftedOctets) (omega arith) ∙ size in
       let first : take 16 (bits (imageOf u)) ≡ sync =
-      sym (bits-part 0 2 (imageOf u) (omega (arith, length-image (u .rate) (u .kind) (u .indices) (multiframesOf u))))
-      ∙ ap bits (image-sync (u .rate) (u .kind) (u .indices) (multiframesOf u) 0 (omega arith)) in
+      sym (bits-part 0 2 (imageOf u) (omega (arith, length-image (u .settings) (u .indices) (multiframesOf u))))
+      ∙ ap bits (image-sync (u .settings) (u .indices) (multiframesOf u) 0 (omega arith)) in
       let head : take 19 (bits shiftedOctets) ≡ threeZeros ++ sync =
       ap (take 19) same
       ∙ ap (λ (x : List Bool). threeZeros ++ x) (take-append-le 16 (bits (imageOf u)) fiveZeros (omega (arith, image-bits)) ∙ first) in

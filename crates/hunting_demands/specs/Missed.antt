@@ -20,6 +20,7 @@ use Rattle.gf2.specs.Light.{ones-in}
 use Rattle.lists.specs.Tests.{all-holds}
 use Rattle.lists.specs.Parts.{part, over}
 use Rattle.layout.specs.Layout.{widths, frameIndices, multiframePairs, streamOctets, indexOctets, reportOctets, firstPair}
+use Rattle.settings.specs.Settings.{settings}
 use Rattle.frames.specs.Frames.{zeroFrame}
 use Rattle.bits.specs.Bits.{field, fields, value, laid, numbers, bits, octets}
 use Rattle.bits.specs.Laws.{length-bits}
@@ -67,21 +68,21 @@ small-fours zero i = lit< tt
 small-fours (suc n) zero = lit< tt
 small-fours (suc n) (suc i) = small-fours n i
 
-pub written-25 : verdict 0 0 (replicate 175 4) (needed (replicate 175 4)) ≡ Written (needed (replicate 175 4))
+pub written-25 : verdict (settings 0 0) (replicate 175 4) (needed (replicate 175 4)) ≡ Written (needed (replicate 175 4))
 unfolding verdict roomAnswer firstFrom zeroFrame
 written-25 = refl
 
-pub written-1 : verdict 1 0 (replicate 7 4) (needed (replicate 7 4)) ≡ Written (needed (replicate 7 4))
+pub written-1 : verdict (settings 1 0) (replicate 7 4) (needed (replicate 7 4)) ≡ Written (needed (replicate 7 4))
 unfolding verdict roomAnswer firstFrom zeroFrame
 written-1 = refl
 
 -- sent: 8 kHz, type 0, 25 frames of fours, which take two multiframes
 abbrev pub sent : Utterance
-sent = record { rate = 0; kind = 0; indices = replicate 175 4; small = small-fours 175; written = written-25 }
+sent = record { settings = settings 0 0; indices = replicate 175 4; small = small-fours 175; written = written-25 }
 
 -- heard: 11 kHz, type 0, the last of those frames, which takes one
 abbrev pub heard : Utterance
-heard = record { rate = 1; kind = 0; indices = replicate 7 4; small = small-fours 7; written = written-1 }
+heard = record { settings = settings 1 0; indices = replicate 7 4; small = small-fours 7; written = written-1 }
 
 -- ---- what came: 08 00 00 EE for the first header, 08 00 0E EE, and 09 00 0F 3F for the second, 10 00 1D 0D
 abbrev pub words : ℕ → ℕ
@@ -95,16 +96,16 @@ abbrev pub garbled : List ℕ
 garbled = made words streams 2
 
 -- ---- the words of the three headers
-first-word : codeword (message 0 0 1 0) ≡ 0xEE0E0008
+first-word : codeword (message (settings 0 0) 1 0) ≡ 0xEE0E0008
 first-word = ap codeword (message-counts .0) ∙ E.of-octets (codeword 8) 0x08 0x00 0x0E 0xEE E.count-1
 
-second-word : codeword (message 0 0 2 0) ≡ 0x0D1D0010
+second-word : codeword (message (settings 0 0) 2 0) ≡ 0x0D1D0010
 second-word = ap codeword (message-counts .1) ∙ E.of-octets (codeword 16) 0x10 0x00 0x1D 0x0D E.count-2
 
 -- the sum of two codewords is one
-heard-word : codeword (message 1 0 1 0) ≡ 0x3F0F0009
+heard-word : codeword (message (settings 1 0) 1 0) ≡ 0x3F0F0009
 heard-word =
-    let m : message 1 0 1 0 ≡ 9 = sym (packed 1 0 1 0) in
+    let m : message (settings 1 0) 1 0 ≡ 9 = sym (packed (settings 1 0) 1 0) in
     ap codeword m ∙ codeword-xor 8 1 (lit< tt) (lit< tt) ∙ ap₂ bitXor (E.of-octets (codeword 8) 0x08 0x00 0x0E 0xEE E.count-1) E.codeword-1
 
 -- ---- no place from bit 1 to bit 1,151 has twelve matches
@@ -164,7 +165,7 @@ word-came : (k : ℕ) → k < 2 → wordIn garbled k ≡ words k
 word-came k h = made-word words streams 2 k h (word-small k)
 
 stream-came : (k : ℕ) → k < 2 → streamIn garbled k ≡ streamIn (imageOf sent) k
-stream-came k h = made-stream words streams 2 k h ∙ sym (image-stream (sent .rate) (sent .kind) (sent .indices) m k h)
+stream-came k h = made-stream words streams 2 k h ∙ sym (image-stream (sent .settings) (sent .indices) m k h)
 
 searched-are : searched (bits garbled) ≡ 2304
 searched-are = searched-all (bits garbled) (omega (arith, length-bits garbled, cut .size)) ∙ omega (arith, length-bits garbled, cut .size)
@@ -173,24 +174,24 @@ searched-are = searched-all (bits garbled) (omega (arith, length-bits garbled, c
 first-flips : headerFlips (imageOf sent) garbled 0 ≡ 3
 unfolding onesIn
 first-flips =
-    ap₂ (λ (a b : ℕ). ones (bitXor a b)) (word-came 0 (lit< tt)) (image-word (sent .rate) (sent .kind) (sent .indices) m 0 (lit< tt) ∙ first-word)
+    ap₂ (λ (a b : ℕ). ones (bitXor a b)) (word-came 0 (lit< tt)) (image-word (sent .settings) (sent .indices) m 0 (lit< tt) ∙ first-word)
     ∙ sym (ones-in 32 0x000E0000 (lit< tt))
 
 second-flips : headerFlips (imageOf sent) garbled 1 ≡ 8
 unfolding onesIn
 second-flips =
-    ap₂ (λ (a b : ℕ). ones (bitXor a b)) (word-came 1 (lit< tt)) (image-word (sent .rate) (sent .kind) (sent .indices) m 1 (lit< tt) ∙ second-word)
+    ap₂ (λ (a b : ℕ). ones (bitXor a b)) (word-came 1 (lit< tt)) (image-word (sent .settings) (sent .indices) m 1 (lit< tt) ∙ second-word)
     ∙ sym (ones-in 32 0x32120019 (lit< tt))
 
 -- so the first is lost, and the second is read as a codeword of 11 kHz without a flip
 first-lost : reading (wordIn garbled 0) ≡ Lost
 first-lost = header-lost sent garbled 0 (lit< tt) first-flips
 
-second-clean : flipsTo (wordIn garbled 1) (message 1 0 1 0) ≡ 0
-second-clean = itself-near (wordIn garbled 1) (message 1 0 1 0) (heard-word ∙ sym (word-came 1 (lit< tt)))
+second-clean : flipsTo (wordIn garbled 1) (message (settings 1 0) 1 0) ≡ 0
+second-clean = itself-near (wordIn garbled 1) (message (settings 1 0) 1 0) (heard-word ∙ sym (word-came 1 (lit< tt)))
 
-second-read : reading (wordIn garbled 1) ≡ Codeword (decodedAs (wordIn garbled 1) (message 1 0 1 0))
-second-read = near (wordIn garbled 1) (message 1 0 1 0) (message-lt 1 0 1 0) (omega (arith, second-clean))
+second-read : reading (wordIn garbled 1) ≡ Codeword (decodedAs (wordIn garbled 1) (message (settings 1 0) 1 0))
+second-read = near (wordIn garbled 1) (message (settings 1 0) 1 0) (message-lt (settings 1 0) 1 0) (omega (arith, second-clean))
 
 -- ---- what the hunting reader finds: the second multiframe alone
 module _ (least : ℕ) (low : fewestMatches ≤ least) (high : least ≤ syncBits) where
@@ -216,22 +217,22 @@ module _ (least : ℕ) (low : fewestMatches ≤ least) (high : least ≤ syncBit
 -- and that is what is heard
 heard-cut : Multiframes (imageOf heard) 1
 heard-cut = record {
-  size = length-image 1 0 (heard .indices) 1;
-  small = image-small 1 0 (heard .indices) 1;
-  syncs = image-sync 1 0 (heard .indices) 1;
+  size = length-image (settings 1 0) (heard .indices) 1;
+  small = image-small (settings 1 0) (heard .indices) 1;
+  syncs = image-sync (settings 1 0) (heard .indices) 1;
 }
 
 heard-stands : Stands (imageOf heard) 1 garbled multiframeBits
 heard-stands = record { words = word; streams = body }
   where
     word : (k : ℕ) → k < 1 → wordAt (bits garbled) (placeInRow multiframeBits k) ≡ wordIn (imageOf heard) k
-    word zero h = stands .words 1 (lit< tt) ∙ word-came 1 (lit< tt) ∙ sym (image-word 1 0 (heard .indices) 1 0 h ∙ heard-word)
+    word zero h = stands .words 1 (lit< tt) ∙ word-came 1 (lit< tt) ∙ sym (image-word (settings 1 0) (heard .indices) 1 0 h ∙ heard-word)
     word (suc k) h = absurd (omega arith)
 
     body : (k : ℕ) → k < 1 → streamAt (bits garbled) (placeInRow multiframeBits k) ≡ bits (streamIn (imageOf heard) k)
     body zero h =
         stands .streams 1 (lit< tt)
-        ∙ ap bits (made-stream words streams 2 1 (lit< tt) ∙ ap (octets streamOctets) same-stream ∙ sym (image-stream 1 0 (heard .indices) 1 0 h))
+        ∙ ap bits (made-stream words streams 2 1 (lit< tt) ∙ ap (octets streamOctets) same-stream ∙ sym (image-stream (settings 1 0) (heard .indices) 1 0 h))
     body (suc k) h = absurd (omega arith)
 
 -- ---- what the octet reader says: one header is lost, so no two agree
@@ -246,7 +247,7 @@ module _ (least : ℕ) (codebook thresholds : List ℤ) (index report : List ℕ
   -- THE COUNTEREXAMPLE
   pub record Misses : Type 0 where
     -- sent: 8 kHz, two multiframes, 25 frames
-    pub sent-rate : sent .rate ≡ 0
+    pub sent-rate : sent .settings .rate ≡ 0
     pub sent-multiframes : multiframesOf sent ≡ 2
     pub sent-frames : frameCount (sent .indices) ≡ 25
     -- no octet is lost or added, and syncs and packets come as they were sent
@@ -264,17 +265,17 @@ module _ (least : ℕ) (codebook thresholds : List ℤ) (index report : List ℕ
     -- MISLED WITHOUT A NOTE: the hunting reader gives 11 kHz, one multiframe, one frame and end 1, and every note is 0; a multiframe's
     -- bits outside, and as many places tested before the one found, are all that tells
     pub answers : huntingReading garbled 0 least codebook thresholds index report
-        ≡ outcome (Read (record { summary = record { rate = 1; kind = 0; multiframes = 1; speech = 1; bad = 0; end = 1 }; outside = multiframeBits; tested = suc multiframeBits }))
+        ≡ outcome (Read (record { summary = record { settings = settings 1 0; multiframes = 1; speech = 1; bad = 0; end = 1 }; outside = multiframeBits; tested = suc multiframeBits }))
         (over index 0 indexOctets (replicate frameIndices 4 ++ replicate (indexOctets - frameIndices) 0)) (over report 0 reportOctets (replicate reportOctets 0))
     -- the octet reader is not misled: it refuses them, 16
     pub refuses : R.reading garbled codebook thresholds index report ≡ R.outcome (RA.Refused Unsettled) index report
 
   module _ (low : fewestMatches ≤ least) (high : least ≤ syncBits) (lent : Lent 2 codebook thresholds index report) where
     size-came : length garbled ≡ length (imageOf sent)
-    size-came = cut .size ∙ sym (length-image 0 0 (sent .indices) 2)
+    size-came = cut .size ∙ sym (length-image (settings 0 0) (sent .indices) 2)
 
     syncs-came : (k : ℕ) → k < m → syncIn garbled k ≡ syncIn (imageOf sent) k
-    syncs-came k h = cut .syncs k h ∙ sym (image-sync 0 0 (sent .indices) 2 k h)
+    syncs-came k h = cut .syncs k h ∙ sym (image-sync (settings 0 0) (sent .indices) 2 k h)
 
     packets-came : (q : ℕ) → q < pairsOf sent → packetIn garbled q ≡ packetIn (imageOf sent) q
     packets-came q h = ap (λ (x : List ℕ). streamPacket (bits x) q) (stream-came (q / 12) (omega arith))

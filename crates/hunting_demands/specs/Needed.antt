@@ -18,6 +18,7 @@ use Rattle.gf2.specs.Light.{ones-in}
 use Rattle.lists.specs.Tests.{true-false}
 use Rattle.lists.specs.Rows.{each, joined, length-joined, joined-part}
 use Rattle.layout.specs.Layout.{multiframePairs, multiframeOctets, mostMultiframes, indexOctets, reportOctets, codebookNumbers, thresholdNumbers, syncFirst, syncSecond}
+use Rattle.settings.specs.Settings.{settings}
 use Rattle.bits.specs.Bits.{field, fields, value, bits}
 use Rattle.bits.specs.Laws.{length-field, length-bits}
 use Rattle.carrier.specs.Carrier.{streamPacket}
@@ -292,7 +293,7 @@ abbrev pub swallowed : List ℕ
 swallowed = H.hurt says1 falseStart (λ k. sync) (λ k. 0) [] 6
 
 flipped-lt : flippedWord < 2 ^ headerBits
-flipped-lt = xor-lt 32 (codeword (sentMessage says1 0)) 1 (codeword-lt (sentMessage says1 0) (message-lt 0 0 1 0)) (lit< tt)
+flipped-lt = xor-lt 32 (codeword (sentMessage says1 0)) 1 (codeword-lt (sentMessage says1 0) (message-lt (settings 0 0) 1 0)) (lit< tt)
 
 start-size : length falseStart ≡ 48
 start-size = length-append sync (field 32 flippedWord ++ []) ∙ omega (arith, length-append (field 32 flippedWord) [], length-field 32 flippedWord, sync-size)
@@ -311,7 +312,7 @@ abbrev pub followed : List ℕ
 followed = H.hurt says1 [] (λ k. sync) (λ k. 0) other 144
 
 other-lt : otherWord < 2 ^ headerBits
-other-lt = xor-lt 32 (codeword (sentMessage says1At11 0)) 0 (codeword-lt (sentMessage says1At11 0) (message-lt 1 0 1 0)) (lit< tt)
+other-lt = xor-lt 32 (codeword (sentMessage says1At11 0)) 0 (codeword-lt (sentMessage says1At11 0) (message-lt (settings 1 0) 1 0)) (lit< tt)
 
 other-size : length other ≡ multiframeBits
 other-size =
@@ -324,7 +325,7 @@ other-fits = record { syncs = λ k. sync-size; headers = λ k. lit< tt; around =
 other-rate : commonBits (sentMessage says1At11 0) ≡ commonBits (sentMessage says1 0) → ⊥
 other-rate e =
     let z : _≡_ {A = ℕ} 1 0 =
-    sym (common-rate (message 1 0 1 0) ∙ rate-back 1 0 1 0) ∙ ap rateOf e ∙ common-rate (message 0 0 1 0) ∙ rate-back 0 0 1 0 in
+    sym (common-rate (message (settings 1 0) 1 0) ∙ rate-back (settings 1 0) 1 0) ∙ ap rateOf e ∙ common-rate (message (settings 0 0) 1 0) ∙ rate-back (settings 0 0) 1 0 in
     omega arith
 
 both-of : (P : ℕ → Type 0) → P 0 → P 1 → (k : ℕ) → k < 2 → P k
@@ -461,7 +462,7 @@ module _ (codebook thresholds : List ℤ) (index report : List ℕ) where
           let size = H.searched-are says1 falseStart (λ k. sync) (λ k. 0) [] 6 f in
           let e : reading (wordAt (bits swallowed) 0) ≡ Codeword (decodedAs flippedWord (sentMessage says1 0)) =
           ap (λ (x : List Bool). reading (value x)) (H.front-there says1 falseStart (λ k. sync) (λ k. 0) [] 6 f 16 32 (omega (arith, start-size)))
-          ∙ ap reading (word-in sync flippedWord [] sync-size flipped-lt) ∙ mended (sentMessage says1 0) 1 (message-lt 0 0 1 0) one-few .0 in
+          ∙ ap reading (word-in sync flippedWord [] sync-size flipped-lt) ∙ mended (sentMessage says1 0) 1 (message-lt (settings 0 0) 1 0) one-few .0 in
           let match : least ≤ matches (syncAt (bits swallowed) 0) sync =
           subst (λ (x : List Bool). least ≤ matches x sync)
           (sym (H.front-there says1 falseStart (λ k. sync) (λ k. 0) [] 6 f 0 16 (omega (arith, start-size)) ∙ sync-in sync flippedWord [] sync-size)) (sync-enough least high) in
@@ -485,7 +486,7 @@ module _ (codebook thresholds : List ℤ) (index report : List ℕ) where
       let first = H.mended-there says1 [] (λ k. sync) (λ k. 0) other 144 f 0 (lit< tt) none-few in
       let second : reading (wordAt (bits followed) 1152) ≡ Codeword (decodedAs otherWord (sentMessage says1At11 0)) =
       ap (λ (x : List Bool). reading (value x)) (H.behind-there says1 [] (λ k. sync) (λ k. 0) other 144 f 1168 32 (lit≤ tt))
-      ∙ ap reading (word-in sync otherWord (stream (lone 1) 0 multiframePairs) sync-size other-lt) ∙ mended (sentMessage says1At11 0) 0 (message-lt 1 0 1 0) none-few .0 in
+      ∙ ap reading (word-in sync otherWord (stream (lone 1) 0 multiframePairs) sync-size other-lt) ∙ mended (sentMessage says1At11 0) 0 (message-lt (settings 1 0) 1 0) none-few .0 in
       let match : least ≤ matches (syncAt (bits followed) 1152) sync =
       subst (λ (x : List Bool). least ≤ matches x sync)
       (sym (H.behind-there says1 [] (λ k. sync) (λ k. 0) other 144 f 1152 16 (lit≤ tt) ∙ sync-in sync otherWord (stream (lone 1) 0 multiframePairs) sync-size)) (sync-enough least high) in
@@ -565,7 +566,7 @@ module _ (u : Utterance) (two : 2 ≤ multiframesOf u) (least : ℕ) (low : fewe
 
   searched-img : searched (bits img) ≡ multiframeBits * m
   searched-img =
-      let few : m ≤ 255 = few-multiframes (u .rate) (u .kind) (u .indices) (is-accepted u .sizes) in
+      let few : m ≤ 255 = few-multiframes (u .settings) (u .indices) (is-accepted u .sizes) in
       searched-all (bits img) (omega (arith, length-bits img, cut .size)) ∙ omega (arith, length-bits img, cut .size)
 
   whole-syncs : (k : ℕ) → k < m → least ≤ matches (syncAt (bits img) (placeInRow 0 k)) sync
@@ -582,7 +583,7 @@ module _ (u : Utterance) (two : 2 ≤ multiframesOf u) (least : ℕ) (low : fewe
       let size : length (hurtStream u 0) ≡ 1104 = length-append (burstAt u 0) (d ++ r) ∙ omega (arith, length-append d r, length-stream (u .indices) 2 10) in
       let first : packetIn img 0 ≡ burstAt u 0 = made-packet (hurtWord u) (hurtStream u) m 0 (omega arith) size ∙ take-at (burstAt u 0) (d ++ r) 92 lb in
       differs p (burstAt u 0) (inl (flips-burst p 0 2 (lit< tt) (lit< tt) (omega arith)))
-      (sym first ∙ e ∙ image-packet (u .rate) (u .kind) (u .indices) m 0 (omega arith))
+      (sym first ∙ e ∙ image-packet (u .settings) (u .indices) m 0 (omega arith))
 
   named : A.Premises u img img 0 0 least zeroBook zeroThresholds (indexFor m) (reportFor m)
   named = record {

@@ -65,10 +65,10 @@ module _ (u : Utterance) (s : List ℕ) (from at least : ℕ) (c : Caught u s fr
   m = multiframesOf u
 
   pub together-size : length (together u s at) ≡ length (imageOf u)
-  together-size = image-size s at m (c .inside) ∙ sym (length-image (u .rate) (u .kind) (u .indices) m)
+  together-size = image-size s at m (c .inside) ∙ sym (length-image (u .settings) (u .indices) m)
 
   pub together-syncs : (k : ℕ) → k < multiframesOf u → syncIn (together u s at) k ≡ syncIn (imageOf u) k
-  together-syncs k h = image-sync s at m (c .inside) k h ∙ sym (I.image-sync (u .rate) (u .kind) (u .indices) m k h)
+  together-syncs k h = image-sync s at m (c .inside) k h ∙ sym (I.image-sync (u .settings) (u .indices) m k h)
 
   pub flips-there : (k : ℕ) → k < multiframesOf u → headerFlips (imageOf u) (together u s at) k ≡ receivedFlips u s at k
   flips-there k h = ap (λ (w : ℕ). ones (bitXor w (wordIn (imageOf u) k))) (image-word s at m (c .inside) k h)
@@ -94,7 +94,7 @@ module _ (u : Utterance) (s : List ℕ) (from at least : ℕ) (c : Caught u s fr
   pub found-on-air : gathering (bits s) least mostMultiframes from .places ≡ row at (multiframesOf u)
   found-on-air =
       ap (λ (g : Gathering). g .places)
-      (found-in-a-row (bits s) from at least m in-a-row (omega arith) (few-multiframes (u .rate) (u .kind) (u .indices) (is-accepted u .sizes)))
+      (found-in-a-row (bits s) from at least m in-a-row (omega arith) (few-multiframes (u .settings) (u .indices) (is-accepted u .sizes)))
 
 module _ (u : Utterance) (s : List ℕ) (from at least : ℕ) (o : OnAir u s from at least) where
   abbrev caught : Caught u s from at least

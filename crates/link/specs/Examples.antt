@@ -5,6 +5,7 @@ use mathlib.Core.Path.{_≡_, refl}
 use mathlib.Core.List.{List, [], _∷_}
 use Prim.Native.Nat.{ℕ}
 use lib.ListN.{replicate}
+use Rattle.settings.specs.Settings.{settings}
 use Rattle.hunt.specs.declared.Hunted.the-variants as HA
 use Rattle.refusals.specs.declared.Hunt.the-variants as HR
 use Rattle.refusals.specs.declared.Reading.the-variants as RR
@@ -16,7 +17,7 @@ use Rattle.link.specs.Bits.{huntReturning, bitsReturning}
 -- 16 kHz, noise robust, 2 multiframes, 30 frames of speech, 4 bad pairs, end; 32 bits outside, 21 places tested
 abbrev pub talk : Outcome
 talk =
-    outcome (Read (record { summary = record { rate = 3; kind = 1; multiframes = 2; speech = 30; bad = 4; end = 1 }; outside = 32; tested = 21 })) (1 ∷ []) (2 ∷ [])
+    outcome (Read (record { summary = record { settings = settings 3 1; multiframes = 2; speech = 30; bad = 4; end = 1 }; outside = 32; tested = 21 })) (1 ∷ []) (2 ∷ [])
 
 abbrev pub nine : List ℕ
 nine = 90 ∷ 91 ∷ 92 ∷ 93 ∷ 94 ∷ 95 ∷ 96 ∷ 97 ∷ 98 ∷ []

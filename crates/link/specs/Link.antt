@@ -8,6 +8,7 @@ use lib.ListN.{length}
 use Rattle.lists.specs.Tests.{when}
 use Rattle.lists.specs.Parts.{over}
 use Rattle.layout.specs.Layout.{streamOctets, indexOctets, multiframePairs}
+use Rattle.settings.specs.Settings.{settings}
 use Rattle.bits.specs.Bits.{bits, octets}
 use Rattle.carrier.specs.Carrier.{streamPacket}
 use Rattle.packet.specs.Packet.{stream}
@@ -69,7 +70,7 @@ answerNumbers = 6
 
 -- rate, type, multiframes, speech, bad pairs, end
 abbrev pub summaryNumbers : Summary → List ℕ
-summaryNumbers s = s .rate ∷ s .kind ∷ s .multiframes ∷ s .speech ∷ s .bad ∷ s .end ∷ []
+summaryNumbers s = s .settings .rate ∷ s .settings .kind ∷ s .multiframes ∷ s .speech ∷ s .bad ∷ s .end ∷ []
 
 -- the number, the two buffers and the lent numbers
 pub record Returned : Type 0 where
@@ -102,7 +103,7 @@ writeReturned n o p = record { number = n; output = o; place = p }
 
 abbrev pub dsrWrite : ℕ → ℕ → List ℕ → List ℕ → WriteReturned
 dsrWrite rate kind indices out =
-    writeReturned (W.numberOf (writing rate kind indices out .answer)) (writing rate kind indices out .output) (W.placeOf (writing rate kind indices out .answer))
+    writeReturned (W.numberOf (writing (settings rate kind) indices out .answer)) (writing (settings rate kind) indices out .output) (W.placeOf (writing (settings rate kind) indices out .answer))
 
 -- dsr_read: its number, both buffers and the lent numbers
 abbrev pub dsrRead : List ℕ → List ℤ → List ℤ → List ℕ → List ℕ → List ℕ → Returned

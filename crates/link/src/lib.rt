@@ -7,6 +7,7 @@ use layout::Pair;
 use layout::ReadingLayout;
 use reader::Answer;
 use reader::Summary;
+use settings::Settings;
 use writer::Found;
 ghost use mathlib.Core.Path.{_≡_};
 ghost use Prim.Native.Nat.{_≤_};
@@ -97,7 +98,8 @@ pub extern "C" fn dsr_write(
 ) -> u32
     ensures { λ r. ⌜ writeReturned r (now (out .exit)) (now (place .exit)) ≡ dsrWrite rate kind (now (indices .entry)) (now (out .entry)) ⌝ }
 {
-    let answer = writer::write(rate, kind, indices, out);
+    let settings = Settings { rate, kind };
+    let answer = writer::write(settings, indices, out);
     *place = writer::place_of(answer) as u64;
     writer::number_of(answer)
 }
@@ -107,8 +109,8 @@ fn put_summary(s: Summary, answer: &mut [u64])
     requires { ⌜ answerNumbers ≤ length (now answer) ⌝ }
     ensures { λ _. ⌜ now (answer .exit) ≡ over (now (answer .entry)) 0 answerNumbers (summaryNumbers s) ⌝ }
 {
-    answer[0] = s.rate as u64;
-    answer[1] = s.kind as u64;
+    answer[0] = s.settings.rate as u64;
+    answer[1] = s.settings.kind as u64;
     answer[2] = s.multiframes as u64;
     answer[3] = s.speech as u64;
     answer[4] = s.bad as u64;

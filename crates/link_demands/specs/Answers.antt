@@ -5,6 +5,7 @@ use mathlib.Core.Path.{_≡_, refl}
 use mathlib.Core.List.{List, [], _∷_}
 use Prim.Native.Nat.{ℕ}
 use lib.ListN.{replicate}
+use Rattle.settings.specs.Settings.{settings}
 use Rattle.frames.specs.Frames.{zeroFrame}
 use Rattle.reader.specs.Reading.{Outcome, outcome, reading, verdict}
 use Rattle.refusals.specs.declared.Reading.the-variants.{CutShort, IndexShort, AllBad}
@@ -15,7 +16,7 @@ use Rattle.link.specs.Link.{returning, dsrWrite, dsrRead}
 
 -- 16 kHz, noise robust, 2 multiframes, 30 frames of speech, 4 bad pairs, end
 abbrev pub talk : Outcome
-talk = outcome (Read (record { rate = 3; kind = 1; multiframes = 2; speech = 30; bad = 4; end = 1 })) (1 ∷ []) (2 ∷ [])
+talk = outcome (Read (record { settings = settings 3 1; multiframes = 2; speech = 30; bad = 4; end = 1 })) (1 ∷ []) (2 ∷ [])
 
 -- seven numbers lent, which came as 90 to 96; index and report came as 5 and 6
 abbrev pub seven : List ℕ

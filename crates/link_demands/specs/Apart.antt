@@ -7,6 +7,7 @@ use mathlib.Core.Logic.{_↔_}
 use Prim.Native.Nat.{ℕ, _+_, _*_, _≤_, _<_}
 use lib.ListN.{getD}
 use Rattle.layout.specs.Layout.{frameIndices, multiframePairs, multiframeOctets, firstFrame, secondFrame}
+use Rattle.settings.specs.declared.Settings.{Settings}
 use Rattle.packet.specs.Packet.{frameAt}
 use Rattle.packet.specs.Laws.{getD-row}
 use Rattle.writer.specs.Image.{imageOf}
@@ -65,8 +66,8 @@ module _ (rate kind : ℕ) (indices out : List ℕ) (rate′ kind′ : ℕ) (ind
       }) in
       let back : (q : ℕ) → (Touched one s q → ⊥) → Touched (imageOf u) s q → ⊥ = λ q n. subst (λ (l : List ℕ). Touched l s q → ⊥) eu n in
       record {
-        rates = a .rates;
-        kinds = a .kinds;
+        rates = ap (λ (x : Settings). x .rate) (a .settings);
+        kinds = ap (λ (x : Settings). x .kind) (a .settings);
         places = place-is rate kind indices out (x .call) ∙ ap (λ (k : ℕ). multiframeOctets * k) (a .counts) ∙ sym (place-is rate′ kind′ indices′ out′ (x .call′));
         damaged = λ q h.
             subst (λ (l : List ℕ). Touched one s q ↔ Touched l s q) (sym ev) (subst (λ (l : List ℕ). Touched l s q ↔ Touched (imageOf v) s q) (sym eu) (a .damaged q h));

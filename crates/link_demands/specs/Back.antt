@@ -147,10 +147,10 @@ module _ (s : List ℕ) (codebook thresholds : List ℤ) (index report answer ou
     at : (k : ℕ) → getD (got .answer) k 0 ≡ getD (over answer 0 answerNumbers (summaryNumbers g)) k 0
     at k = ap (λ (x : Returned). getD (x .answer) k 0) got-is
 
-    again-is : again ≡ dsrWrite (g .rate) (g .kind) (take (frameIndices * g .speech) (reading s codebook thresholds index report .index)) output
+    again-is : again ≡ dsrWrite (g .settings .rate) (g .settings .kind) (take (frameIndices * g .speech) (reading s codebook thresholds index report .index)) output
     again-is =
         ap₂ (λ (a b : ℕ). dsrWrite a b (take (frameIndices * getD (got .answer) 3 0) (got .index)) output) (at 0) (at 1)
-        ∙ ap₂ (λ (n : ℕ) (l : List ℕ). dsrWrite (g .rate) (g .kind) (take (frameIndices * n) l) output) (at 3) (ap (λ (x : Returned). x .index) got-is)
+        ∙ ap₂ (λ (n : ℕ) (l : List ℕ). dsrWrite (g .settings .rate) (g .settings .kind) (take (frameIndices * n) l) output) (at 3) (ap (λ (x : Returned). x .index) got-is)
 
     premises : A.Premises s codebook thresholds index report output g
     premises = record {
@@ -160,9 +160,9 @@ module _ (s : List ℕ) (codebook thresholds : List ℤ) (index report answer ou
           ap (λ (x : Returned). getD (x .report) i 0) (sym got-is) ∙ p .notes-0 i (subst (λ (n : ℕ). i < reportOctets * n) (sym (at 2)) h);
       ended = sym (at 5) ∙ p .ended;
       no-inverses = p .no-inverses ∙ ap (λ (n : ℕ). multiframeOctets * n) (at 2);
-      octets = dsrWrite (g .rate) (g .kind) (take (frameIndices * g .speech) (reading s codebook thresholds index report .index)) output .place;
+      octets = dsrWrite (g .settings .rate) (g .settings .kind) (take (frameIndices * g .speech) (reading s codebook thresholds index report .index)) output .place;
       accepts =
-          write-zero (g .rate) (g .kind) (take (frameIndices * g .speech) (reading s codebook thresholds index report .index)) output
+          write-zero (g .settings .rate) (g .settings .kind) (take (frameIndices * g .speech) (reading s codebook thresholds index report .index)) output
           (ap (λ (w : WriteReturned). w .number) (sym again-is) ∙ p .accepts);
     }
 

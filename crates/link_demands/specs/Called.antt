@@ -7,6 +7,7 @@ use native.Mathlib.Omega.{arith}
 use lib.ListN.{length, take, drop}
 use lib.Seq.{take-at}
 use Rattle.layout.specs.Layout.{multiframeOctets}
+use Rattle.settings.specs.Settings.{settings}
 use Rattle.writer.specs.Writing as W
 use Rattle.writer.specs.Writing.{frameCount, multiframesFor, needed, writing, verdict}
 use Rattle.writer.specs.Laws.{length-image, Accepted, accepts}
@@ -20,11 +21,11 @@ use Rattle.link.specs.Link.{dsrWrite}
 use Rattle.link_demands.specs.Calls.{beyond, write-zero}
 
 -- dsr_write's success is the writer's
-accepted : (rate kind : ℕ) (indices out : List ℕ) (n : ℕ) → writing rate kind indices out .answer ≡ Written n → verdict rate kind indices (length out) ≡ Written n
+accepted : (rate kind : ℕ) (indices out : List ℕ) (n : ℕ) → writing (settings rate kind) indices out .answer ≡ Written n → verdict (settings rate kind) indices (length out) ≡ Written n
 unfolding writing
-accepted rate kind indices out n e = by (verdict rate kind indices (length out)) e
+accepted rate kind indices out n e = by (verdict (settings rate kind) indices (length out)) e
   where
-    by : (v : WA.Answer) → W.finished rate kind indices out v .answer ≡ Written n → v ≡ Written n
+    by : (v : WA.Answer) → W.finished (settings rate kind) indices out v .answer ≡ Written n → v ≡ Written n
     by (Written k) e = e
     by (WV.Refused r) e = e
 
@@ -44,31 +45,30 @@ module _ (rate kind : ℕ) (indices out : List ℕ) (c : Call rate kind indices 
   abbrev n : ℕ
   n = dsrWrite rate kind indices out .place
 
-  ok : writing rate kind indices out .answer ≡ Written n
+  ok : writing (settings rate kind) indices out .answer ≡ Written n
   ok = write-zero rate kind indices out (c .written)
 
-  pub took : Accepted rate kind indices (length out) n
-  took = L.accepted rate kind indices (length out) n (accepted rate kind indices out n ok)
+  pub took : Accepted (settings rate kind) indices (length out) n
+  took = L.accepted (settings rate kind) indices (length out) n (accepted rate kind indices out n ok)
 
   abbrev pub called : Utterance
   called = record {
-    rate = rate;
-    kind = kind;
+    settings = settings rate kind;
     indices = indices;
     small = c .small;
-    written = accepts rate kind indices (needed indices) (took .sizes) (took .narrow-indices) (took .speaks) (omega arith);
+    written = accepts (settings rate kind) indices (needed indices) (took .sizes) (took .narrow-indices) (took .speaks) (omega arith);
   }
 
   pub place-is : dsrWrite rate kind indices out .place ≡ multiframeOctets * countOf indices
-  place-is = success rate kind indices out n ok .0
+  place-is = success (settings rate kind) indices out n ok .0
 
   pub octets-are : octetsOf rate kind indices out ≡ imageOf called
   octets-are =
-      ap (take n) (success rate kind indices out n ok .1)
-      ∙ take-at (imageOf called) (drop (0 + n) out) n (length-image rate kind indices (countOf indices) ∙ sym place-is)
+      ap (take n) (success (settings rate kind) indices out n ok .1)
+      ∙ take-at (imageOf called) (drop (0 + n) out) n (length-image (settings rate kind) indices (countOf indices) ∙ sym place-is)
 
   -- octets beyond them are as they came
   pub output-beyond-is : drop (dsrWrite rate kind indices out .place) (dsrWrite rate kind indices out .output) ≡ drop (dsrWrite rate kind indices out .place) out
   output-beyond-is =
-      ap (drop n) (success rate kind indices out n ok .1)
-      ∙ beyond out (imageOf called) n (omega (arith, place-is, took .room)) (length-image rate kind indices (countOf indices) ∙ sym place-is)
+      ap (drop n) (success (settings rate kind) indices out n ok .1)
+      ∙ beyond out (imageOf called) n (omega (arith, place-is, took .room)) (length-image (settings rate kind) indices (countOf indices) ∙ sym place-is)

@@ -12,6 +12,7 @@ use lib.ListN.{length, drop}
 use borrow.Author.Tests.{le-ltb, lt-ltb, ltb-false}
 use Rattle.lists.specs.Tests.{when}
 use Rattle.lists.specs.Parts.{over, drop-over}
+use Rattle.settings.specs.Settings.{settings}
 use Rattle.writer.specs.Writing as W
 use Rattle.writer.specs.Writing.{writing}
 use Rattle.writer.specs.declared.Answer as WA
@@ -43,8 +44,8 @@ beyond l f w room size = drop-over l f 0 w (omega arith) size w (omega arith)
 -- ---- dsr_write
 module _ (rate kind : ℕ) (indices out : List ℕ) where
   -- 0 is success: the place is the octets written
-  pub write-zero : dsrWrite rate kind indices out .number ≡ 0 → writing rate kind indices out .answer ≡ Written (dsrWrite rate kind indices out .place)
-  write-zero e = by (writing rate kind indices out .answer) e
+  pub write-zero : dsrWrite rate kind indices out .number ≡ 0 → writing (settings rate kind) indices out .answer ≡ Written (dsrWrite rate kind indices out .place)
+  write-zero e = by (writing (settings rate kind) indices out .answer) e
     where
       by : (a : WA.Answer) → W.numberOf a ≡ 0 → a ≡ Written (W.placeOf a)
       by (Written n) e = refl
@@ -53,9 +54,9 @@ module _ (rate kind : ℕ) (indices out : List ℕ) where
   -- any other number leaves the output as it came
   pub write-keeps : (dsrWrite rate kind indices out .number ≡ 0 → ⊥) → dsrWrite rate kind indices out .output ≡ out
   unfolding writing
-  write-keeps n = by (W.verdict rate kind indices (length out)) n
+  write-keeps n = by (W.verdict (settings rate kind) indices (length out)) n
     where
-      by : (a : WA.Answer) → (W.numberOf (W.finished rate kind indices out a .answer) ≡ 0 → ⊥) → W.finished rate kind indices out a .output ≡ out
+      by : (a : WA.Answer) → (W.numberOf (W.finished (settings rate kind) indices out a .answer) ≡ 0 → ⊥) → W.finished (settings rate kind) indices out a .output ≡ out
       by (Written k) n = absurd (n refl)
       by (WV.Refused r) n = refl
 

@@ -47,13 +47,13 @@ module _ (codebook thresholds : List ℤ) (index report answer : List ℕ) where
   -- A CUT BETWEEN MULTIFRAMES TELLS: of the first k of an image, if dsr_read answers 0, the settings are those sent, all frames are speech, no pair is bad
   -- and end is 0
   pub c-cut-off : (u : Utterance) (k : ℕ) → k < multiframesOf u → c (take (multiframeOctets * k) (imageOf u)) .number ≡ 0
-      → c (take (multiframeOctets * k) (imageOf u)) .answer ≡ over answer 0 answerNumbers (u .rate ∷ u .kind ∷ k ∷ multiframeFrames * k ∷ 0 ∷ 0 ∷ [])
+      → c (take (multiframeOctets * k) (imageOf u)) .answer ≡ over answer 0 answerNumbers (u .settings .rate ∷ u .settings .kind ∷ k ∷ multiframeFrames * k ∷ 0 ∷ 0 ∷ [])
   c-cut-off u k less zero =
       let s = take (multiframeOctets * k) (imageOf u) in
       let z = read-zero answer index report (reading s codebook thresholds index report) zero in
       let g = cut-off-answer u k less codebook thresholds index report (z .1 .0) (z .1 .1) in
       ap (λ (x : Returned). x .answer) (got-is s codebook thresholds index report answer (z .0) (z .1 .0) (z .1 .1))
-      ∙ ap (λ (x : Summary). over answer 0 answerNumbers (x .rate ∷ x .kind ∷ x .multiframes ∷ x .speech ∷ x .bad ∷ x .end ∷ [])) g
+      ∙ ap (λ (x : Summary). over answer 0 answerNumbers (x .settings .rate ∷ x .settings .kind ∷ x .multiframes ∷ x .speech ∷ x .bad ∷ x .end ∷ [])) g
 
   -- of a damaged one, if the last pair that came has no note
   pub c-cut-off-damaged : (u : Utterance) (s : List ℕ) → Damage (multiframesOf u) (imageOf u) s → (k : ℕ) → 0 < k → k < multiframesOf u

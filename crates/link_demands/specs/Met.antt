@@ -43,14 +43,14 @@ module _ (u : Utterance) where
   abbrev pub roomFor : List ℕ
   roomFor = replicate (needed (u .indices)) 0
 
-  wrote-is : writing (u .rate) (u .kind) (u .indices) roomFor ≡ W.outcome (Written (needed (u .indices))) (over roomFor 0 (needed (u .indices)) (imageOf u))
+  wrote-is : writing (u .settings) (u .indices) roomFor ≡ W.outcome (Written (needed (u .indices))) (over roomFor 0 (needed (u .indices)) (imageOf u))
   wrote-is = writes u roomFor (le-of-eq (sym (length-replicate (needed (u .indices)) 0)))
 
-  pub call-met : Call (u .rate) (u .kind) (u .indices) roomFor
+  pub call-met : Call (u .settings .rate) (u .settings .kind) (u .indices) roomFor
   call-met = record { small = u .small; written = ap (λ (o : W.Outcome). W.numberOf (o .answer)) wrote-is }
 
   -- READS BACK: every utterance
-  pub back-met : BackPremises (u .rate) (u .kind) (u .indices) roomFor zeroBook zeroThresholds (indexFor (multiframesOf u)) (reportFor (multiframesOf u)) six
+  pub back-met : BackPremises (u .settings .rate) (u .settings .kind) (u .indices) roomFor zeroBook zeroThresholds (indexFor (multiframesOf u)) (reportFor (multiframesOf u)) six
   back-met = record { small = u .small; written = call-met .written; lent = lent-zeros (multiframesOf u); numbers = lit≤ tt }
 
   -- WRITES AGAIN: every image
@@ -72,14 +72,14 @@ module _ (u : Utterance) where
         no-inverses = a .no-inverses ∙ ap (λ (n : ℕ). multiframeOctets * n) (sym (f 2));
         accepts =
             ap₂ (λ (x y : ℕ). dsrWrite x y (take (frameIndices * getD (dsrRead (imageOf u) zeroBook zeroThresholds i r six .answer) 3 0) (dsrRead (imageOf u) zeroBook zeroThresholds i r six .index)) roomFor .number) (f 0) (f 1)
-            ∙ ap₂ (λ (n : ℕ) (l : List ℕ). dsrWrite (u .rate) (u .kind) (take (frameIndices * n) l) roomFor .number) (f 3) (ap (λ (x : Returned). x .index) e)
+            ∙ ap₂ (λ (n : ℕ) (l : List ℕ). dsrWrite (u .settings .rate) (u .settings .kind) (take (frameIndices * n) l) roomFor .number) (f 3) (ap (λ (x : Returned). x .index) e)
             ∙ ap W.numberOf (a .accepts);
       }
 
-  octets-met : octetsOf (u .rate) (u .kind) (u .indices) roomFor ≡ imageOf u
+  octets-met : octetsOf (u .settings .rate) (u .settings .kind) (u .indices) roomFor ≡ imageOf u
   octets-met =
       ap (λ (o : W.Outcome). take (W.placeOf (o .answer)) (o .output)) wrote-is
-      ∙ take-at (imageOf u) (drop (0 + needed (u .indices)) roomFor) (needed (u .indices)) (length-image (u .rate) (u .kind) (u .indices) (multiframesOf u))
+      ∙ take-at (imageOf u) (drop (0 + needed (u .indices)) roomFor) (needed (u .indices)) (length-image (u .settings) (u .indices) (multiframesOf u))
 
 -- NAMES THE DAMAGE: two multiframes with two flips in each header, a burst and two flips at distance 14 in packets of each, at dsr_read
 pub named-24 : Tells says24 (hurtImage says24) zeroBook zeroThresholds

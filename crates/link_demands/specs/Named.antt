@@ -12,6 +12,7 @@ use lib.Seq.{getD-take, getD-drop}
 use Rattle.lists.specs.Parts.{part, over}
 use Rattle.lists.specs.Rows.{length-joined, joined-part}
 use Rattle.layout.specs.Layout.{frameIndices, pairFrames, multiframePairs, multiframeFrames, indexOctets, reportOctets}
+use Rattle.settings.specs.declared.Settings.{Settings}
 use Rattle.cutting.specs.Cutting.{cutting}
 use Rattle.carrier.specs.Carrier.{received, pairCount}
 use Rattle.pairs.specs.Laws.{length-notes}
@@ -48,8 +49,8 @@ frameNoteAt report f = pairNoteAt report (f / multiframeFrames) (f / pairFrames 
 -- ---- what a caller is told of a damaged image s of an utterance
 pub record Tells (u : Utterance) (s : List ℕ) (codebook thresholds : List ℤ) (number : ℕ) (answer index report : List ℕ) : Type 0 where
   pub success : number ≡ 0
-  pub rate : getD answer 0 0 ≡ u .rate
-  pub kind : getD answer 1 0 ≡ u .kind
+  pub rate : getD answer 0 0 ≡ u .settings .rate
+  pub kind : getD answer 1 0 ≡ u .settings .kind
   pub multiframes : getD answer 2 0 ≡ multiframesOf u
   pub bad : Count (BadPair u s codebook thresholds) (pairsOf u) (getD answer 4 0)
   pub damaged : (k j : ℕ) → k < multiframesOf u → j < multiframePairs → (pairNoteAt report k j ≡ 1) ↔ Touched (imageOf u) s (multiframePairs * k + j)
@@ -75,12 +76,12 @@ module _ (u : Utterance) (s : List ℕ) (codebook thresholds : List ℤ) (g : Su
   frame-there : (f : ℕ) → pairNoteIn report (f / pairFrames) ≡ frameNoteAt report f
   frame-there f = let d : 13 * (f / 2 / 12) + 1 + f / 2 % 12 ≡ 13 * (f / 24) + 1 + f / 2 % 12 = omega arith in ap (λ (i : ℕ). getD report i 0) d
 
-  pub tells : (number : ℕ) → number ≡ 0 → getD answer 0 0 ≡ g .rate → getD answer 1 0 ≡ g .kind → getD answer 2 0 ≡ g .multiframes → getD answer 4 0 ≡ g .bad
+  pub tells : (number : ℕ) → number ≡ 0 → getD answer 0 0 ≡ g .settings .rate → getD answer 1 0 ≡ g .settings .kind → getD answer 2 0 ≡ g .multiframes → getD answer 4 0 ≡ g .bad
       → Tells u s codebook thresholds number answer index report
   tells number zero a b c d = record {
     success = zero;
-    rate = a ∙ n .rate;
-    kind = b ∙ n .kind;
+    rate = a ∙ ap (λ (x : Settings). x .rate) (n .settings);
+    kind = b ∙ ap (λ (x : Settings). x .kind) (n .settings);
     multiframes = c ∙ n .multiframes;
     bad = subst (Count (BadPair u s codebook thresholds) (pairsOf u)) (sym d) (n .counted);
     damaged = λ k j h l.
@@ -169,17 +170,17 @@ module _ (u : Utterance) (s : List ℕ) (codebook thresholds : List ℤ) (index 
   c-names-the-damage p = named (N.names-the-damage u s codebook thresholds index report p)
 
   -- NEVER MISLED at dsr_read: if it answers 0, rate, type and multiframes are those sent
-  pub c-never-misled : M.Premises u s → c .number ≡ 0 → (getD (c .answer) 0 0 ≡ u .rate) × ((getD (c .answer) 1 0 ≡ u .kind) × (getD (c .answer) 2 0 ≡ multiframesOf u))
+  pub c-never-misled : M.Premises u s → c .number ≡ 0 → (getD (c .answer) 0 0 ≡ u .settings .rate) × ((getD (c .answer) 1 0 ≡ u .settings .kind) × (getD (c .answer) 2 0 ≡ multiframesOf u))
   c-never-misled p zero =
       let z = read-zero answer index report (reading s codebook thresholds index report) zero in
       let f = at s codebook thresholds index report answer (z .0) (z .1 .0) (z .1 .1) in
       let m = M.never-misled u s p codebook thresholds index report (z .1 .0) (z .1 .1) in
-      (f 0 ∙ m .rate, (f 1 ∙ m .kind, f 2 ∙ m .multiframes))
+      (f 0 ∙ ap (λ (x : Settings). x .rate) (m .settings), (f 1 ∙ ap (λ (x : Settings). x .kind) (m .settings), f 2 ∙ m .multiframes))
 
   -- what a caller hears of all of an utterance: its six numbers, every frame octet for octet and zeros after them
   pub record HearsAll : Type 0 where
     pub success : c .number ≡ 0
-    pub numbers : c .answer ≡ over answer 0 answerNumbers (u .rate ∷ u .kind ∷ multiframesOf u ∷ frameCount (u .indices) ∷ 0 ∷ 1 ∷ [])
+    pub numbers : c .answer ≡ over answer 0 answerNumbers (u .settings .rate ∷ u .settings .kind ∷ multiframesOf u ∷ frameCount (u .indices) ∷ 0 ∷ 1 ∷ [])
     pub frames : (i : ℕ) → i < length (u .indices) → getD (c .index) i 0 ≡ getD (u .indices) i 0
     pub padding : (i : ℕ) → length (u .indices) ≤ i → i < indexOctets * multiframesOf u → getD (c .index) i 0 ≡ 0
 

@@ -18,6 +18,7 @@ use Rattle.writer.specs.Made.{packetIn}
 use Rattle.lists.specs.Rows.{joined, length-joined, joined-part}
 use Rattle.lists.specs.Parts.{over}
 use Rattle.layout.specs.Layout.{indexOctets, reportOctets, multiframePairs}
+use Rattle.settings.specs.declared.Settings.{Settings}
 use Rattle.bits.specs.Bits.{bits}
 use Rattle.reader.specs.Reading as R
 use Rattle.reader.specs.declared.Summary.{Summary}
@@ -80,8 +81,8 @@ module _ (u : Utterance) (s : List ℕ) (from at least : ℕ) (codebook threshol
   -- what a caller hears of all of an utterance
   pub record HearsAll : Type 0 where
     pub success : c .number ≡ 0
-    pub rate : getD (c .answer) 0 0 ≡ u .rate
-    pub kind : getD (c .answer) 1 0 ≡ u .kind
+    pub rate : getD (c .answer) 0 0 ≡ u .settings .rate
+    pub kind : getD (c .answer) 1 0 ≡ u .settings .kind
     pub multiframes : getD (c .answer) 2 0 ≡ multiframesOf u
     pub speech : getD (c .answer) 3 0 ≡ frameCount (u .indices)
     pub bad : getD (c .answer) 4 0 ≡ 0
@@ -98,8 +99,8 @@ module _ (u : Utterance) (s : List ℕ) (from at least : ℕ) (codebook threshol
       ∙ front-at index (padded u) (indexOctets * multiframesOf u) i (omega (arith, length-padded u)) ∙ padded-at u i in
       record {
         success = ap (λ (x : BitsReturned). x .number) e;
-        rate = f 0 ∙ ap (λ (x : Summary). x .rate) es;
-        kind = f 1 ∙ ap (λ (x : Summary). x .kind) es;
+        rate = f 0 ∙ ap (λ (x : Summary). x .settings .rate) es;
+        kind = f 1 ∙ ap (λ (x : Summary). x .settings .kind) es;
         multiframes = f 2 ∙ ap (λ (x : Summary). x .multiframes) es;
         speech = f 3 ∙ ap (λ (x : Summary). x .speech) es;
         bad = f 4 ∙ ap (λ (x : Summary). x .bad) es;
@@ -171,7 +172,7 @@ module _ (u : Utterance) (s : List ℕ) (from at least : ℕ) (codebook threshol
   -- NEVER MISLED at dsr_read_bits: with at most two flips in every header, whatever happened to the packets, if it answers 0, rate, type and
   -- multiframes are those sent
   pub c-never-misled-on-air : Caught u s from at least → c .number ≡ 0
-      → (getD (c .answer) 0 0 ≡ u .rate) × ((getD (c .answer) 1 0 ≡ u .kind) × (getD (c .answer) 2 0 ≡ multiframesOf u))
+      → (getD (c .answer) 0 0 ≡ u .settings .rate) × ((getD (c .answer) 1 0 ≡ u .settings .kind) × (getD (c .answer) 2 0 ≡ multiframesOf u))
   c-never-misled-on-air a zero =
       let z = bits-zero answer place index report o zero in
       let g = z .1 .0 in
@@ -181,7 +182,7 @@ module _ (u : Utterance) (s : List ℕ) (from at least : ℕ) (codebook threshol
       ∙ F.success s from least codebook thresholds index report g (z .1 .1) .as-01-says in
       let w = M.never-misled u (together u s at) premises codebook thresholds index report (g .summary) (ap (λ (x : R.Outcome). x .answer) y) in
       let f : (k : ℕ) → getD (c .answer) k 0 ≡ getD (over answer 0 countedNumbers (numbersOf g)) k 0 = λ k. ap (λ (x : BitsReturned). getD (x .answer) k 0) e in
-      (f 0 ∙ w .rate, (f 1 ∙ w .kind, f 2 ∙ w .multiframes))
+      (f 0 ∙ ap (λ (x : Settings). x .rate) (w .settings), (f 1 ∙ ap (λ (x : Settings). x .kind) (w .settings), f 2 ∙ w .multiframes))
     where
       most : (k n : ℕ) → k < multiframesOf u → 2 ≤ n → headerFlips (imageOf u) (together u s at) k ≤ n
       most k n h l = let few = flips-few u s from at least a k h in omega arith

@@ -104,7 +104,7 @@ cut-told = c-cut-off zeroBook zeroThresholds (indexFor 1) (reportFor 1) six ones
 
 -- ON AIR: two multiframes at bit 3 with four flips in each sync, two in each header, and damaged packets: the settings are those sent
 pub air-told : (dsrReadBits (aired says24) 0 fewestMatches zeroBook zeroThresholds (indexFor (multiframesOf says24)) (reportFor (multiframesOf says24)) eight 0 .number ≡ 0)
-    × (getD (dsrReadBits (aired says24) 0 fewestMatches zeroBook zeroThresholds (indexFor (multiframesOf says24)) (reportFor (multiframesOf says24)) eight 0 .answer) 0 0 ≡ says24 .rate)
+    × (getD (dsrReadBits (aired says24) 0 fewestMatches zeroBook zeroThresholds (indexFor (multiframesOf says24)) (reportFor (multiframesOf says24)) eight 0 .answer) 0 0 ≡ says24 .settings .rate)
 air-told =
     let i = indexFor (multiframesOf says24) in
     let r = reportFor (multiframesOf says24) in
@@ -132,21 +132,21 @@ read-told =
 -- FROM CALL TO CALL: every utterance that dsr_write wrote, undamaged, is answered by dsr_read with 0 and told
 module _ (u : Utterance) where
   abbrev sent : List ℕ
-  sent = octetsOf (u .rate) (u .kind) (u .indices) (roomFor u)
+  sent = octetsOf (u .settings .rate) (u .settings .kind) (u .indices) (roomFor u)
 
-  sent-is : octetsOf (u .rate) (u .kind) (u .indices) (roomFor u) ≡ imageOf u
-  sent-is = octets-are (u .rate) (u .kind) (u .indices) (roomFor u) (call-met u)
+  sent-is : octetsOf (u .settings .rate) (u .settings .kind) (u .indices) (roomFor u) ≡ imageOf u
+  sent-is = octets-are (u .settings .rate) (u .settings .kind) (u .indices) (roomFor u) (call-met u)
 
   zero : dsrRead sent zeroBook zeroThresholds (indexFor (multiframesOf u)) (reportFor (multiframesOf u)) six .number ≡ 0
   zero =
       ap (λ (l : List ℕ). dsrRead l zeroBook zeroThresholds (indexFor (multiframesOf u)) (reportFor (multiframesOf u)) six .number) sent-is
       ∙ answers-0 (imageOf u) (multiframesOf u) (spoken u) (P.without-warning u zeroBook zeroThresholds (indexFor (multiframesOf u)) (reportFor (multiframesOf u)) (lent-zeros (multiframesOf u)) .succeeds)
 
-  pub link-told : Tells (called (u .rate) (u .kind) (u .indices) (roomFor u) (call-met u)) sent zeroBook zeroThresholds
+  pub link-told : Tells (called (u .settings .rate) (u .settings .kind) (u .indices) (roomFor u) (call-met u)) sent zeroBook zeroThresholds
       (dsrRead sent zeroBook zeroThresholds (indexFor (multiframesOf u)) (reportFor (multiframesOf u)) six .number)
       (dsrRead sent zeroBook zeroThresholds (indexFor (multiframesOf u)) (reportFor (multiframesOf u)) six .answer)
       (dsrRead sent zeroBook zeroThresholds (indexFor (multiframesOf u)) (reportFor (multiframesOf u)) six .index)
       (dsrRead sent zeroBook zeroThresholds (indexFor (multiframesOf u)) (reportFor (multiframesOf u)) six .report)
   link-told =
-      c-link-names (u .rate) (u .kind) (u .indices) (roomFor u) (call-met u) sent zeroBook zeroThresholds (indexFor (multiframesOf u)) (reportFor (multiframesOf u)) six
+      c-link-names (u .settings .rate) (u .settings .kind) (u .indices) (roomFor u) (call-met u) sent zeroBook zeroThresholds (indexFor (multiframesOf u)) (reportFor (multiframesOf u)) six
       (subst (λ (l : List ℕ). DamageUpTo 3 (countOf (u .indices)) l l) (sym sent-is) (loosened (lit≤ tt) (unharmed u))) zero

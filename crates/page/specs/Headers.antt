@@ -12,6 +12,7 @@ use lib.Dec.{lit<}
 use lib.ListN.{getD}
 use Rattle.gf2.specs.Light.{ones-in}
 use Rattle.layout.specs.Layout.{headerOctets, streamOctets, firstPair, multiframePairs}
+use Rattle.settings.specs.Settings.{settings}
 use Rattle.bits.specs.Bits.{numbers, value, field, octets}
 use Rattle.bits.specs.Laws.{take-field, drop-field, value-field}
 use Rattle.packet.specs.Packet.{stream}
@@ -19,7 +20,7 @@ use Rattle.header_code.specs.Code.{parity, codeword, flipsTo}
 use Rattle.header_code.specs.Code.Distance.{codeword-lt, itself-near}
 use Rattle.header_code.specs.Code.Parity.{parity-zero, parity-next, words, words-right, codeword-packed}
 use Rattle.header_code.specs.Code.Examples as E
-use Rattle.header.specs.Message.{message, rateOf, typeOf}
+use Rattle.header.specs.Message.{message, settingsOf}
 use Rattle.header.specs.Message.Laws.{message-lt, message-back, rate-masked, type-masked, count-masked, exp-shifted}
 use Rattle.header.specs.Reading as R
 use Rattle.header.specs.Reading.Laws.{near, flips-of}
@@ -68,24 +69,24 @@ codeword-is m h l =
     sym (codeword-packed m (sum m 16) h (sym (parity-sum m 16 (omega arith)) ∙ ap parity (mod-eq-of-lt h)))
     ∙ ap (λ (x : ℕ). bitOr (bitAnd x 1 * 2 ^ 31 % 2 ^ 32) (front m)) (sym (ones-in 31 (front m) l))
 
-message-is : (m : ℕ) → m < 2 ^ 16 → message (bitAnd m 3) (bitAnd (m / 4) 1) (bitAnd (m / 8) 15) (m / 128) ≡ m
+message-is : (m : ℕ) → m < 2 ^ 16 → message (settings (bitAnd m 3) (bitAnd (m / 4) 1)) (bitAnd (m / 8) 15) (m / 128) ≡ m
 message-is m h =
-    ap₂ (λ (r t : ℕ). message r t (bitAnd (m / 8) 15) (m / 128)) (rate-masked m) (type-masked m)
-    ∙ ap₂ (λ (c e : ℕ). message (rateOf m) (typeOf m) c e) (count-masked m) (exp-shifted m h) ∙ message-back m h
+    ap₂ (λ (r t : ℕ). message (settings r t) (bitAnd (m / 8) 15) (m / 128)) (rate-masked m) (type-masked m)
+    ∙ ap₂ (λ (c e : ℕ). message (settingsOf m) c e) (count-masked m) (exp-shifted m h) ∙ message-back m h
 
 -- the header of these settings and this counter, as an image has it
 abbrev pub header : ℕ → ℕ → ℕ → List ℕ
-header rate kind count = octets headerOctets (field 32 (codeword (message rate kind count 0)))
+header rate kind count = octets headerOctets (field 32 (codeword (message (settings rate kind) count 0)))
 
 header-is : (m : ℕ) → m < 2 ^ 16 → front m < 2 ^ 31 → m / 128 ≡ 0
     → header (bitAnd m 3) (bitAnd (m / 4) 1) (bitAnd (m / 8) 15) ≡ octets headerOctets (field 32 (word m))
 header-is m h l z =
     ap (λ (w : ℕ). octets headerOctets (field 32 w))
-    (ap (λ (e : ℕ). codeword (message (bitAnd m 3) (bitAnd (m / 4) 1) (bitAnd (m / 8) 15) e)) (sym z) ∙ ap codeword (message-is m h) ∙ codeword-is m h l)
+    (ap (λ (e : ℕ). codeword (message (settings (bitAnd m 3) (bitAnd (m / 4) 1)) (bitAnd (m / 8) 15) e)) (sym z) ∙ ap codeword (message-is m h) ∙ codeword-is m h l)
 
 -- a multiframe from its header and its stream
 pub multiframe-is : (rate kind : ℕ) (idx : List ℕ) (k : ℕ) (h b : List ℕ) → header rate kind (k + 1) ≡ h
-    → octets streamOctets (stream idx (firstPair k) multiframePairs) ≡ b → multiframe rate kind idx k ≡ 0x87 ∷ 0xB2 ∷ (h ++ b)
+    → octets streamOctets (stream idx (firstPair k) multiframePairs) ≡ b → multiframe (settings rate kind) idx k ≡ 0x87 ∷ 0xB2 ∷ (h ++ b)
 unfolding multiframe
 multiframe-is rate kind idx k h b eh eb = ap₂ (λ (x y : List ℕ). 0x87 ∷ 0xB2 ∷ (x ++ y)) eh eb
 
@@ -121,10 +122,10 @@ table = record {
 
 -- ---- as they are read
 -- the codeword from the header's octets
-pub word-of : (rate kind count a b c d : ℕ) → header rate kind count ≡ a ∷ b ∷ c ∷ d ∷ [] → codeword (message rate kind count 0) ≡ a + 256 * b + 65536 * c + 16777216 * d
+pub word-of : (rate kind count a b c d : ℕ) → header rate kind count ≡ a ∷ b ∷ c ∷ d ∷ [] → codeword (message (settings rate kind) count 0) ≡ a + 256 * b + 65536 * c + 16777216 * d
 word-of rate kind count a b c d e =
-    let m = message rate kind count 0 in
-    E.of-octets (codeword m) a b c d (sym (same-octets (codeword m) (codeword-lt m (message-lt rate kind count 0))) ∙ e)
+    let m = message (settings rate kind) count 0 in
+    E.of-octets (codeword m) a b c d (sym (same-octets (codeword m) (codeword-lt m (message-lt (settings rate kind) count 0))) ∙ e)
 
 -- a word is read as this message, with so many flips
 abbrev pub ReadsAs : ℕ → ℕ → ℕ → Type 0

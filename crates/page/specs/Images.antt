@@ -14,6 +14,7 @@ use Rattle.lists.specs.Tests.{all, all-holds}
 use Rattle.lists.specs.Parts.{part}
 use Rattle.lists.specs.Rows.{joined}
 use Rattle.layout.specs.Layout.{widths, streamOctets, firstPair, multiframePairs}
+use Rattle.settings.specs.Settings.{settings}
 use Rattle.frames.specs.Frames.{zeroFrame as isZero}
 use Rattle.bits.specs.Bits.{numbers, value, laid, field, fields, bits, octets}
 use Rattle.crc.specs.Crc.{crc, after}
@@ -75,30 +76,30 @@ saidSecond =
 -- 01's own input, the image of one frame; 25 frames in two multiframes
 pub record Table : Type 0 where
   -- "Input 87 B2 08 00 0E EE 01, ten 00, 04, 126 times 00": the frame 1,0,0,0,0,0,0 at 8 kHz, type 0, is written so; "octets beyond that stay"
-  pub one-written : writing 0 0 (1 ∷ 0 ∷ 0 ∷ 0 ∷ 0 ∷ 0 ∷ 0 ∷ []) (lent 146) ≡ outcome (Written 144) (dsrlistInput ++ lent 2)
+  pub one-written : writing (settings 0 0) (1 ∷ 0 ∷ 0 ∷ 0 ∷ 0 ∷ 0 ∷ 0 ∷ []) (lent 146) ≡ outcome (Written 144) (dsrlistInput ++ lent 2)
   -- "gives: 0 000000000000, rate 0 type 0 multiframes 1 speech 1 bad 0 end 1", "with all codebook numbers and thresholds 0"
   pub one-read : reading dsrlistInput (replicate 1280 (pos 0)) (replicate 14 (pos 0)) (lent 170) (lent 15)
-      ≡ R.outcome (Read (record { rate = 0; kind = 0; multiframes = 1; speech = 1; bad = 0; end = 1 })) (1 ∷ (replicate 167 0 ++ lent 2)) (replicate 13 0 ++ lent 2)
+      ≡ R.outcome (Read (record { settings = settings 0 0; multiframes = 1; speech = 1; bad = 0; end = 1 })) (1 ∷ (replicate 167 0 ++ lent 2)) (replicate 13 0 ++ lent 2)
   -- "Header 8 kHz, type 0, count 1: 08 00 0E EE. Count 2: 10 00 1D 0D. Count 3: 18 00 13 E3.": octets 2 to 5 of the first three multiframes
-  pub header-1 : (idx : List ℕ) (m : ℕ) → 0 < m → part 2 4 (image 0 0 idx m) ≡ 0x08 ∷ 0x00 ∷ 0x0E ∷ 0xEE ∷ []
-  pub header-2 : (idx : List ℕ) (m : ℕ) → 1 < m → part 146 4 (image 0 0 idx m) ≡ 0x10 ∷ 0x00 ∷ 0x1D ∷ 0x0D ∷ []
-  pub header-3 : (idx : List ℕ) (m : ℕ) → 2 < m → part 290 4 (image 0 0 idx m) ≡ 0x18 ∷ 0x00 ∷ 0x13 ∷ 0xE3 ∷ []
+  pub header-1 : (idx : List ℕ) (m : ℕ) → 0 < m → part 2 4 (image (settings 0 0) idx m) ≡ 0x08 ∷ 0x00 ∷ 0x0E ∷ 0xEE ∷ []
+  pub header-2 : (idx : List ℕ) (m : ℕ) → 1 < m → part 146 4 (image (settings 0 0) idx m) ≡ 0x10 ∷ 0x00 ∷ 0x1D ∷ 0x0D ∷ []
+  pub header-3 : (idx : List ℕ) (m : ℕ) → 2 < m → part 290 4 (image (settings 0 0) idx m) ≡ 0x18 ∷ 0x00 ∷ 0x13 ∷ 0xE3 ∷ []
   -- "The counter is 1 in the first multiframe and steps modulo 16": 0 in the sixteenth, 1 in the seventeenth
-  pub header-16 : (idx : List ℕ) (m : ℕ) → 15 < m → part 2162 4 (image 0 0 idx m) ≡ 0x00 ∷ 0x00 ∷ 0x00 ∷ 0x00 ∷ []
-  pub header-17 : (idx : List ℕ) (m : ℕ) → 16 < m → part 2306 4 (image 0 0 idx m) ≡ 0x08 ∷ 0x00 ∷ 0x0E ∷ 0xEE ∷ []
+  pub header-16 : (idx : List ℕ) (m : ℕ) → 15 < m → part 2162 4 (image (settings 0 0) idx m) ≡ 0x00 ∷ 0x00 ∷ 0x00 ∷ 0x00 ∷ []
+  pub header-17 : (idx : List ℕ) (m : ℕ) → 16 < m → part 2306 4 (image (settings 0 0) idx m) ≡ 0x08 ∷ 0x00 ∷ 0x0E ∷ 0xEE ∷ []
   -- "SampRate 1 alone: 01 00 01 D1": so it is in the sixteenth multiframe of 11 kHz, type 0
-  pub rate-1-alone : (idx : List ℕ) (m : ℕ) → 15 < m → part 2162 4 (image 1 0 idx m) ≡ 0x01 ∷ 0x00 ∷ 0x01 ∷ 0xD1 ∷ []
+  pub rate-1-alone : (idx : List ℕ) (m : ℕ) → 15 < m → part 2162 4 (image (settings 1 0) idx m) ≡ 0x01 ∷ 0x00 ∷ 0x01 ∷ 0xD1 ∷ []
   -- "Frame 1,0,0,0,0,0,0 with a zero frame: the CRC is the single term X, stream bit 90": the stream begins at bit 48 of the image, behind a
   -- sync of 16 and a header of 32, with the packet of the (P) example
-  pub first-packet : part 48 92 (bits (image 0 0 oneFrame 1)) ≡ packet widths oneFrame zeroFrame
-  pub stream-bit-90 : getD (bits (image 0 0 oneFrame 1)) (48 + 90) false ≡ true
-  pub octet-17 : getD (image 0 0 oneFrame 1) 17 0 ≡ 0x04
+  pub first-packet : part 48 92 (bits (image (settings 0 0) oneFrame 1)) ≡ packet widths oneFrame zeroFrame
+  pub stream-bit-90 : getD (bits (image (settings 0 0) oneFrame 1)) (48 + 90) false ≡ true
+  pub octet-17 : getD (image (settings 0 0) oneFrame 1) 17 0 ≡ 0x04
   -- "for n frames, m = n div 24 + 1 multiframes are written; the last holds n mod 24 frames and then zeros": 25 frames at 16 kHz, type 1
-  pub two-written : writing 3 1 said (lent 290) ≡ outcome (Written 288) (saidFirst ++ (saidSecond ++ lent 2))
+  pub two-written : writing (settings 3 1) said (lent 290) ≡ outcome (Written 288) (saidFirst ++ (saidSecond ++ lent 2))
   -- and they are read back, with any tables
   pub two-read : (codebook thresholds : List ℤ) → length codebook ≡ 1280 → length thresholds ≡ 14
       → reading (saidFirst ++ saidSecond) codebook thresholds (lent 338) (lent 28)
-      ≡ R.outcome (Read (record { rate = 3; kind = 1; multiframes = 2; speech = 25; bad = 0; end = 1 })) (said ++ (replicate 161 0 ++ lent 2)) (replicate 26 0 ++ lent 2)
+      ≡ R.outcome (Read (record { settings = settings 3 1; multiframes = 2; speech = 25; bad = 0; end = 1 })) (said ++ (replicate 161 0 ++ lent 2)) (replicate 26 0 ++ lent 2)
 
 -- ---- the streams, computed
 one-stream : octets streamOctets (stream oneFrame (firstPair 0) multiframePairs) ≡ drop 6 dsrlistInput
@@ -115,25 +116,25 @@ second-stream = refl
 
 -- ---- the images
 -- of 01's one frame, with any settings
-pub spoken-image : (rate kind : ℕ) (h : List ℕ) → H.header rate kind 1 ≡ h → image rate kind oneFrame 1 ≡ spokenBehind h
+pub spoken-image : (rate kind : ℕ) (h : List ℕ) → H.header rate kind 1 ≡ h → image (settings rate kind) oneFrame 1 ≡ spokenBehind h
 unfolding image
 spoken-image rate kind h e = multiframe-is rate kind oneFrame 0 h (drop 6 dsrlistInput) e one-stream
 
-one-image : image 0 0 oneFrame 1 ≡ dsrlistInput
+one-image : image (settings 0 0) oneFrame 1 ≡ dsrlistInput
 one-image = spoken-image 0 0 (part 2 4 dsrlistInput) (H.table .header-0-0)
 
-said-image : image 3 1 said 2 ≡ saidFirst ++ saidSecond
+said-image : image (settings 3 1) said 2 ≡ saidFirst ++ saidSecond
 unfolding image
 said-image =
     ap₂ (λ (x y : List ℕ). x ++ y) (multiframe-is 3 1 said 0 (part 2 4 saidFirst) (drop 6 saidFirst) (H.table .header-3-1) first-stream)
     (multiframe-is 3 1 said 1 (part 2 4 saidSecond) (drop 6 saidSecond) (H.table .second-3-1) second-stream)
 
-header-at : (rate kind : ℕ) (idx : List ℕ) (m k : ℕ) → k < m → headerIn (image rate kind idx m) k ≡ C.octets (codeword (message rate kind (k + 1) 0))
+header-at : (rate kind : ℕ) (idx : List ℕ) (m k : ℕ) → k < m → headerIn (image (settings rate kind) idx m) k ≡ C.octets (codeword (message (settings rate kind) (k + 1) 0))
 header-at rate kind idx m k h =
-    let x = message rate kind (k + 1) 0 in
-    image-header rate kind idx m k h ∙ same-octets (codeword x) (codeword-lt x (message-lt rate kind (k + 1) 0))
+    let x = message (settings rate kind) (k + 1) 0 in
+    image-header (settings rate kind) idx m k h ∙ same-octets (codeword x) (codeword-lt x (message-lt (settings rate kind) (k + 1) 0))
 
-header-in : (idx : List ℕ) (m k : ℕ) → k < m → headerIn (image 0 0 idx m) k ≡ header8 (k + 1)
+header-in : (idx : List ℕ) (m k : ℕ) → k < m → headerIn (image (settings 0 0) idx m) k ≡ header8 (k + 1)
 header-in = header-at 0 0
 
 -- ---- the utterance of 25 frames
@@ -144,12 +145,12 @@ small-list l t i =
       | no d ↦ subst (λ (x : ℕ). x < 2 ^ 8) (sym (List·getD-eq-default l 0 (omega arith))) (lit< tt)
     ]
 
-written-25 : verdict 3 1 said 288 ≡ Written 288
+written-25 : verdict (settings 3 1) said 288 ≡ Written 288
 unfolding verdict roomAnswer firstFrom isZero
 written-25 = refl
 
 says25 : Utterance
-says25 = record { rate = 3; kind = 1; indices = said; small = small-list said tt; written = written-25 }
+says25 = record { settings = settings 3 1; indices = said; small = small-list said tt; written = written-25 }
 
 packet-in : part 48 92 (bits dsrlistInput) ≡ packet widths oneFrame zeroFrame
 unfolding fields field packet guarded crc after laid xor
@@ -168,9 +169,9 @@ table = record {
   header-1 = λ idx m h. header-in idx m 0 h ∙ E.table .header-count-1;
   header-2 = λ idx m h. header-in idx m 1 h ∙ E.table .header-count-2;
   header-3 = λ idx m h. header-in idx m 2 h ∙ E.table .header-count-3;
-  header-16 = λ idx m h. header-in idx m 15 h ∙ ap (λ (x : ℕ). C.octets (codeword x)) (sym (count-mod 0 0 16 0) ∙ message-nothing) ∙ ap C.octets C.codeword-0;
-  header-17 = λ idx m h. header-in idx m 16 h ∙ ap (λ (x : ℕ). C.octets (codeword x)) (sym (count-mod 0 0 17 0)) ∙ E.table .header-count-1;
-  rate-1-alone = λ idx m h. header-at 1 0 idx m 15 h ∙ ap (λ (x : ℕ). C.octets (codeword x)) (sym (count-mod 1 0 16 0) ∙ message-rate-1) ∙ C.rate-1;
+  header-16 = λ idx m h. header-in idx m 15 h ∙ ap (λ (x : ℕ). C.octets (codeword x)) (sym (count-mod (settings 0 0) 16 0) ∙ message-nothing) ∙ ap C.octets C.codeword-0;
+  header-17 = λ idx m h. header-in idx m 16 h ∙ ap (λ (x : ℕ). C.octets (codeword x)) (sym (count-mod (settings 0 0) 17 0)) ∙ E.table .header-count-1;
+  rate-1-alone = λ idx m h. header-at 1 0 idx m 15 h ∙ ap (λ (x : ℕ). C.octets (codeword x)) (sym (count-mod (settings 1 0) 16 0) ∙ message-rate-1) ∙ C.rate-1;
   first-packet = ap (λ (i : List ℕ). part 48 92 (bits i)) one-image ∙ packet-in;
   stream-bit-90 = ap (λ (i : List ℕ). getD (bits i) (48 + 90) false) one-image ∙ bit-in;
   octet-17 = ap (λ (i : List ℕ). getD i 17 0) one-image;

@@ -16,6 +16,7 @@ use Rattle.lists.specs.Tests.{when}
 use Rattle.lists.specs.Parts.{part, over}
 use Rattle.lists.specs.Rows.{joined, each, each-at, same-each}
 use Rattle.layout.specs.Layout.{indexOctets, reportOctets, firstPair, multiframePairs}
+use Rattle.settings.specs.Settings.{settings}
 use Rattle.frames.specs.Frames.{zeroFrame}
 use Rattle.bits.specs.Bits.{value, numbers, field, fields, total}
 use Rattle.crc.specs.Crc.{after, crc, alike, right}
@@ -164,12 +165,12 @@ pub record Table : Type 0 where
 -- ---- from what was computed to a line
 -- the settled settings of both
 abbrev settled : ℕ
-settled = commonBits (message 0 0 0 0)
+settled = commonBits (message (settings 0 0) 0 0)
 
 is-usable : Usable settled
 is-usable = record {
-  rate = λ z. (let y : _≡_ {A = ℕ} 0 2 = sym (common-rate (message 0 0 0 0) ∙ rate-back 0 0 0 0) ∙ z in omega arith);
-  exp = common-exp (message 0 0 0 0) ∙ exp-back 0 0 0 0;
+  rate = λ z. (let y : _≡_ {A = ℕ} 0 2 = sym (common-rate (message (settings 0 0) 0 0) ∙ rate-back (settings 0 0) 0 0) ∙ z in omega arith);
+  exp = common-exp (message (settings 0 0) 0 0) ∙ exp-back (settings 0 0) 0 0;
 }
 
 module _ (s ps : List ℕ) (cut : cutting s ≡ record { places = ps; ending = whole }) (some : length ps ≡ 0 → ⊥) (settles : settling (readings s ps) ≡ S.Settled settled)
@@ -213,7 +214,7 @@ module _ (s ps : List ℕ) (cut : cutting s ≡ record { places = ps; ending = w
           number-is = ap (λ (o : Outcome). answerNumber (o .answer)) is-read;
           values-are = ap (λ (o : Outcome). answerValues (o .answer)) is-read
               ∙ ap₂ (λ (r t : ℕ). r ∷ t ∷ length ps ∷ speechOf (length ps) (indexPart s ps ns) ∷ badPairs ns ∷ endOf (length ps) (indexPart s ps ns) ∷ [])
-              (common-rate (message 0 0 0 0) ∙ rate-back 0 0 0 0) (common-type (message 0 0 0 0) ∙ type-back 0 0 0 0)
+              (common-rate (message (settings 0 0) 0 0) ∙ rate-back (settings 0 0) 0 0) (common-type (message (settings 0 0) 0 0) ∙ type-back (settings 0 0) 0 0)
               ∙ ap (λ (f : List ℕ). 0 ∷ 0 ∷ length ps ∷ speechOf (length ps) f ∷ badPairs ns ∷ endOf (length ps) f ∷ []) put;
           index-is = ap (λ (o : Outcome). o .index) is-read ∙ ap₂ (λ (f : List ℕ) (n : ℕ). f ++ drop n index) put x;
           report-is = ap (λ (o : Outcome). o .report) is-read ∙ ap₂ (λ (f : List ℕ) (n : ℕ). f ++ drop n report) says y;
@@ -228,42 +229,42 @@ two-flips : ones 0x4008 ≡ 2
 unfolding onesIn
 two-flips = sym (ones-in 32 0x4008 (lit< tt))
 
-read-1 : ReadsAs 0xEE0E0008 (message 0 0 1 0) 0
-read-1 = clean (message 0 0 1 0) 0xEE0E0008 (message-lt 0 0 1 0) (of-octets (codeword (message 0 0 1 0)) 0x08 0x00 0x0E 0xEE (E.table .header-count-1))
+read-1 : ReadsAs 0xEE0E0008 (message (settings 0 0) 1 0) 0
+read-1 = clean (message (settings 0 0) 1 0) 0xEE0E0008 (message-lt (settings 0 0) 1 0) (of-octets (codeword (message (settings 0 0) 1 0)) 0x08 0x00 0x0E 0xEE (E.table .header-count-1))
 
-read-2 : ReadsAs 0x8D1D0010 (message 0 0 2 0) 1
+read-2 : ReadsAs 0x8D1D0010 (message (settings 0 0) 2 0) 1
 read-2 =
-    flips (message 0 0 2 0) 0x0D1D0010 0x80000000 1 (message-lt 0 0 2 0) (of-octets (codeword (message 0 0 2 0)) 0x10 0x00 0x1D 0x0D (E.table .header-count-2)) one-flip
+    flips (message (settings 0 0) 2 0) 0x0D1D0010 0x80000000 1 (message-lt (settings 0 0) 2 0) (of-octets (codeword (message (settings 0 0) 2 0)) 0x10 0x00 0x1D 0x0D (E.table .header-count-2)) one-flip
     (lit≤ tt)
 
-read-4 : ReadsAs 0xCB3B0021 (message 1 0 4 0) 0
-read-4 = clean (message 1 0 4 0) 0xCB3B0021 (message-lt 1 0 4 0) (word-of 1 0 4 0x21 0x00 0x3B 0xCB (Headers.table .fourth-1-0))
+read-4 : ReadsAs 0xCB3B0021 (message (settings 1 0) 4 0) 0
+read-4 = clean (message (settings 1 0) 4 0) 0xCB3B0021 (message-lt (settings 1 0) 4 0) (word-of 1 0 4 0x21 0x00 0x3B 0xCB (Headers.table .fourth-1-0))
 
-read-5 : ReadsAs 0x3F0F4001 (message 1 0 1 0) 2
-read-5 = flips (message 1 0 1 0) 0x3F0F0009 0x4008 2 (message-lt 1 0 1 0) (word-of 1 0 1 0x09 0x00 0x0F 0x3F (Headers.table .header-1-0)) two-flips (lit≤ tt)
+read-5 : ReadsAs 0x3F0F4001 (message (settings 1 0) 1 0) 2
+read-5 = flips (message (settings 1 0) 1 0) 0x3F0F0009 0x4008 2 (message-lt (settings 1 0) 1 0) (word-of 1 0 1 0x09 0x00 0x0F 0x3F (Headers.table .header-1-0)) two-flips (lit≤ tt)
 
 read-lost : H.reading 0x01010001 ≡ Lost
 read-lost = lost-at-three 0x01010001 0 (lit< tt) three-from-zero
 
 -- the note of a word that is read with these settings and this counter in place k
 module _ (w count f k : ℕ) where
-  note-by : (rate : ℕ) (t : Bool) → ReadsAs w (message rate 0 count 0) f → eqb (commonBits (message rate 0 count 0)) settled ≡ t
-      → headerNote settled k (Codeword (H.decodedAs w (message rate 0 count 0))) ≡ f + when (eqb (count % 16) ((k + 1) % 16)) 0 4 + when t 0 8
+  note-by : (rate : ℕ) (t : Bool) → ReadsAs w (message (settings rate 0) count 0) f → eqb (commonBits (message (settings rate 0) count 0)) settled ≡ t
+      → headerNote settled k (Codeword (H.decodedAs w (message (settings rate 0) count 0))) ≡ f + when (eqb (count % 16) ((k + 1) % 16)) 0 4 + when t 0 8
   unfolding headerNote
   note-by rate t r e =
-      ap (λ (x : ℕ). x + when (eqb (countOf (message rate 0 count 0)) ((k + 1) % 16)) 0 4 + when (eqb (commonBits (message rate 0 count 0)) settled) 0 8) (r .1)
-      ∙ ap₂ (λ (n : ℕ) (b : Bool). f + when (eqb n ((k + 1) % 16)) 0 4 + when b 0 8) (count-back rate 0 count 0) e
+      ap (λ (x : ℕ). x + when (eqb (countOf (message (settings rate 0) count 0)) ((k + 1) % 16)) 0 4 + when (eqb (commonBits (message (settings rate 0) count 0)) settled) 0 8) (r .1)
+      ∙ ap₂ (λ (n : ℕ) (b : Bool). f + when (eqb n ((k + 1) % 16)) 0 4 + when b 0 8) (count-back (settings rate 0) count 0) e
 
-  note-same : ReadsAs w (message 0 0 count 0) f
-      → headerNote settled k (Codeword (H.decodedAs w (message 0 0 count 0))) ≡ f + when (eqb (count % 16) ((k + 1) % 16)) 0 4 + 0
-  note-same r = note-by 0 true r (eq-eqb (commonBits (message 0 0 count 0)) settled (common-message 0 0 count 0))
+  note-same : ReadsAs w (message (settings 0 0) count 0) f
+      → headerNote settled k (Codeword (H.decodedAs w (message (settings 0 0) count 0))) ≡ f + when (eqb (count % 16) ((k + 1) % 16)) 0 4 + 0
+  note-same r = note-by 0 true r (eq-eqb (commonBits (message (settings 0 0) count 0)) settled (common-message (settings 0 0) count 0))
 
-  note-other : ReadsAs w (message 1 0 count 0) f
-      → headerNote settled k (Codeword (H.decodedAs w (message 1 0 count 0))) ≡ f + when (eqb (count % 16) ((k + 1) % 16)) 0 4 + 8
+  note-other : ReadsAs w (message (settings 1 0) count 0) f
+      → headerNote settled k (Codeword (H.decodedAs w (message (settings 1 0) count 0))) ≡ f + when (eqb (count % 16) ((k + 1) % 16)) 0 4 + 8
   note-other r =
-      note-by 1 false r (ne-eqb (commonBits (message 1 0 count 0)) settled (λ e.
+      note-by 1 false r (ne-eqb (commonBits (message (settings 1 0) count 0)) settled (λ e.
       let z : _≡_ {A = ℕ} 1 0 =
-      sym (common-rate (message 1 0 count 0) ∙ rate-back 1 0 count 0) ∙ ap rateOf e ∙ common-rate (message 0 0 0 0) ∙ rate-back 0 0 0 0 in
+      sym (common-rate (message (settings 1 0) count 0) ∙ rate-back (settings 1 0) count 0) ∙ ap rateOf e ∙ common-rate (message (settings 0 0) 0 0) ∙ rate-back (settings 0 0) 0 0 in
       omega arith))
 
 -- ---- the first, computed
@@ -313,7 +314,7 @@ unfolding replaced source sourceBy runStart leading
 put-plain = refl
 
 abbrev hurtHeads : List Header
-hurtHeads = Codeword (H.decodedAs 0xEE0E0008 (message 0 0 1 0)) ∷ Codeword (H.decodedAs 0x8D1D0010 (message 0 0 2 0)) ∷ []
+hurtHeads = Codeword (H.decodedAs 0xEE0E0008 (message (settings 0 0) 1 0)) ∷ Codeword (H.decodedAs 0x8D1D0010 (message (settings 0 0) 2 0)) ∷ []
 
 heads-hurt : readings hurt places ≡ hurtHeads
 unfolding readings value fields field
@@ -322,7 +323,7 @@ heads-hurt = ap₂ (λ (g h : Header). g ∷ h ∷ []) (read-1 .0) (read-2 .0)
 settles-hurt : settling (readings hurt places) ≡ S.Settled settled
 settles-hurt =
     ap settling heads-hurt
-    ∙ all-agree hurtHeads settled (omega arith) (common-message 0 0 1 0, (common-message 0 0 2 0, tt))
+    ∙ all-agree hurtHeads settled (omega arith) (common-message (settings 0 0) 1 0, (common-message (settings 0 0) 2 0, tt))
 
 says-hurt : (ns : List ℕ) → reportPart hurt places ns settled ≡ (0 ∷ part 0 12 ns) ++ (1 ∷ part 12 12 ns)
 unfolding reportPart
@@ -372,13 +373,13 @@ judged-strange codebook thresholds =
 
 abbrev strangeHeads : List Header
 strangeHeads =
-    Codeword (H.decodedAs 0xEE0E0008 (message 0 0 1 0)) ∷ Codeword (H.decodedAs 0xEE0E0008 (message 0 0 1 0)) ∷ Lost
-    ∷ Codeword (H.decodedAs 0xCB3B0021 (message 1 0 4 0)) ∷ Codeword (H.decodedAs 0x3F0F4001 (message 1 0 1 0)) ∷ []
+    Codeword (H.decodedAs 0xEE0E0008 (message (settings 0 0) 1 0)) ∷ Codeword (H.decodedAs 0xEE0E0008 (message (settings 0 0) 1 0)) ∷ Lost
+    ∷ Codeword (H.decodedAs 0xCB3B0021 (message (settings 1 0) 4 0)) ∷ Codeword (H.decodedAs 0x3F0F4001 (message (settings 1 0) 1 0)) ∷ []
 
 heads-strange : readings strange row ≡ strangeHeads
 unfolding readings value fields field
 heads-strange =
-    let first = Codeword (H.decodedAs 0xEE0E0008 (message 0 0 1 0)) in
+    let first = Codeword (H.decodedAs 0xEE0E0008 (message (settings 0 0) 1 0)) in
     ap₂ (λ (a b : Header). a ∷ a ∷ b ∷ H.reading 0xCB3B0021 ∷ H.reading 0x3F0F4001 ∷ []) (read-1 .0) read-lost
     ∙ ap₂ (λ (a b : Header). first ∷ first ∷ Lost ∷ a ∷ b ∷ []) (read-4 .0) (read-5 .0)
 
@@ -386,7 +387,7 @@ settles-strange : settling (readings strange row) ≡ S.Settled settled
 unfolding settling firstAgreeing
 settles-strange =
     ap settling heads-strange
-    ∙ rw (eq-eqb (commonBits (message 0 0 1 0)) (commonBits (message 0 0 1 0)) refl) (ap S.Settled (common-message 0 0 1 0))
+    ∙ rw (eq-eqb (commonBits (message (settings 0 0) 1 0)) (commonBits (message (settings 0 0) 1 0)) refl) (ap S.Settled (common-message (settings 0 0) 1 0))
 
 says-strange : reportPart strange row (replicate 60 0) settled ≡ strangeNotes
 unfolding reportPart

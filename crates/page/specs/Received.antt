@@ -17,6 +17,7 @@ use Rattle.gf2.specs.Light.{ones-in}
 use Rattle.lists.specs.Parts.{part}
 use Rattle.lists.specs.Rows.{joined, each, length-each, each-at, same-each, length-joined, joined-part}
 use Rattle.layout.specs.Layout.{multiframeOctets, mostMultiframes, indexOctets, reportOctets, syncFirst, syncSecond}
+use Rattle.settings.specs.Settings.{settings}
 use Rattle.frames.specs.Frames.{zeroFrame}
 use Rattle.bits.specs.Bits.{value, bits, field, fields}
 use Rattle.crc.specs.Crc.{after, crc, alike, right}
@@ -326,8 +327,8 @@ read-exp = clean 32768 0xE8808000 (lit< tt) (of-octets (codeword 32768) 0x00 0x8
 read-flipped : ReadsAs 0xEE0E0009 8 1
 read-flipped = flips 8 0xEE0E0008 1 1 (lit< tt) (of-octets (codeword 8) 0x08 0x00 0x0E 0xEE count-1) one-one (lit< tt)
 
-read-rate-2 : ReadsAs 0x9D0D000A (message 2 0 1 0) 0
-read-rate-2 = clean (message 2 0 1 0) 0x9D0D000A (message-lt 2 0 1 0) (word-of 2 0 1 0x0A 0x00 0x0D 0x9D (Headers.table .header-2-0))
+read-rate-2 : ReadsAs 0x9D0D000A (message (settings 2 0) 1 0) 0
+read-rate-2 = clean (message (settings 2 0) 1 0) 0x9D0D000A (message-lt (settings 2 0) 1 0) (word-of 2 0 1 0x0A 0x00 0x0D 0x9D (Headers.table .header-2-0))
 
 read-lost : H.reading 0x01010001 ≡ Lost
 read-lost = lost-at-three 0x01010001 0 (lit< tt) three-from-zero
@@ -341,7 +342,7 @@ usable-8 = usable 8 (sym (rate-masked 8)) (sym (exp-shifted 8 (lit< tt)))
 
 common-16 : commonBits 16 ≡ commonBits 8
 common-16 =
-    ap commonBits (sym (message-counts .1)) ∙ common-message 0 0 2 0 ∙ sym (common-message 0 0 1 0) ∙ ap commonBits (message-counts .0)
+    ap commonBits (sym (message-counts .1)) ∙ common-message (settings 0 0) 2 0 ∙ sym (common-message (settings 0 0) 1 0) ∙ ap commonBits (message-counts .0)
 
 -- ---- one multiframe with a header, and two
 module _ (a b c d : ℕ) where
@@ -361,9 +362,9 @@ settles-flipped : settling (readings (headed flipped) (0 ∷ [])) ≡ S.Unsettle
 unfolding value fields field
 settles-flipped = ap settling (head-one 0x09 0x00 0x0E 0xEE ∙ ap (λ (h : Header). h ∷ []) (read-flipped .0)) ∙ only-mended (H.decodedAs 0xEE0E0009 8) (λ e. omega (arith, read-flipped .1))
 
-settles-rate-2 : settling (readings (headed rate2) (0 ∷ [])) ≡ S.Settled (commonBits (message 2 0 1 0))
+settles-rate-2 : settling (readings (headed rate2) (0 ∷ [])) ≡ S.Settled (commonBits (message (settings 2 0) 1 0))
 unfolding value fields field
-settles-rate-2 = ap settling (head-one 0x0A 0x00 0x0D 0x9D ∙ ap (λ (h : Header). h ∷ []) (read-rate-2 .0)) ∙ only-clean (H.decodedAs 0x9D0D000A (message 2 0 1 0)) (read-rate-2 .1)
+settles-rate-2 = ap settling (head-one 0x0A 0x00 0x0D 0x9D ∙ ap (λ (h : Header). h ∷ []) (read-rate-2 .0)) ∙ only-clean (H.decodedAs 0x9D0D000A (message (settings 2 0) 1 0)) (read-rate-2 .1)
 
 settles-exp : settling (readings (headed exp9) (0 ∷ [])) ≡ S.Settled (commonBits 32768)
 unfolding value fields field
@@ -495,10 +496,10 @@ many-lost n h few =
     (ap settling (readings-are s n ∙ same-each (λ k. H.reading (wordIn s k)) (λ k. Lost) n (word-lost n)) ∙ lost-unsettled n)
 
 -- ---- success, by the theorem "reads back"
-speaks : (rate kind : ℕ) (h : List ℕ) → header rate kind 1 ≡ h → verdict rate kind (lone 1) (needed (lone 1)) ≡ Written (needed (lone 1))
+speaks : (rate kind : ℕ) (h : List ℕ) → header rate kind 1 ≡ h → verdict (settings rate kind) (lone 1) (needed (lone 1)) ≡ Written (needed (lone 1))
     → Succeeds (spokenBehind h) (rate ∷ kind ∷ 1 ∷ 1 ∷ 0 ∷ 1 ∷ []) (1 ∷ replicate 167 0) (replicate 13 0)
 speaks rate kind h x w codebook thresholds sc st index report hi hr =
-    let u : Utterance = record { rate = rate; kind = kind; indices = lone 1; small = small-lone 1 (lit< tt); written = w } in
+    let u : Utterance = record { settings = settings rate kind; indices = lone 1; small = small-lone 1 (lit< tt); written = w } in
     let e =
     ap (λ (i : List ℕ). reading i codebook thresholds index report) (sym (spoken-image rate kind h x))
     ∙ reads-image u codebook thresholds index report record { codebook-size = sc; thresholds-size = st; index-room = hi; report-room = hr } in
@@ -515,8 +516,8 @@ flipped-16 = is-16 (headed flipped) (0 ∷ []) (cut-one 0x09 0x00 0x0E 0xEE) (λ
 
 rate-17 : Always (headed rate2) 17 0
 rate-17 =
-    let m = message 2 0 1 0 in
-    is-17-rate (headed rate2) (0 ∷ []) (cut-one 0x0A 0x00 0x0D 0x9D) (λ e. omega arith) (commonBits m) settles-rate-2 (common-rate m ∙ rate-back 2 0 1 0)
+    let m = message (settings 2 0) 1 0 in
+    is-17-rate (headed rate2) (0 ∷ []) (cut-one 0x0A 0x00 0x0D 0x9D) (λ e. omega arith) (commonBits m) settles-rate-2 (common-rate m ∙ rate-back (settings 2 0) 1 0)
 
 exp-17 : Always (headed exp9) 17 0
 exp-17 =

@@ -9,6 +9,7 @@ use native.Mathlib.Omega.{arith}
 use lib.IntN.{ℤ, pos, negsuc}
 use lib.ListN.{replicate}
 use borrow.Author.Tests.{eq-eqb, ne-eqb}
+use Rattle.settings.specs.Settings.{settings as set}
 use Rattle.frames.specs.Frames.{zeroFrame}
 use Rattle.header.specs.Message.{message, rateOf, countOf, commonBits}
 use Rattle.header.specs.Message.Laws.{rate-back, count-back, common-rate, common-message, message-counts, message-rate-1}
@@ -156,36 +157,36 @@ readWith m f = Codeword (record { message = m; flips = f })
 
 -- ---- header notes: 8 kHz, type 0 are settled
 -- 8 kHz and 11 kHz differ in their common bits
-other-rate : commonBits (message 1 0 1 0) ≡ commonBits (message 0 0 0 0) → ⊥
+other-rate : commonBits (message (set 1 0) 1 0) ≡ commonBits (message (set 0 0) 0 0) → ⊥
 other-rate e =
-    let a : rateOf (commonBits (message 1 0 1 0)) ≡ 1 = common-rate (message 1 0 1 0) ∙ rate-back 1 0 1 0 in
-    let b : rateOf (commonBits (message 0 0 0 0)) ≡ 0 = common-rate (message 0 0 0 0) ∙ rate-back 0 0 0 0 in
+    let a : rateOf (commonBits (message (set 1 0) 1 0)) ≡ 1 = common-rate (message (set 1 0) 1 0) ∙ rate-back (set 1 0) 1 0 in
+    let b : rateOf (commonBits (message (set 0 0) 0 0)) ≡ 0 = common-rate (message (set 0 0) 0 0) ∙ rate-back (set 0 0) 0 0 in
     let z : _≡_ {A = ℕ} 1 0 = sym a ∙ ap rateOf e ∙ b in
     omega arith
 
 pub record Notes : Type 0 where
   -- "0 clean, 1 or 2 flips mended, 3 lost"
-  pub clean : headerNote (commonBits (message 0 0 0 0)) 0 (readWith (message 0 0 1 0) 0) ≡ 0
-  pub mended : headerNote (commonBits (message 0 0 0 0)) 0 (readWith (message 0 0 1 0) 2) ≡ 2
-  pub lost : headerNote (commonBits (message 0 0 0 0)) 0 Lost ≡ 3
+  pub clean : headerNote (commonBits (message (set 0 0) 0 0)) 0 (readWith (message (set 0 0) 1 0) 0) ≡ 0
+  pub mended : headerNote (commonBits (message (set 0 0) 0 0)) 0 (readWith (message (set 0 0) 1 0) 2) ≡ 2
+  pub lost : headerNote (commonBits (message (set 0 0) 0 0)) 0 Lost ≡ 3
   -- "a readable one adds 4 if its counter is not (position from 1) mod 16"
-  pub out-of-step : headerNote (commonBits (message 0 0 0 0)) 1 (readWith (message 0 0 1 0) 0) ≡ 4
-  pub sixteenth : headerNote (commonBits (message 0 0 0 0)) 15 (readWith (message 0 0 0 0) 0) ≡ 0
-  pub seventeenth : headerNote (commonBits (message 0 0 0 0)) 16 (readWith (message 0 0 1 0) 1) ≡ 1
+  pub out-of-step : headerNote (commonBits (message (set 0 0) 0 0)) 1 (readWith (message (set 0 0) 1 0) 0) ≡ 4
+  pub sixteenth : headerNote (commonBits (message (set 0 0) 0 0)) 15 (readWith (message (set 0 0) 0 0) 0) ≡ 0
+  pub seventeenth : headerNote (commonBits (message (set 0 0) 0 0)) 16 (readWith (message (set 0 0) 1 0) 1) ≡ 1
   -- "and 8 if its common bits differ from the settled"
-  pub other-settings : headerNote (commonBits (message 0 0 0 0)) 0 (readWith (message 1 0 1 0) 0) ≡ 8
-  pub both-added : headerNote (commonBits (message 0 0 0 0)) 4 (readWith (message 1 0 1 0) 1) ≡ 13
+  pub other-settings : headerNote (commonBits (message (set 0 0) 0 0)) 0 (readWith (message (set 1 0) 1 0) 0) ≡ 8
+  pub both-added : headerNote (commonBits (message (set 0 0) 0 0)) 4 (readWith (message (set 1 0) 1 0) 1) ≡ 13
 
 pub notes : Notes
 unfolding headerNote
 notes =
-    let c = common-message 0 0 1 0 in
-    let same = eq-eqb (commonBits (message 0 0 1 0)) (commonBits (message 0 0 0 0)) c in
-    let same-0 = eq-eqb (commonBits (message 0 0 0 0)) (commonBits (message 0 0 0 0)) refl in
-    let other = ne-eqb (commonBits (message 1 0 1 0)) (commonBits (message 0 0 0 0)) other-rate in
-    let one = count-back 0 0 1 0 in
-    let none = count-back 0 0 0 0 in
-    let one-11 = count-back 1 0 1 0 in
+    let c = common-message (set 0 0) 1 0 in
+    let same = eq-eqb (commonBits (message (set 0 0) 1 0)) (commonBits (message (set 0 0) 0 0)) c in
+    let same-0 = eq-eqb (commonBits (message (set 0 0) 0 0)) (commonBits (message (set 0 0) 0 0)) refl in
+    let other = ne-eqb (commonBits (message (set 1 0) 1 0)) (commonBits (message (set 0 0) 0 0)) other-rate in
+    let one = count-back (set 0 0) 1 0 in
+    let none = count-back (set 0 0) 0 0 in
+    let one-11 = count-back (set 1 0) 1 0 in
     record {
       clean = rw (one, same);
       mended = rw (one, same);
@@ -210,16 +211,16 @@ pub record Settings : Type 0 where
   pub only-mended : settling (readWith 8 1 ∷ []) ≡ Unsettled
 
 -- 8 is 8 kHz with counter 1, and 1 is 11 kHz with counter 0
-eight-is : 8 ≡ message 0 0 1 0
+eight-is : 8 ≡ message (set 0 0) 1 0
 eight-is = sym (message-counts .0)
 
-one-is : 1 ≡ message 1 0 0 0
+one-is : 1 ≡ message (set 1 0) 0 0
 one-is = sym message-rate-1
 
 apart : commonBits 1 ≡ commonBits 8 → ⊥
 apart e =
-    let a : rateOf (commonBits 1) ≡ 1 = common-rate 1 ∙ ap rateOf one-is ∙ rate-back 1 0 0 0 in
-    let b : rateOf (commonBits 8) ≡ 0 = common-rate 8 ∙ ap rateOf eight-is ∙ rate-back 0 0 1 0 in
+    let a : rateOf (commonBits 1) ≡ 1 = common-rate 1 ∙ ap rateOf one-is ∙ rate-back (set 1 0) 0 0 in
+    let b : rateOf (commonBits 8) ≡ 0 = common-rate 8 ∙ ap rateOf eight-is ∙ rate-back (set 0 0) 1 0 in
     let z : _≡_ {A = ℕ} 1 0 = sym a ∙ ap rateOf e ∙ b in
     omega arith
 

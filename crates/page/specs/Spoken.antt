@@ -17,6 +17,8 @@ use Rattle.gf2.specs.Light.{ones-in}
 use Rattle.lists.specs.Tests.{when, true-false}
 use Rattle.lists.specs.Parts.{part}
 use Rattle.layout.specs.Layout.{packetBits, frameIndices, firstFrame, secondFrame, firstPair, multiframePairs, multiframeFrames, multiframeOctets, mostFrames}
+use Rattle.settings.specs.declared.Settings.{Settings}
+use Rattle.settings.specs.Settings.{settings, settingsRight}
 use Rattle.frames.specs.Frames.{zeroFrame, speaks}
 use Rattle.crc.specs.Damage.{flips-burst, flips-double}
 use Rattle.packet.specs.Packet.{frameAt, packetOf}
@@ -25,7 +27,7 @@ use Rattle.header_code.specs.Code.{codeword, flipsTo}
 use Rattle.header_code.specs.Code.Distance.{codeword-lt}
 use Rattle.header.specs.Message.Laws.{message-lt}
 use Rattle.header.specs.Reading.Laws.{flips-of}
-use Rattle.writer.specs.Writing.{nowhere, firstFrom, isFound, settingsRight, frameCount, isWide, mustSpeak, endsEarly, needed, verdict, Outcome, writing}
+use Rattle.writer.specs.Writing.{nowhere, firstFrom, isFound, frameCount, isWide, mustSpeak, endsEarly, needed, verdict, Outcome, writing}
 use Rattle.writer.specs.Laws.{Sized, accepts}
 use Rattle.writer.specs.Made.{packetIn, made-word, made-packet}
 use Rattle.writer.specs.Image.{Utterance, multiframesOf, pairsOf, imageOf, image-packet, writes}
@@ -67,26 +69,26 @@ module _ (n k : ℕ) (h : k < n) where
       either true = refl
       either false = refl
 
-module _ (rate kind n : ℕ) (settings : settingsRight rate kind ≡ true) (few : n ≤ mostFrames) where
-  sized : Sized rate kind (ones n)
+module _ (spoken : Settings) (n : ℕ) (right : settingsRight spoken ≡ true) (few : n ≤ mostFrames) where
+  sized : Sized spoken (ones n)
   sized = record {
-    settings = settings;
+    right = right;
     whole = ap (λ (l : ℕ). l % frameIndices) (length-replicate (frameIndices * n) 1) ∙ omega arith;
     few = omega (arith, count-ones n);
   }
 
-  written : verdict rate kind (ones n) (needed (ones n)) ≡ Written (needed (ones n))
+  written : verdict spoken (ones n) (needed (ones n)) ≡ Written (needed (ones n))
   written =
-      accepts rate kind (ones n) (needed (ones n)) sized (search-none (isWide (ones n)) 0 (frameCount (ones n)) (λ i a b. not-wide n i (omega (arith, count-ones n))))
+      accepts spoken (ones n) (needed (ones n)) sized (search-none (isWide (ones n)) 0 (frameCount (ones n)) (λ i a b. not-wide n i (omega (arith, count-ones n))))
       (search-none (endsEarly (ones n)) 0 (frameCount (ones n)) (λ i a b. not-early n i (omega (arith, count-ones n)))) (omega arith)
 
   -- AN ACCEPTED UTTERANCE OF ANY SETTINGS AND OF EVERY LENGTH THAT 01 ALLOWS
   pub saysOnes : Utterance
-  saysOnes = record { rate = rate; kind = kind; indices = ones n; small = small-ones (frameIndices * n); written = written }
+  saysOnes = record { settings = spoken; indices = ones n; small = small-ones (frameIndices * n); written = written }
 
-  pub says-ones : (saysOnes .rate ≡ rate) × (saysOnes .kind ≡ kind) × (saysOnes .indices ≡ ones n)
+  pub says-ones : (saysOnes .settings ≡ spoken) × (saysOnes .indices ≡ ones n)
   unfolding saysOnes
-  says-ones = (refl, refl, refl)
+  says-ones = (refl, refl)
 
   -- "m = n div 24 + 1"
   pub multiframes-ones : multiframesOf saysOnes ≡ n / multiframeFrames + 1
@@ -95,7 +97,7 @@ module _ (rate kind n : ℕ) (settings : settingsRight rate kind ≡ true) (few 
 
   -- "Success (0) gives 144m"
   pub written-ones : (out : List ℕ) → multiframeOctets * (n / multiframeFrames + 1) ≤ length out
-      → writing rate kind (ones n) out .answer ≡ Written (multiframeOctets * (n / multiframeFrames + 1))
+      → writing spoken (ones n) out .answer ≡ Written (multiframeOctets * (n / multiframeFrames + 1))
   unfolding saysOnes
   written-ones out room =
       let e : needed (ones n) ≡ multiframeOctets * (n / multiframeFrames + 1) = ap (λ (k : ℕ). multiframeOctets * k) multiframes-ones in
@@ -103,10 +105,10 @@ module _ (rate kind n : ℕ) (settings : settingsRight rate kind ≡ true) (few 
 
 -- ---- 6,119 frames are the most, and 255 multiframes
 pub says6119 : Utterance
-says6119 = saysOnes 0 0 6119 refl (lit≤ tt)
+says6119 = saysOnes (settings 0 0) 6119 refl (lit≤ tt)
 
 pub record Longest : Type 0 where
-  pub settings : (says6119 .rate ≡ 0) × (says6119 .kind ≡ 0)
+  pub settings : says6119 .settings ≡ settings 0 0
   pub indices : says6119 .indices ≡ replicate 42833 1
   pub multiframes : multiframesOf says6119 ≡ 255
   pub octets : needed (says6119 .indices) ≡ 36720
@@ -114,9 +116,9 @@ pub record Longest : Type 0 where
 pub longest : Longest
 unfolding says6119
 longest =
-    let s = says-ones 0 0 6119 refl (lit≤ tt) in
-    let m = multiframes-ones 0 0 6119 refl (lit≤ tt) in
-    record { settings = (s .0, s .1); indices = s .2; multiframes = m; octets = ap (λ (k : ℕ). multiframeOctets * k) m }
+    let s = says-ones (settings 0 0) 6119 refl (lit≤ tt) in
+    let m = multiframes-ones (settings 0 0) 6119 refl (lit≤ tt) in
+    record { settings = s .0; indices = s .1; multiframes = m; octets = ap (λ (k : ℕ). multiframeOctets * k) m }
 
 -- READS BACK and NAMES THE DAMAGE speak of it
 pub back6119 : R.Back says6119 zeroBook zeroThresholds (replicate (needed (says6119 .indices)) 0) (indexFor (multiframesOf says6119)) (reportFor (multiframesOf says6119))
@@ -142,7 +144,7 @@ module _ (u : Utterance) (k : ℕ) (h : k < multiframesOf u) where
       ∙ ap₂ (λ (i j : ℕ). part (packetBits * j) packetBits (hurtStream u i)) a b
 
   sent : (r : ℕ) → r < 12 → packetIn (imageOf u) (firstPair k + r) ≡ packetOf (u .indices) (firstPair k + r)
-  sent r l = image-packet (u .rate) (u .kind) (u .indices) (multiframesOf u) (firstPair k + r) (omega arith)
+  sent r l = image-packet (u .settings) (u .indices) (multiframesOf u) (firstPair k + r) (omega arith)
 
   first-hurt : Touched (imageOf u) (hurtImage u) (firstPair k + 0)
   first-hurt e =
@@ -167,7 +169,7 @@ module _ (u : Utterance) (k : ℕ) (h : k < multiframesOf u) where
   unfolding onesIn
   header-hurt =
       let e : Count.ones 3 ≡ 2 = sym (ones-in 2 3 (lit< tt)) in
-      let l : hurtWord u k < 2 ^ 32 = xor-lt 32 (codeword (sentMessage u k)) 3 (codeword-lt (sentMessage u k) (message-lt (u .rate) (u .kind) (k + 1) 0)) (lit< tt) in
+      let l : hurtWord u k < 2 ^ 32 = xor-lt 32 (codeword (sentMessage u k)) 3 (codeword-lt (sentMessage u k) (message-lt (u .settings) (k + 1) 0)) (lit< tt) in
       sym (header-near u (hurtImage u) k h)
       ∙ ap (λ (w : ℕ). flipsTo w (sentMessage u k)) (made-word (hurtWord u) (hurtStream u) (multiframesOf u) k h l) ∙ flips-of (sentMessage u k) 3 ∙ e
 

@@ -8,6 +8,7 @@ use Prim.Native.Nat.{ℕ, _*_, _≤_}
 use lib.Dec.{lit≤}
 use lib.ListN.{length, replicate}
 use Rattle.layout.specs.Layout.{streamOctets, firstPair, multiframePairs}
+use Rattle.settings.specs.Settings.{settings}
 use Rattle.frames.specs.Frames.{zeroFrame}
 use Rattle.bits.specs.Bits.{numbers, value, laid, field, octets}
 use Rattle.crc.specs.Crc.{crc, after}
@@ -30,11 +31,11 @@ abbrev pub seen : ℕ → ℕ → List ℕ → Seen
 seen n p o = record { number = n; place = p; output = o }
 
 abbrev pub write : ℕ → ℕ → List ℕ → List ℕ → Seen
-write rate kind idx out = seen (numberOf (writing rate kind idx out .answer)) (placeOf (writing rate kind idx out .answer)) (writing rate kind idx out .output)
+write rate kind idx out = seen (numberOf (writing (settings rate kind) idx out .answer)) (placeOf (writing (settings rate kind) idx out .answer)) (writing (settings rate kind) idx out .output)
 
 -- the number and the place alone
 abbrev pub told : ℕ → ℕ → List ℕ → List ℕ → ℕ × ℕ
-told rate kind idx out = (numberOf (writing rate kind idx out .answer), placeOf (writing rate kind idx out .answer))
+told rate kind idx out = (numberOf (writing (settings rate kind) idx out .answer), placeOf (writing (settings rate kind) idx out .answer))
 
 -- no frame: a sync, a header and zeros, and two octets beyond
 abbrev pub silence : List ℕ → List ℕ
@@ -105,13 +106,13 @@ no-stream : octets streamOctets (stream [] (firstPair 0) multiframePairs) ≡ re
 unfolding numbers value stream packetOf packet guarded crc after laid field xor row
 no-stream = refl
 
-silent : (rate kind : ℕ) (h : List ℕ) → verdict rate kind [] 146 ≡ Written 144 → header rate kind 1 ≡ h
+silent : (rate kind : ℕ) (h : List ℕ) → verdict (settings rate kind) [] 146 ≡ Written 144 → header rate kind 1 ≡ h
     → write rate kind [] (lent 146) ≡ seen 0 144 (0x87 ∷ 0xB2 ∷ ((h ++ replicate 138 0) ++ lent 2))
 unfolding writing image
 silent rate kind h e f = rw e (ap (λ (i : List ℕ). seen 0 144 (i ++ lent 2)) (multiframe-is rate kind [] 0 h (replicate 138 0) f no-stream))
 
 long : (out : List ℕ) → 36720 ≤ length out → told 0 0 (replicate 42833 1) out ≡ (0, 36720)
-long out h = ap (λ (a : Answer). (numberOf a, placeOf a)) (written-ones 0 0 6119 refl (lit≤ tt) out h)
+long out h = ap (λ (a : Answer). (numberOf a, placeOf a)) (written-ones (settings 0 0) 6119 refl (lit≤ tt) out h)
 
 pub table : Table
 unfolding writing verdict roomAnswer firstFrom zeroFrame

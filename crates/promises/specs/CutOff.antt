@@ -18,6 +18,8 @@ use lib.Seq.{length-take-le, take-all, take-add, ext-getD, getD-take, getD-drop}
 use Rattle.lists.specs.Parts.{part, over, length-part}
 use Rattle.lists.specs.Rows.{each-at, same-joined}
 use Rattle.layout.specs.Layout.{dataBits, multiframeFrames, multiframePairs, multiframeOctets, mostMultiframes, indexOctets, reportOctets, firstPair, sync, syncFirst, syncSecond}
+use Rattle.settings.specs.declared.Settings.{Settings}
+use Rattle.settings.specs.Settings.{settings}
 use Rattle.frames.specs.Frames.{zeroFrame}
 use Rattle.crc.specs.Crc.{right}
 use Rattle.packet.specs.Packet.{packetOf}
@@ -26,7 +28,7 @@ use Rattle.cutting.specs.declared.Piece.the-variants.{CutShort}
 use Rattle.refusals.specs.declared.Reading.the-variants as RR
 use Rattle.cutting.specs.Cutting.{syncMet, pieceBy, pieceOf, Cutting, cutting}
 use Rattle.cutting.specs.Laws.{lone-sync, every-length, octetsOf}
-use Rattle.header.specs.Message.{rateOf, typeOf}
+use Rattle.header.specs.Message.{settingsOf}
 use Rattle.header.specs.Message.Laws.{count-back}
 use Rattle.header.specs.declared.Header.{Header}
 use Rattle.header.specs.declared.Header.the-variants.{Codeword, Lost}
@@ -48,7 +50,7 @@ use Rattle.writer.specs.Image.{image-packet, Utterance, multiframesOf, imageOf,
 use Rattle.demands.specs.Damage.{Damage, headerFlips, header-near}
 use Rattle.demands.specs.Damages.{unharmed}
 use Rattle.demands.specs.Whole.{rowOf, Lent, nothing-replaced}
-use Rattle.demands.specs.Headers.{sentCommon, common-sent, rate-sent, kind-sent}
+use Rattle.demands.specs.Headers.{sentCommon, common-sent, settings-sent}
 use Rattle.demands.specs.Met.{zeroBook, zeroThresholds, indexFor, reportFor, lent-zeros}
 use Rattle.demands.specs.ReadsBack.{spoken, reads-image, zeros, zero-rows, none-bad}
 use Rattle.demands.specs.WritesAgain as A
@@ -60,7 +62,7 @@ use Rattle.promises.specs.Said.{ones24}
 -- ---- THE FIRST k MULTIFRAMES ALONE, fewer than all
 -- the success answer: the settings sent, k, all of its frames speech, no bad pair, and no end
 abbrev pub heard : Utterance → ℕ → Summary
-heard u k = record { rate = u .rate; kind = u .kind; multiframes = k; speech = multiframeFrames * k; bad = 0; end = 0 }
+heard u k = record { settings = u .settings; multiframes = k; speech = multiframeFrames * k; bad = 0; end = 0 }
 
 module _ (u : Utterance) (k : ℕ) (some : 0 < k) (less : k < multiframesOf u) where
   abbrev s : List ℕ
@@ -82,7 +84,7 @@ module _ (u : Utterance) (k : ℕ) (some : 0 < k) (less : k < multiframesOf u) w
   rows = F.rows u s d k within
 
   sent : (q : ℕ) → q < multiframePairs * k → packetIn s q ≡ packetOf (u .indices) q
-  sent q h = image-packet (u .rate) (u .kind) (u .indices) (multiframesOf u) q (omega arith)
+  sent q h = image-packet (u .settings) (u .indices) (multiframesOf u) q (omega arith)
 
   no-flips : (i : ℕ) → headerFlips s s i ≡ 0
   no-flips i = ap ones (xor-self (wordIn s i)) ∙ omega (arith, ones-le 0 0 (lit< tt))
@@ -142,7 +144,7 @@ module _ (u : Utterance) (k : ℕ) (some : 0 < k) (less : k < multiframesOf u) w
         ∙ each-at (λ i. Codeword (F.decoded u s d k within i)) k i Lost (omega (arith, rows)) in
         let z = header-near u s i (omega (arith, rows)) ∙ no-flips i in
         ap₂ (λ (x : ℕ) (y : List ℕ). x ∷ y)
-        (ap (headerNote (sentCommon u) i) r ∙ clean-note (sentCommon u) i (F.decoded u s d k within i) z (count-back (u .rate) (u .kind) (i + 1) 0) (common-sent u i))
+        (ap (headerNote (sentCommon u) i) r ∙ clean-note (sentCommon u) i (F.decoded u s d k within i) z (count-back (u .settings) (i + 1) 0) (common-sent u i))
         (zeros p (λ j g. getD-take 12 (drop (12 * i) ns) j 0 (omega (arith, l)) ∙ getD-drop (12 * i) ns j 0 ∙ quiet (12 * i + j) (omega (arith, l, size)))
         ∙ ap (λ (w : ℕ). replicate w 0) l)
 
@@ -153,8 +155,8 @@ module _ (u : Utterance) (k : ℕ) (some : 0 < k) (less : k < multiframesOf u) w
         (length (rowOf k)) note-row
         ∙ zero-rows reportOctets (length (rowOf k)) ∙ ap (λ (n : ℕ). replicate (reportOctets * n) 0) rows
 
-    make : ℕ → ℕ → ℕ → ℕ → ℕ → ℕ → Summary
-    make a b c d e f = record { rate = a; kind = b; multiframes = c; speech = d; bad = e; end = f }
+    make : Settings → ℕ → ℕ → ℕ → ℕ → Summary
+    make a b c d e = record { settings = a; multiframes = b; speech = c; bad = d; end = e }
 
     answer-is : summary first (rowOf k) ns (sentCommon u) ≡ heard u k
     unfolding make
@@ -164,9 +166,9 @@ module _ (u : Utterance) (k : ℕ) (some : 0 < k) (less : k < multiframesOf u) w
         let c = sentCommon u in
         let speech = speechOf (length (rowOf k)) (indexPart first (rowOf k) ns) in
         let end = endOf (length (rowOf k)) (indexPart first (rowOf k) ns) in
-        let p : make (rateOf c) (typeOf c) (length (rowOf k)) speech (badPairs ns) end ≡ make (u .rate) (u .kind) k (24 * k) 0 0 =
-        ap₂ (λ (a b : ℕ). make a b (length (rowOf k)) speech (badPairs ns) end) (rate-sent u) (kind-sent u)
-        ∙ ap₂ (λ (a b : ℕ). make (u .rate) (u .kind) a b (badPairs ns) end) rows x ∙ ap₂ (λ (a b : ℕ). make (u .rate) (u .kind) k (24 * k) a b) (none-bad ns quiet) y in
+        let p : make (settingsOf c) (length (rowOf k)) speech (badPairs ns) end ≡ make (u .settings) k (24 * k) 0 0 =
+        ap (λ (a : Settings). make a (length (rowOf k)) speech (badPairs ns) end) (settings-sent u)
+        ∙ ap₂ (λ (a b : ℕ). make (u .settings) a b (badPairs ns) end) rows x ∙ ap₂ (λ (a b : ℕ). make (u .settings) k (24 * k) a b) (none-bad ns quiet) y in
         p
 
     good : Good ns
@@ -226,7 +228,7 @@ pub whole-ends : (u : Utterance) (codebook thresholds : List ℤ) (index report 
     → (reading (take (multiframeOctets * multiframesOf u) (imageOf u)) codebook thresholds index report .answer ≡ Read (spoken u)) × (spoken u .end ≡ 1)
 whole-ends u codebook thresholds index report lent =
     let m = multiframesOf u in
-    let e : take (144 * m) (imageOf u) ≡ imageOf u = take-all (144 * m) (imageOf u) (omega (arith, length-image (u .rate) (u .kind) (u .indices) m)) in
+    let e : take (144 * m) (imageOf u) ≡ imageOf u = take-all (144 * m) (imageOf u) (omega (arith, length-image (u .settings) (u .indices) m)) in
     (ap (λ (l : List ℕ). reading l codebook thresholds index report .answer) e ∙ ap (λ (o : Outcome). o .answer) (reads-image u codebook thresholds index report lent), refl)
 
 -- ---- A CUT INSIDE A MULTIFRAME IS REFUSAL 13, at the place of that multiframe
@@ -304,7 +306,7 @@ cut-anywhere u n short codebook thresholds index report given e =
     ]
   where
     less : n / 144 < multiframesOf u
-    less = omega (arith, length-image (u .rate) (u .kind) (u .indices) (multiframesOf u))
+    less = omega (arith, length-image (u .settings) (u .indices) (multiframesOf u))
 
     tables : Tables codebook thresholds
     tables =
@@ -314,7 +316,7 @@ cut-anywhere u n short codebook thresholds index report given e =
 -- ---- the premises are met
 -- of 24 frames of ones the first multiframe alone is read: rate 0, one multiframe, 24 frames of speech, end 0
 pub first-of-24 : reading (take multiframeOctets (imageOf ones24)) zeroBook zeroThresholds (indexFor 1) (reportFor 1) .answer
-    ≡ Read (record { rate = 0; kind = 0; multiframes = 1; speech = 24; bad = 0; end = 0 })
+    ≡ Read (record { settings = settings 0 0; multiframes = 1; speech = 24; bad = 0; end = 0 })
 first-of-24 = ap (λ (o : Outcome). o .answer) (cut-off-reads ones24 1 (omega arith) (omega arith) zeroBook zeroThresholds (indexFor 1) (reportFor 1) (lent-zeros 1))
 
 -- 01's example: 143 octets that open with a sync are 13

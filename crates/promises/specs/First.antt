@@ -66,7 +66,7 @@ frame-speaks idx l j x e = by (allZero (part (7 * j) 7 l)) refl
 -- the last frame of a multiframe but the last is one that the writer refuses to be zero
 pub border-speaks : (u : Utterance) (k : ℕ) → 0 < k → k < multiframesOf u → Nonzero (u .indices) (multiframeFrames * k - 1)
 border-speaks u k some less =
-    boundary-speaks (u .rate) (u .kind) (u .indices) (needed (u .indices)) (needed (u .indices)) (is-accepted u) (24 * k - 1) (omega arith) (omega arith)
+    boundary-speaks (u .settings) (u .indices) (needed (u .indices)) (needed (u .indices)) (is-accepted u) (24 * k - 1) (omega arith) (omega arith)
 
 -- ---- a pair's note: by the pair before it, its own CRC and consistency, and the next pair's CRC
 module _ (octets places : List ℕ) (codebook thresholds : List ℤ) (q : ℕ) (inside : q < pairCount places) where
@@ -112,7 +112,7 @@ module _ (u : Utterance) (s : List ℕ) (d : Damage (multiframesOf u) (imageOf u
   first = take (multiframeOctets * k) s
 
   pub size : length s ≡ multiframeOctets * m
-  size = d .size ∙ length-image (u .rate) (u .kind) (u .indices) m
+  size = d .size ∙ length-image (u .settings) (u .indices) m
 
   pub size-first : length first ≡ multiframeOctets * k
   size-first = length-take-le (144 * k) s (omega (arith, size))
@@ -121,10 +121,10 @@ module _ (u : Utterance) (s : List ℕ) (d : Damage (multiframesOf u) (imageOf u
   part-first a v h = sym (ap (part a v) (sym (take-append-drop (144 * k) s)) ∙ part-left first (drop (144 * k) s) a v (omega (arith, size-first)))
 
   pub few : m ≤ mostMultiframes
-  few = few-multiframes (u .rate) (u .kind) (u .indices) (is-accepted u .sizes)
+  few = few-multiframes (u .settings) (u .indices) (is-accepted u .sizes)
 
   pub syncs : (i : ℕ) → i < m → syncIn s i ≡ sync
-  syncs i h = d .syncs i h ∙ image-sync (u .rate) (u .kind) (u .indices) m i h
+  syncs i h = d .syncs i h ∙ image-sync (u .settings) (u .indices) m i h
 
   pub syncs-first : (i : ℕ) → i < k → syncIn first i ≡ sync
   syncs-first i h = part-first (144 * i) 2 (omega arith) ∙ syncs i (omega arith)

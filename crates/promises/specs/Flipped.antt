@@ -21,6 +21,7 @@ use Rattle.lists.specs.Tests.{when, by-test, true-false}
 use Rattle.lists.specs.Parts.{over}
 use Rattle.lists.specs.Rows.{each, length-each, each-at, joined, length-joined, joined-part, same-joined}
 use Rattle.layout.specs.Layout.{frameIndices, dataBits, packetBits, multiframePairs, streamOctets, indexOctets, reportOctets, multiframeOf, firstPair, firstFrame, secondFrame}
+use Rattle.settings.specs.Settings.{settings, settingsRight}
 use Rattle.crc.specs.Crc.{right, flip, Damaged}
 use Rattle.crc.specs.Damage.{length-flip, flip-burst}
 use Rattle.packet.specs.Packet.{packetOf, frameAt}
@@ -47,7 +48,7 @@ use Rattle.judging.specs.Laws.{Good, none-good, badBefore, note-at, consistent-
 use Rattle.reader.specs.Reading.{indexPart, reportPart, summary, Outcome, outcome, reading, receivedNotes}
 use Rattle.reader.specs.ReadingLaws.{Usable}
 use Rattle.reader.specs.declared.Answer.the-variants.{Read}
-use Rattle.writer.specs.Writing.{settingsRight, verdict, needed}
+use Rattle.writer.specs.Writing.{verdict, needed}
 use Rattle.writer.specs.declared.Answer.the-variants.{Written}
 use Rattle.writer.specs.Laws.{few-multiframes, length-image, accepts}
 use Rattle.writer.specs.Made.{syncIn, wordIn, packetIn, made, framed, length-made, made-sync, made-word, made-packet}
@@ -111,14 +112,14 @@ module _ (u : Utterance) (e : ℕ → ℕ) (f : ℕ → List Bool) where
 
   -- it is as long as the image, and its syncs are whole
   pub flipped-size : length flipped ≡ length (imageOf u)
-  flipped-size = length-made flippedWord (packed f) (multiframesOf u) ∙ sym (length-image (u .rate) (u .kind) (u .indices) (multiframesOf u))
+  flipped-size = length-made flippedWord (packed f) (multiframesOf u) ∙ sym (length-image (u .settings) (u .indices) (multiframesOf u))
 
   pub flipped-syncs : (k : ℕ) → k < multiframesOf u → syncIn flipped k ≡ syncIn (imageOf u) k
-  flipped-syncs k h = made-sync flippedWord (packed f) (multiframesOf u) k h ∙ sym (image-sync (u .rate) (u .kind) (u .indices) (multiframesOf u) k h)
+  flipped-syncs k h = made-sync flippedWord (packed f) (multiframesOf u) k h ∙ sym (image-sync (u .settings) (u .indices) (multiframesOf u) k h)
 
   module _ (small : (k : ℕ) → e k < 2 ^ 32) where
     word-lt : (k : ℕ) → flippedWord k < 2 ^ 32
-    word-lt k = xor-lt 32 (codeword (sentMessage u k)) (e k) (codeword-lt (sentMessage u k) (message-lt (u .rate) (u .kind) (k + 1) 0)) (small k)
+    word-lt k = xor-lt 32 (codeword (sentMessage u k)) (e k) (codeword-lt (sentMessage u k) (message-lt (u .settings) (k + 1) 0)) (small k)
 
     -- the flips in header k are those of e k
     pub flips-are : (k : ℕ) → k < multiframesOf u → headerFlips (imageOf u) flipped k ≡ ones (e k)
@@ -147,7 +148,7 @@ module _ (u : Utterance) (e : ℕ → ℕ) (f : ℕ → List Bool) where
 module _ (u : Utterance) (e : ℕ → ℕ) (small : (k : ℕ) → e k < 2 ^ 32) where
   pub sent-whole : (q : ℕ) → q < pairsOf u → packetIn (flipped u e (packetOf (u .indices))) q ≡ packetIn (imageOf u) q
   sent-whole q h =
-      packets-are u e (packetOf (u .indices)) small (length-packetOf (u .indices)) q h ∙ sym (image-packet (u .rate) (u .kind) (u .indices) (multiframesOf u) q h)
+      packets-are u e (packetOf (u .indices)) small (length-packetOf (u .indices)) q h ∙ sym (image-packet (u .settings) (u .indices) (multiframesOf u) q h)
 
   pub sent-damage : (most : ℕ) → ((k : ℕ) → k < multiframesOf u → ones (e k) ≤ most) → DamageUpTo most (multiframesOf u) (imageOf u) (flipped u e (packetOf (u .indices)))
   sent-damage most few = flipped-damage u e (packetOf (u .indices)) small (length-packetOf (u .indices)) most few (λ q h. inl refl)
@@ -199,7 +200,7 @@ module _ (u : Utterance) (t : ℕ → Bool) where
     got = packets-are u e hit small length-hit q h
 
     sent : packetIn (imageOf u) q ≡ packetOf (u .indices) q
-    sent = image-packet (u .rate) (u .kind) (u .indices) (multiframesOf u) q h
+    sent = image-packet (u .settings) (u .indices) (multiframesOf u) q h
 
     -- those that are told are damaged, and the others are not
     pub told-touched : t q ≡ true → Touched (imageOf u) (flipped u e hit) q
@@ -209,18 +210,18 @@ module _ (u : Utterance) (t : ℕ → Bool) where
     untold-whole x = got ∙ hit-elsewhere q x ∙ sym sent
 
 -- ---- 11 kHz beside 8 kHz
-settings-11 : (u : Utterance) → settingsRight 1 (u .kind) ≡ true
-settings-11 u = rw (le-ltb 1 (u .kind) (omega (arith, kind-small u)))
+right-11 : (u : Utterance) → settingsRight (settings 1 (u .settings .kind)) ≡ true
+right-11 u = rw (le-ltb 1 (u .settings .kind) (omega (arith, kind-small u)))
 
 -- the writer accepts at 11 kHz what it accepts at another rate
-pub written-11 : (u : Utterance) → verdict 1 (u .kind) (u .indices) (needed (u .indices)) ≡ Written (needed (u .indices))
+pub written-11 : (u : Utterance) → verdict (settings 1 (u .settings .kind)) (u .indices) (needed (u .indices)) ≡ Written (needed (u .indices))
 written-11 u =
     let a = is-accepted u in
-    accepts 1 (u .kind) (u .indices) (needed (u .indices)) (record { settings = settings-11 u; whole = a .sizes .whole; few = a .sizes .few }) (a .narrow-indices) (a .speaks) (omega arith)
+    accepts (settings 1 (u .settings .kind)) (u .indices) (needed (u .indices)) (record { right = right-11 u; whole = a .sizes .whole; few = a .sizes .few }) (a .narrow-indices) (a .speaks) (omega arith)
 
 -- the same frames at 11 kHz
 abbrev pub at11 : Utterance → Utterance
-at11 u = record { rate = 1; kind = u .kind; indices = u .indices; small = u .small; written = written-11 u }
+at11 u = record { settings = settings 1 (u .settings .kind); indices = u .indices; small = u .small; written = written-11 u }
 
 -- one more: SampRate 1 for 0
 rate-on : (a : ℕ) → a < 2 ^ 16 → rateOf a ≡ 0 → (rateOf (a + 1) ≡ 1) × (typeOf (a + 1) ≡ typeOf a) × (countOf (a + 1) ≡ countOf a) × (expOf (a + 1) ≡ expOf a)
@@ -244,15 +245,16 @@ even-xor a z =
     ap (λ (n : ℕ). bitXor n 1) e ∙ xor-block 1 (a / 2) 0 0 1 (lit< tt) (lit< tt) ∙ ap (λ (n : ℕ). n * 2 + 1) (xor-zero-r (a / 2)) ∙ f
 
 -- the message of 11 kHz is that of 8 kHz with SampRate's first bit flipped
-pub message-11 : (t c : ℕ) → t < 2 → message 1 t c 0 ≡ bitXor (message 0 t c 0) 1
+pub message-11 : (t c : ℕ) → t < 2 → message (settings 1 t) c 0 ≡ bitXor (message (settings 0 t) c 0) 1
 message-11 t c l =
-    let a = message 0 t c 0 in
-    let h : a < 2 ^ 16 = message-lt 0 t c 0 in
-    let z : rateOf a ≡ 0 = rate-back 0 t c 0 in
+    let a = message (settings 0 t) c 0 in
+    let h : a < 2 ^ 16 = message-lt (settings 0 t) c 0 in
+    let z : rateOf a ≡ 0 = rate-back (settings 0 t) c 0 in
     let r : a % 4 ≡ 0 = sym (and-mask a 2) ∙ rate-masked a ∙ z in
     let p = rate-on a h z in
-    sym (even-xor a r ∙ sym (message-back (a + 1) (omega arith)) ∙ ap₂ (λ (x y : ℕ). message x y (countOf (a + 1)) (expOf (a + 1))) (p .0) (p .1 ∙ type-back 0 t c 0)
-    ∙ ap₂ (message 1 (t % 2)) (p .2 ∙ count-back 0 t c 0) (p .3 ∙ exp-back 0 t c 0) ∙ count-mod 1 (t % 2) c 0 ∙ ap (λ (n : ℕ). message 1 n c 0) (mod-eq-of-lt l))
+    sym (even-xor a r ∙ sym (message-back (a + 1) (omega arith)) ∙ ap₂ (λ (x y : ℕ). message (settings x y) (countOf (a + 1)) (expOf (a + 1))) (p .0) (p .1 ∙ type-back (settings 0 t) c 0)
+    ∙ ap₂ (message (settings 1 (t % 2))) (p .2 ∙ count-back (settings 0 t) c 0) (p .3 ∙ exp-back (settings 0 t) c 0) ∙ count-mod (settings 1 (t % 2)) c 0
+    ∙ ap (λ (n : ℕ). message (settings 1 n) c 0) (mod-eq-of-lt l))
 
 -- the codeword of SampRate 1 alone, 01 00 01 D1: the bits in which every header of 11 kHz differs from that of 8 kHz
 abbrev pub rateBits : ℕ
@@ -267,13 +269,13 @@ six-flipped = sym (ones-in 32 rateBits (lit< tt))
 pub rate-codeword : codeword 1 ≡ rateBits
 rate-codeword = codeword-1
 
-module _ (u : Utterance) (eight : u .rate ≡ 0) where
+module _ (u : Utterance) (eight : u .settings .rate ≡ 0) where
   -- each header of 11 kHz is that of 8 kHz with these bits flipped
   pub word-11 : (k : ℕ) → codeword (sentMessage (at11 u) k) ≡ bitXor (codeword (sentMessage u k)) rateBits
   word-11 k =
-      ap codeword (message-11 (u .kind) (k + 1) (kind-small u))
-      ∙ codeword-xor (message 0 (u .kind) (k + 1) 0) 1 (message-lt 0 (u .kind) (k + 1) 0) (lit< tt)
-      ∙ ap₂ (λ (r w : ℕ). bitXor (codeword (message r (u .kind) (k + 1) 0)) w) (sym eight) rate-codeword
+      ap codeword (message-11 (u .settings .kind) (k + 1) (kind-small u))
+      ∙ codeword-xor (message (settings 0 (u .settings .kind)) (k + 1) 0) 1 (message-lt (settings 0 (u .settings .kind)) (k + 1) 0) (lit< tt)
+      ∙ ap₂ (λ (r w : ℕ). bitXor (codeword (message (settings r (u .settings .kind)) (k + 1) 0)) w) (sym eight) rate-codeword
 
   -- an image of 8 kHz with any flips in its headers is one of 11 kHz with these
   pub seen-at-11 : (e : ℕ → ℕ) (f : ℕ → List Bool) → flipped u e f ≡ flipped (at11 u) (λ k. bitXor (e k) rateBits) f
@@ -301,7 +303,7 @@ module _ (u : Utterance) (eight : u .rate ≡ 0) where
       let n = flipsTo w (sentMessage (at11 u) k) in
       let z : n + 0 + 8 ≡ n + 8 = omega arith in
       rw (
-        eq-eqb (countOf (sentMessage (at11 u) k)) ((k + 1) % 16) (count-back 1 (u .kind) (k + 1) 0),
+        eq-eqb (countOf (sentMessage (at11 u) k)) ((k + 1) % 16) (count-back (at11 u .settings) (k + 1) 0),
         ne-eqb (commonBits (sentMessage (at11 u) k)) (sentCommon u) (λ q.
             let y : _≡_ {A = ℕ} 0 1 = sym (rate-sent u ∙ eight) ∙ ap rateOf (sym q) ∙ ap rateOf (common-sent (at11 u) k) ∙ rate-sent (at11 u) in omega arith),
       ) z
@@ -338,8 +340,8 @@ module _ (u : Utterance) (s : List ℕ) (size : length s ≡ length (imageOf u))
       (over report 0 (reportOctets * length (rowOf (multiframesOf u))) (reportPart s (rowOf (multiframesOf u)) (receivedNotes s (rowOf (multiframesOf u)) codebook thresholds) c))
   reads-settled settled usable good =
       let rows : length (rowOf m) ≡ m = every-length 0 m in
-      reads-as s m (few-multiframes (u .rate) (u .kind) (u .indices) (is-accepted u .sizes)) (size ∙ length-image (u .rate) (u .kind) (u .indices) m)
-      (λ k h. syncs k h ∙ image-sync (u .rate) (u .kind) (u .indices) m k h) codebook thresholds index report c (omega arith) lent
+      reads-as s m (few-multiframes (u .settings) (u .indices) (is-accepted u .sizes)) (size ∙ length-image (u .settings) (u .indices) m)
+      (λ k h. syncs k h ∙ image-sync (u .settings) (u .indices) m k h) codebook thresholds index report c (omega arith) lent
       record {
         settles = settled;
         usable = usable;

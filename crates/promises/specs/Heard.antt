@@ -43,7 +43,7 @@ module _ (u : Utterance) (s : List ℕ) (codebook thresholds : List ℤ) (index 
   unnamed q h z = by (fate u s (p .damage) q h)
     where
       by : Fate u s (p .damage) q h → packetIn s q ≡ packetIn (imageOf u) q
-      by (whole e r) = e ∙ sym (image-packet (u .rate) (u .kind) (u .indices) (multiframesOf u) q h)
+      by (whole e r) = e ∙ sym (image-packet (u .settings) (u .indices) (multiframesOf u) q h)
       by (hit t r) =
           let y : _≡_ {A = ℕ} 0 1 = sym z ∙ N.pair-note u s codebook thresholds index report p q h ∙ touched-note u s (p .damage) codebook thresholds q h t in
           absurd (omega arith)

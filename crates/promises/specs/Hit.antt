@@ -77,7 +77,7 @@ module _ (u : Utterance) (p : ℕ) where
   hits =
       damage-made u word hitStream
       record {
-        words = λ k h. codeword-lt (sentMessage u k) (message-lt (u .rate) (u .kind) (k + 1) 0);
+        words = λ k h. codeword-lt (sentMessage u k) (message-lt (u .settings) (k + 1) 0);
         near-words = λ k h. omega (arith, none-wrong k);
         sizes = λ k h. stream-length k;
         each = λ q h. elim (ℕ-discrete q p) [
@@ -90,7 +90,7 @@ module _ (u : Utterance) (p : ℕ) where
   got q h = made-packet word hitStream (multiframesOf u) q h (stream-length (q / 12)) ∙ hit-part q
 
   sent : (q : ℕ) → q < pairsOf u → packetIn (imageOf u) q ≡ packetOf (u .indices) q
-  sent q h = image-packet (u .rate) (u .kind) (u .indices) (multiframesOf u) q h
+  sent q h = image-packet (u .settings) (u .indices) (multiframesOf u) q h
 
   -- pair p is damaged, and no other
   pub is-hit : p < pairsOf u → Touched (imageOf u) hitImage p
@@ -103,5 +103,5 @@ module _ (u : Utterance) (p : ℕ) where
   pub clean-header : (k : ℕ) → k < multiframesOf u → headerFlips (imageOf u) hitImage k ≡ 0
   clean-header k h =
       sym (header-near u hitImage k h)
-      ∙ ap (λ (x : ℕ). flipsTo x (sentMessage u k)) (made-word word hitStream (multiframesOf u) k h (codeword-lt (sentMessage u k) (message-lt (u .rate) (u .kind) (k + 1) 0)))
+      ∙ ap (λ (x : ℕ). flipsTo x (sentMessage u k)) (made-word word hitStream (multiframesOf u) k h (codeword-lt (sentMessage u k) (message-lt (u .settings) (k + 1) 0)))
       ∙ none-wrong k

@@ -45,12 +45,12 @@ module _ (u : Utterance) (s : List ℕ) (d : DamageUpTo 3 (multiframesOf u) (ima
   w = A.was-read s codebook thresholds index report [] given e
 
   syncs : (k : ℕ) → k < m → syncIn s k ≡ sync
-  syncs k h = d .syncs k h ∙ image-sync (u .rate) (u .kind) (u .indices) m k h
+  syncs k h = d .syncs k h ∙ image-sync (u .settings) (u .indices) m k h
 
   cut : cutting s .places ≡ rowOf m
   cut =
       ap (λ (x : Cutting). x .places)
-      (cut-is s m (few-multiframes (u .rate) (u .kind) (u .indices) (is-accepted u .sizes)) (d .size ∙ length-image (u .rate) (u .kind) (u .indices) m) syncs)
+      (cut-is s m (few-multiframes (u .settings) (u .indices) (is-accepted u .sizes)) (d .size ∙ length-image (u .settings) (u .indices) m) syncs)
 
   rows : length (cutting s .places) ≡ m
   rows = ap length cut ∙ every-length 0 m

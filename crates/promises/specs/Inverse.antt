@@ -263,8 +263,8 @@ pub spaced-image : (u : Utterance) (s : List ℕ) → Damage (multiframesOf u) (
     → reading (spaced g s (multiframesOf u)) codebook thresholds index report ≡ reading s codebook thresholds index report
 spaced-image u s d =
     let m = multiframesOf u in
-    spaced-same s m (omega arith) (few-multiframes (u .rate) (u .kind) (u .indices) (is-accepted u .sizes))
-    (d .size ∙ length-image (u .rate) (u .kind) (u .indices) m) (λ k h. d .syncs k h ∙ image-sync (u .rate) (u .kind) (u .indices) m k h)
+    spaced-same s m (omega arith) (few-multiframes (u .settings) (u .indices) (is-accepted u .sizes))
+    (d .size ∙ length-image (u .settings) (u .indices) m) (λ k h. d .syncs k h ∙ image-sync (u .settings) (u .indices) m k h)
 
 -- ---- the premises are met: a damaged image of two multiframes, one inverse sync before it, two between and three behind. It is read, as the image alone is
 abbrev pub apart24 : List ℕ
@@ -289,7 +289,7 @@ apart-24 = record {
 }
   where
     size : length (hurtImage says24) ≡ 288
-    size = hurts says24 .size ∙ length-image (says24 .rate) (says24 .kind) (says24 .indices) (multiframesOf says24) ∙ ap (λ (n : ℕ). multiframeOctets * n) two-multiframes
+    size = hurts says24 .size ∙ length-image (says24 .settings) (says24 .indices) (multiframesOf says24) ∙ ap (λ (n : ℕ). multiframeOctets * n) two-multiframes
 
     sizes : length apart24 ≡ length (hurtImage says24) + 12
     sizes =

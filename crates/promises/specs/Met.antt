@@ -18,6 +18,8 @@ use Rattle.lists.specs.Tests.{when, by-test}
 use Rattle.lists.specs.Parts.{over}
 use Rattle.lists.specs.Rows.{same-joined}
 use Rattle.layout.specs.Layout.{widths, frameIndices, dataBits, packetBits, multiframePairs, indexOctets, reportOctets, firstFrame, secondFrame, firstPair}
+use Rattle.settings.specs.declared.Settings.{Settings}
+use Rattle.settings.specs.Settings.{settings}
 use Rattle.frames.specs.Frames.{zeroFrame}
 use Rattle.bits.specs.Bits.{field, laid}
 use Rattle.crc.specs.Crc.{crc, after, right, flip, Damaged}
@@ -60,18 +62,18 @@ use Rattle.promises.specs.Flipped.{rateBits, none-flipped, one-flipped, 
 use Rattle.promises.specs.Flipped.{header-at, has-common, usable, reads-settled, good-pair, zeroRead, zeroNotes}
 
 -- ---- 48 frames of ones, which take three multiframes
-written-48 : verdict 0 0 (replicate 336 1) (needed (replicate 336 1)) ≡ Written (needed (replicate 336 1))
+written-48 : verdict (settings 0 0) (replicate 336 1) (needed (replicate 336 1)) ≡ Written (needed (replicate 336 1))
 unfolding verdict roomAnswer firstFrom zeroFrame
 written-48 = refl
 
 pub says48 : Utterance
-says48 = record { rate = 0; kind = 0; indices = replicate 336 1; small = small-ones 336; written = written-48 }
+says48 = record { settings = settings 0 0; indices = replicate 336 1; small = small-ones 336; written = written-48 }
 
 pub three-multiframes : multiframesOf says48 ≡ 3
 unfolding says48
 three-multiframes = refl
 
-pub rate-48 : says48 .rate ≡ 0
+pub rate-48 : says48 .settings .rate ≡ 0
 unfolding says48
 rate-48 = refl
 
@@ -122,7 +124,7 @@ pub record Harmless (u : Utterance) (s : List ℕ) (note : ℕ) : Type 0 where
   pub noted : headerNoteIn (zeroRead u s .report) 1 ≡ note + 8
 
 -- of three multiframes or more, with at most two flips in the other headers, tables of zeros and one packet that is right
-module _ (u : Utterance) (b c : ℕ) (lb : b < 2 ^ 32) (lc : c < 2 ^ 32) (f : ℕ → List Bool) (eight : u .rate ≡ 0) (three : 3 ≤ multiframesOf u) (few : ones c ≤ 2)
+module _ (u : Utterance) (b c : ℕ) (lb : b < 2 ^ 32) (lc : c < 2 ^ 32) (f : ℕ → List Bool) (eight : u .settings .rate ≡ 0) (three : 3 ≤ multiframesOf u) (few : ones c ≤ 2)
     (n : ℕ) (near : ones (bitXor b rateBits) ≡ n) (mended : n ≤ 2) (q : ℕ) (within : q < pairsOf u) (whole : right dataBits (packetIn (flipped u (inSecond b c) f) q) ≡ true) where
   abbrev s : List ℕ
   s = flipped u (inSecond b c) f
@@ -355,7 +357,7 @@ module _ (u : Utterance) (three : 3 ≤ multiframesOf u) where
   packet-is q h = packets-are u lostSecond (hurtPacket u) lost-lt (length-hurt u) q h
 
   sent : (q : ℕ) → q < pairsOf u → packetIn (imageOf u) q ≡ packetOf (u .indices) q
-  sent q h = image-packet (u .rate) (u .kind) (u .indices) (multiframesOf u) q h
+  sent q h = image-packet (u .settings) (u .indices) (multiframesOf u) q h
 
   third-whole : packetIn (allHurt u) 2 ≡ packetIn (imageOf u) 2
   third-whole = packet-is 2 (omega arith) ∙ sym (sent 2 (omega arith))
@@ -477,7 +479,7 @@ module _ (u : Utterance) (p : List Bool) (size : length p ≡ packetBits) where
       let e : farOthers k ≡ 127 = rw (ne-eqb k 0 (λ z. omega arith)) in
       flips-are u farOthers (butOne u 0 p) far-lt k h ∙ ap ones e ∙ seven-flipped
 
-module _ (u v : Utterance) (rates : u .rate ≡ v .rate) (kinds : u .kind ≡ v .kind) (counts : multiframesOf u ≡ multiframesOf v)
+module _ (u v : Utterance) (same : u .settings ≡ v .settings) (counts : multiframesOf u ≡ multiframesOf v)
     (rest : (q : ℕ) → (q ≡ 0 → ⊥) → packetOf (u .indices) q ≡ packetOf (v .indices) q) (p : List Bool) (size : length p ≡ packetBits) where
   same-packets : (q : ℕ) → butOne u 0 p q ≡ butOne v 0 p q
   same-packets zero = there u 0 p ∙ sym (there v 0 p)
@@ -487,7 +489,7 @@ module _ (u v : Utterance) (rates : u .rate ≡ v .rate) (kinds : u .kind ≡ v 
   same-image =
       same-joined (λ k. framed (flippedWord u farOthers (butOne u 0 p) k) (packed (butOne u 0 p) k)) (λ k. framed (flippedWord v farOthers (butOne v 0 p) k) (packed (butOne v 0 p) k))
       (multiframesOf u) (λ k h.
-      ap₂ framed (ap₂ (λ (a b : ℕ). bitXor (codeword (message a b (k + 1) 0)) (farOthers k)) rates kinds)
+      ap₂ framed (ap (λ (a : Settings). bitXor (codeword (message a (k + 1) 0)) (farOthers k)) same)
       (same-joined (λ r. butOne u 0 p (firstPair k + r)) (λ r. butOne v 0 p (firstPair k + r)) multiframePairs (λ r i. same-packets (firstPair k + r))))
       ∙ ap (λ (m : ℕ). made (flippedWord v farOthers (butOne v 0 p)) (packed (butOne v 0 p)) m) counts
 
@@ -505,11 +507,11 @@ module _ (u v : Utterance) (rates : u .rate ≡ v .rate) (kinds : u .kind ≡ v 
 abbrev pub headed : ℕ → List ℕ
 headed x = x ∷ replicate 167 1
 
-written-one : verdict 0 0 (headed 1) (needed (headed 1)) ≡ Written (needed (headed 1))
+written-one : verdict (settings 0 0) (headed 1) (needed (headed 1)) ≡ Written (needed (headed 1))
 unfolding verdict roomAnswer firstFrom zeroFrame
 written-one = refl
 
-written-two : verdict 0 0 (headed 2) (needed (headed 2)) ≡ Written (needed (headed 2))
+written-two : verdict (settings 0 0) (headed 2) (needed (headed 2)) ≡ Written (needed (headed 2))
 unfolding verdict roomAnswer firstFrom zeroFrame
 written-two = refl
 
@@ -518,10 +520,10 @@ small-headed x h zero = h
 small-headed x h (suc i) = small-ones 167 i
 
 pub one24 : Utterance
-one24 = record { rate = 0; kind = 0; indices = headed 1; small = small-headed 1 (lit< tt); written = written-one }
+one24 = record { settings = settings 0 0; indices = headed 1; small = small-headed 1 (lit< tt); written = written-one }
 
 pub two24 : Utterance
-two24 = record { rate = 0; kind = 0; indices = headed 2; small = small-headed 2 (lit< tt); written = written-two }
+two24 = record { settings = settings 0 0; indices = headed 2; small = small-headed 2 (lit< tt); written = written-two }
 
 -- both first packets, bit by bit: all but the first index and the CRC are the same
 abbrev one6 : List Bool
@@ -584,7 +586,7 @@ pub record Near24 : Type 0 where
 pub near-24 : Near24
 unfolding one24 two24
 near-24 = record {
-  near = near-met one24 two24 refl refl refl same-packet hurtFirst hurt-size hurt-of-one hurt-of-two;
+  near = near-met one24 two24 refl refl same-packet hurtFirst hurt-size hurt-of-one hurt-of-two;
   first = two-of-first one24 hurtFirst hurt-size;
   second = seven-of-others one24 hurtFirst hurt-size 1 (lit< tt) (lit< tt);
   different = λ e. let z : _≡_ {A = ℕ} 1 2 = ap (λ (l : List ℕ). getD l 0 0) e in omega arith;

@@ -13,7 +13,7 @@ use Rattle.lists.specs.Rows.{each}
 use Rattle.cutting.specs.Cutting.{Cutting, cutting}
 use Rattle.cutting.specs.Laws.{every-length}
 use Rattle.header_code.specs.Code.Distance.{far-from-one}
-use Rattle.header.specs.Message.{rateOf, typeOf, commonBits}
+use Rattle.header.specs.Message.{settingsOf, commonBits}
 use Rattle.header.specs.Message.Laws.{message-lt}
 use Rattle.header.specs.Reading as H
 use Rattle.header.specs.Reading.Laws.{flips-counted, reads}
@@ -29,7 +29,7 @@ use Rattle.writer.specs.Laws.{few-multiframes, length-image}
 use Rattle.writer.specs.Made.{syncIn, wordIn}
 use Rattle.writer.specs.Image.{image-sync, Utterance, multiframesOf, imageOf, is-accepted}
 use Rattle.demands.specs.Damage.{headerFlips, sentMessage, header-near}
-use Rattle.demands.specs.Headers.{sentCommon, common-sent, rate-sent, kind-sent, settles-nothing-else}
+use Rattle.demands.specs.Headers.{sentCommon, common-sent, settings-sent, settles-nothing-else}
 use Rattle.demands.specs.Whole.{rowOf, readings-are, cut-is}
 use Rattle.demands.specs.WritesAgain as A
 
@@ -54,8 +54,7 @@ module _ (u : Utterance) (s : List ℕ) where
 
   -- "the settings and the count sent"
   pub record AsSent (given : Summary) : Type 0 where
-    pub rate : given .rate ≡ u .rate
-    pub kind : given .kind ≡ u .kind
+    pub settings : given .settings ≡ u .settings
     pub multiframes : given .multiframes ≡ multiframesOf u
 
   module _ (p : Premises) where
@@ -65,8 +64,8 @@ module _ (u : Utterance) (s : List ℕ) where
     cut : cutting s .places ≡ rowOf m
     cut =
         ap (λ (w : Cutting). w .places)
-        (cut-is s m (few-multiframes (u .rate) (u .kind) (u .indices) (is-accepted u .sizes)) (p .size ∙ length-image (u .rate) (u .kind) (u .indices) m)
-        (λ k h. p .syncs k h ∙ image-sync (u .rate) (u .kind) (u .indices) m k h))
+        (cut-is s m (few-multiframes (u .settings) (u .indices) (is-accepted u .sizes)) (p .size ∙ length-image (u .settings) (u .indices) m)
+        (λ k h. p .syncs k h ∙ image-sync (u .settings) (u .indices) m k h))
 
     -- an only header that is a codeword and has at most five flips is the one sent: six bits lie between two codewords
     only-sent : OnlyFive → (d : ℕ) → settling (readings s (rowOf m)) ≡ Settled d → d ≡ sentCommon u
@@ -84,7 +83,7 @@ module _ (u : Utterance) (s : List ℕ) where
                 x .1 .1 .0,
                 o .five,
                 header-near u s 0 (omega arith),
-                far-from-one (wordIn s 0) (x .0 .message) (sentMessage u 0) (r .0) (message-lt (u .rate) (u .kind) 1 0) n,
+                far-from-one (wordIn s 0) (x .0 .message) (sentMessage u 0) (r .0) (message-lt (u .settings) 1 0) n,
               ))
         ]
       where
@@ -103,8 +102,7 @@ module _ (u : Utterance) (s : List ℕ) where
 
       proof : AsSent given
       proof = record {
-        rate = ap (λ (g : Summary). g .rate) (w .given-is) ∙ ap rateOf common ∙ rate-sent u;
-        kind = ap (λ (g : Summary). g .kind) (w .given-is) ∙ ap typeOf common ∙ kind-sent u;
+        settings = ap (λ (g : Summary). g .settings) (w .given-is) ∙ ap settingsOf common ∙ settings-sent u;
         multiframes = ap (λ (g : Summary). g .multiframes) (w .given-is) ∙ ap length cut ∙ every-length 0 m;
       }
 

@@ -21,6 +21,8 @@ use Rattle.lists.specs.Tests.{when, by-test, true-false}
 use Rattle.lists.specs.Parts.{part, part-left, part-right}
 use Rattle.lists.specs.Rows.{each}
 use Rattle.layout.specs.Layout.{frameIndices, dataBits, multiframeFrames, multiframePairs, multiframeOctets, syncOctets, headerOctets, streamOctets, packetBits, pairOf, firstFrame, secondFrame, firstPair, sync, inverseFirst, inverseSecond}
+use Rattle.settings.specs.Settings.{settings}
+use Rattle.settings.specs.declared.Settings.{Settings}
 use Rattle.frames.specs.Frames.{allZero, zeroFrame, all-zero-at, Nonzero}
 use Rattle.bits.specs.Bits.{value, bits}
 use Rattle.crc.specs.Crc.{right}
@@ -62,7 +64,7 @@ use Rattle.demands.specs.NamesTheDamage as N
 use Rattle.demands.specs.ReadsBack.{spoken, reads-image, reads-mended}
 use Rattle.demands.specs.ToldApart.{Alike}
 use Rattle.demands.specs.Instances.{lone, says1}
-use Rattle.demands.specs.Met.{zeroBook, zeroThresholds, indexFor, reportFor, lent-zeros, says24, two-multiframes, rate-24, kind-24, frames-24}
+use Rattle.demands.specs.Met.{zeroBook, zeroThresholds, indexFor, reportFor, lent-zeros, says24, two-multiframes, settings-24, frames-24}
 use Rattle.demands.specs.Needed.{eighth, saysEighth, Passes15, passes-15, halfway}
 use Rattle.promises.specs.Misled as M
 use Rattle.promises.specs.Trusted as T
@@ -96,10 +98,10 @@ four-to-11 = sym (ones-in 32 0xC0000000 (lit< tt))
 abbrev pub fourOff : Utterance → List ℕ
 fourOff u = flipped u (λ k. fourBits) (packetOf (u .indices))
 
-module _ (u : Utterance) (eight : u .rate ≡ 0) where
+module _ (u : Utterance) (eight : u .settings .rate ≡ 0) where
   -- what is then read as 11 kHz is not as sent
   not-sent : (s : List ℕ) → M.AsSent u s (spoken (at11 u)) → ⊥
-  not-sent s x = let z : _≡_ {A = ℕ} 1 0 = x .rate ∙ eight in omega arith
+  not-sent s x = let z : _≡_ {A = ℕ} 1 0 = ap (λ (s : Settings). s .rate) (x .settings) ∙ eight in omega arith
 
   module _ (codebook thresholds : List ℤ) (index report : List ℕ) (lent : Lent (multiframesOf u) codebook thresholds index report) where
     four-read : 2 ≤ multiframesOf u → reading (fourOff u) codebook thresholds index report .answer ≡ Read (spoken (at11 u))
@@ -134,8 +136,8 @@ module _ (u : Utterance) (eight : u .rate ≡ 0) where
     six-each : (k : ℕ) → k < multiframesOf u → headerFlips (imageOf u) (imageOf (at11 u)) k ≡ 6
     six-each k h =
         let a = codeword (sentMessage u k) in
-        ap₂ (λ (x y : ℕ). ones (bitXor x y)) (image-word 1 (u .kind) (u .indices) (multiframesOf u) k h ∙ word-11 u eight k)
-        (image-word (u .rate) (u .kind) (u .indices) (multiframesOf u) k h)
+        ap₂ (λ (x y : ℕ). ones (bitXor x y)) (image-word (at11 u .settings) (u .indices) (multiframesOf u) k h ∙ word-11 u eight k)
+        (image-word (u .settings) (u .indices) (multiframesOf u) k h)
         ∙ ap ones (ap (λ (x : ℕ). bitXor x a) (xor-comm a rateBits) ∙ xor-twice rateBits a) ∙ six-flipped
 
     -- HEADERS OF SIX FLIPS MISLEAD: the image of 11 kHz itself, six flips from that of 8 kHz in each header and else the same
@@ -143,13 +145,13 @@ module _ (u : Utterance) (eight : u .rate ≡ 0) where
     six-mislead =
         let m = multiframesOf u in
         let idx = u .indices in
-        let size = length-image 1 (u .kind) idx m ∙ sym (length-image (u .rate) (u .kind) idx m) in
+        let size = length-image (at11 u .settings) idx m ∙ sym (length-image (u .settings) idx m) in
         let syncs : (k : ℕ) → k < m → syncIn (imageOf (at11 u)) k ≡ syncIn (imageOf u) k =
-        λ k h. image-sync 1 (u .kind) idx m k h ∙ sym (image-sync (u .rate) (u .kind) idx m k h) in
+        λ k h. image-sync (at11 u .settings) idx m k h ∙ sym (image-sync (u .settings) idx m k h) in
         record {
           size = size;
           syncs = syncs;
-          packets = λ q h. image-packet 1 (u .kind) idx m q h ∙ sym (image-packet (u .rate) (u .kind) idx m q h);
+          packets = λ q h. image-packet (at11 u .settings) idx m q h ∙ sym (image-packet (u .settings) idx m q h);
           each-header = six-each;
           unmet = λ x.
               not-sent (imageOf (at11 u))
@@ -161,7 +163,7 @@ module _ (u : Utterance) (eight : u .rate ≡ 0) where
 -- so two headers of four flips do, of two multiframes
 pub two-of-four : Misleads says24 (fourOff says24) 4 zeroBook zeroThresholds (indexFor (multiframesOf says24)) (reportFor (multiframesOf says24))
 two-of-four =
-    four-mislead says24 rate-24 zeroBook zeroThresholds (indexFor (multiframesOf says24)) (reportFor (multiframesOf says24)) (lent-zeros (multiframesOf says24)) (le-of-eq (sym two-multiframes))
+    four-mislead says24 (ap (λ (s : Settings). s .rate) settings-24) zeroBook zeroThresholds (indexFor (multiframesOf says24)) (reportFor (multiframesOf says24)) (lent-zeros (multiframesOf says24)) (le-of-eq (sym two-multiframes))
 
 -- and an only header of six
 pub one-of-six : Misleads says1 (imageOf (at11 says1)) 6 zeroBook zeroThresholds (indexFor 1) (reportFor 1)
@@ -174,12 +176,12 @@ pub record Lengthens (u v : Utterance) (codebook thresholds : List ℤ) (index r
   pub succeeds : reading (imageOf v) codebook thresholds index report .answer ≡ Read (spoken v)
   pub misled : M.AsSent u (imageOf v) (spoken v) → ⊥
 
-module _ (u v : Utterance) (rates : u .rate ≡ v .rate) (kinds : u .kind ≡ v .kind) (longer : multiframesOf u < multiframesOf v) (codebook thresholds : List ℤ) (index report : List ℕ)
+module _ (u v : Utterance) (same : u .settings ≡ v .settings) (longer : multiframesOf u < multiframesOf v) (codebook thresholds : List ℤ) (index report : List ℕ)
     (lent : Lent (multiframesOf v) codebook thresholds index report) where
   same-headers : (k : ℕ) → k < multiframesOf u → headerFlips (imageOf u) (imageOf v) k ≡ 0
   same-headers k h =
-      ap₂ (λ (a b : ℕ). ones (bitXor a b)) (image-word (v .rate) (v .kind) (v .indices) (multiframesOf v) k (omega arith))
-      (image-word (u .rate) (u .kind) (u .indices) (multiframesOf u) k h ∙ ap₂ (λ (a b : ℕ). codeword (message a b (k + 1) 0)) rates kinds)
+      ap₂ (λ (a b : ℕ). ones (bitXor a b)) (image-word (v .settings) (v .indices) (multiframesOf v) k (omega arith))
+      (image-word (u .settings) (u .indices) (multiframesOf u) k h ∙ ap (λ (a : Settings). codeword (message a (k + 1) 0)) same)
       ∙ ap ones (xor-self (codeword (sentMessage v k))) ∙ none-flipped
 
   near-headers : Dec (multiframesOf u < 2) → M.AllButOne u (imageOf v) ⊎ M.OnlyFive u (imageOf v)
@@ -188,7 +190,7 @@ module _ (u v : Utterance) (rates : u .rate ≡ v .rate) (kinds : u .kind ≡ v 
 
   pub length-misleads : Lengthens u v codebook thresholds index report
   length-misleads = record {
-    syncs = λ k h. image-sync (v .rate) (v .kind) (v .indices) (multiframesOf v) k (omega arith) ∙ sym (image-sync (u .rate) (u .kind) (u .indices) (multiframesOf u) k h);
+    syncs = λ k h. image-sync (v .settings) (v .indices) (multiframesOf v) k (omega arith) ∙ sym (image-sync (u .settings) (u .indices) (multiframesOf u) k h);
     headers = near-headers (decLt (multiframesOf u) 2);
     succeeds = ap (λ (o : Outcome). o .answer) (reads-image v codebook thresholds index report lent);
     misled = λ x. let e = x .multiframes in omega arith;
@@ -197,7 +199,7 @@ module _ (u v : Utterance) (rates : u .rate ≡ v .rate) (kinds : u .kind ≡ v 
 -- so one multiframe is taken for two
 pub longer-24 : Lengthens says1 says24 zeroBook zeroThresholds (indexFor (multiframesOf says24)) (reportFor (multiframesOf says24))
 longer-24 =
-    length-misleads says1 says24 (sym rate-24) (sym kind-24) (omega (arith, two-multiframes)) zeroBook zeroThresholds (indexFor (multiframesOf says24)) (reportFor (multiframesOf says24))
+    length-misleads says1 says24 (sym settings-24) (omega (arith, two-multiframes)) zeroBook zeroThresholds (indexFor (multiframesOf says24)) (reportFor (multiframesOf says24))
     (lent-zeros (multiframesOf says24))
 
 -- ---- TRUSTED NEEDS ITS LIMITS: read without a warning, and not of the image as written
@@ -206,21 +208,21 @@ pub record Mistrusted (u : Utterance) (s : List ℕ) (given : Summary) : Type 0 
   pub not-written : T.AsWritten u s zeroBook zeroThresholds (indexFor (multiframesOf u)) (reportFor (multiframesOf u)) given → ⊥
 
 -- FIVE: with six flips in each header, and no other damage
-pub six-mistrusted : (u : Utterance) → u .rate ≡ 0
+pub six-mistrusted : (u : Utterance) → u .settings .rate ≡ 0
     → DamageUpTo 6 (multiframesOf u) (imageOf u) (imageOf (at11 u)) × Mistrusted u (imageOf (at11 u)) (spoken (at11 u))
 six-mistrusted u eight =
     let m = multiframesOf u in
     let x = six-mislead u eight zeroBook zeroThresholds (indexFor m) (reportFor m) (lent-zeros m) in (
       record {
         size = x .size;
-        small = image-small 1 (u .kind) (u .indices) m;
+        small = image-small (at11 u .settings) (u .indices) m;
         syncs = x .syncs;
         headers = λ k h. le-of-eq (x .each-header k h);
         packets = λ q h. inl (x .packets q h);
       },
       record {
         warned-of-nothing = without-warning (at11 u) zeroBook zeroThresholds (indexFor m) (reportFor m) (lent-zeros m);
-        not-written = λ w. let z : _≡_ {A = ℕ} 1 0 = ap (λ (g : Summary). g .rate) (w .sent) ∙ eight in omega arith;
+        not-written = λ w. let z : _≡_ {A = ℕ} 1 0 = ap (λ (g : Summary). g .settings .rate) (w .sent) ∙ eight in omega arith;
       },
     )
 
@@ -232,7 +234,7 @@ fifteen-mistrusted = (
     warned-of-nothing = without-warning saysEighth zeroBook zeroThresholds (indexFor 1) (reportFor 1) (lent-zeros 1);
     not-written = λ w.
         passes-15 .different
-        (sym (image-packet 0 0 eighth 1 0 (lit< tt)) ∙ ap (λ (s : List ℕ). packetIn s 0) (w .image) ∙ image-packet 0 0 (lone 1) 1 0 (lit< tt));
+        (sym (image-packet (settings 0 0) eighth 1 0 (lit< tt)) ∙ ap (λ (s : List ℕ). packetIn s 0) (w .image) ∙ image-packet (settings 0 0) (lone 1) 1 0 (lit< tt));
   },
 )
 
@@ -312,8 +314,8 @@ module _ (u : Utterance) (two : multiframesOf u ≡ 2) where
 
   refused : zeroRead u s ≡ outcome (Refused Unsettled) (indexFor m) (reportFor m)
   refused =
-      refuses-16 s m (few-multiframes (u .rate) (u .kind) (u .indices) (is-accepted u .sizes)) (damaged .size ∙ length-image (u .rate) (u .kind) (u .indices) m)
-      (λ k h. damaged .syncs k h ∙ image-sync (u .rate) (u .kind) (u .indices) m k h) zeroBook zeroThresholds (indexFor m) (reportFor m) (omega arith) (lent-zeros m) unsettled
+      refuses-16 s m (few-multiframes (u .settings) (u .indices) (is-accepted u .sizes)) (damaged .size ∙ length-image (u .settings) (u .indices) m)
+      (λ k h. damaged .syncs k h ∙ image-sync (u .settings) (u .indices) m k h) zeroBook zeroThresholds (indexFor m) (reportFor m) (omega arith) (lent-zeros m) unsettled
 
   pub one-readable-unsettles : Unsettles u (otherLost u)
   one-readable-unsettles = record {
@@ -348,7 +350,7 @@ pub record Misnotes (u : Utterance) (s : List ℕ) : Type 0 where
 abbrev pub secondFour : Utterance → List ℕ
 secondFour u = flipped u (inSecond fourBits 0) (packetOf (u .indices))
 
-module _ (u : Utterance) (eight : u .rate ≡ 0) (three : 3 ≤ multiframesOf u) where
+module _ (u : Utterance) (eight : u .settings .rate ≡ 0) (three : 3 ≤ multiframesOf u) where
   lt : (k : ℕ) → inSecond fourBits 0 k < 2 ^ 32
   lt = in-second-lt fourBits 0 (lit< tt) (lit< tt)
 
@@ -358,7 +360,7 @@ module _ (u : Utterance) (eight : u .rate ≡ 0) (three : 3 ≤ multiframesOf u)
   harmless-four : Harmless u (secondFour u) 2
   harmless-four =
       harmless u fourBits 0 (lit< tt) (lit< tt) (packetOf (u .indices)) eight three (omega (arith, none-flipped)) 2 four-to-11 (omega arith) 0 (omega arith)
-      (ap (right dataBits) (not-hurt 0 (omega arith) ∙ image-packet (u .rate) (u .kind) (u .indices) (multiframesOf u) 0 (omega arith)) ∙ packetOf-good (u .indices) 0)
+      (ap (right dataBits) (not-hurt 0 (omega arith) ∙ image-packet (u .settings) (u .indices) (multiframesOf u) 0 (omega arith)) ∙ packetOf-good (u .indices) 0)
 
   none : (k : ℕ) → k < multiframesOf u → (k ≡ 1 → ⊥) → headerFlips (imageOf u) (secondFour u) k ≡ 0
   none k h n = flips-in-others u fourBits 0 (lit< tt) (lit< tt) (packetOf (u .indices)) k h n ∙ none-flipped
@@ -406,7 +408,7 @@ half-11 : ones (bitXor halfway rateBits) ≡ 3
 unfolding onesIn
 half-11 = sym (ones-in 32 0xD0000000 (lit< tt))
 
-pub six-confuse : (u : Utterance) → u .rate ≡ 0 → Confused u (flipped u (λ k. halfway) (packetOf (u .indices)))
+pub six-confuse : (u : Utterance) → u .settings .rate ≡ 0 → Confused u (flipped u (λ k. halfway) (packetOf (u .indices)))
 six-confuse u eight =
     let f = packetOf (u .indices) in
     let s = flipped u (λ k. halfway) f in
@@ -416,7 +418,7 @@ six-confuse u eight =
       other = subst (DamageUpTo headerBits (multiframesOf u) (imageOf (at11 u))) (sym (seen-at-11 u eight (λ k. halfway) f))
           (sent-damage (at11 u) e (λ k. lit< tt) headerBits (λ k h. omega (arith, half-11)));
       six = λ k h. omega (arith, flips-are u (λ k. halfway) f (λ k. lit< tt) k h, half-8, flips-at-11 u eight (λ k. halfway) f (λ k. lit< tt) k h, half-11);
-      not-alike = λ a. let z : _≡_ {A = ℕ} 0 1 = sym eight ∙ a .rates in omega arith;
+      not-alike = λ a. let z : _≡_ {A = ℕ} 0 1 = sym eight ∙ ap (λ (s : Settings). s .rate) (a .settings) in omega arith;
     }
 
 -- ---- LAST HEARD NEEDS THE LAST MULTIFRAME UNNAMED: the frames fill all multiframes but the last, which is padding, and of that the pairs up to b
@@ -436,7 +438,7 @@ speaks : (u : Utterance) (k : ℕ) → k + 1 ≡ frameCount (u .indices) → all
 speaks u k e = by (allZero (frameAt (u .indices) k)) refl
   where
     x : Nonzero (u .indices) k
-    x = last-speaks (u .rate) (u .kind) (u .indices) (needed (u .indices)) (needed (u .indices)) (is-accepted u) k e
+    x = last-speaks (u .settings) (u .indices) (needed (u .indices)) (needed (u .indices)) (is-accepted u) k e
 
     by : (t : Bool) → allZero (frameAt (u .indices) k) ≡ t → allZero (frameAt (u .indices) k) ≡ false
     by true z = absurd (x .nonzero (sym (getD-row (u .indices) (frameIndices * k) frameIndices (x .place) (x .within)) ∙ all-zero-at (frameAt (u .indices) k) (x .place) z))
@@ -492,7 +494,7 @@ module _ (u : Utterance) (two : 2 ≤ multiframesOf u) (full : frameCount (u .in
 
   good-at : (q : ℕ) → q < pairsOf u → t q ≡ false → getD ns q 0 ≡ 0
   good-at q h e =
-      right-good got ms q h (ap (right dataBits) (as-sent q h e ∙ image-packet (u .rate) (u .kind) (u .indices) ms q h) ∙ packetOf-good (u .indices) q)
+      right-good got ms q h (ap (right dataBits) (as-sent q h e ∙ image-packet (u .settings) (u .indices) ms q h) ∙ packetOf-good (u .indices) q)
 
   bad-at : (q : ℕ) → q < pairsOf u → t q ≡ true → getD ns q 0 ≡ 1
   bad-at q h e = touched-note u got (wide .damage) zeroBook zeroThresholds q h (told-touched u t (λ k. 0) (λ k. lit< tt) q h e)
@@ -705,7 +707,7 @@ proper-inverses (suc n) = proper-inverses n
 
 -- 72 of them are as long as a multiframe
 abbrev pub overwritten : Utterance → List ℕ
-overwritten u = image (u .rate) (u .kind) (u .indices) 1 ++ inverses 72
+overwritten u = image (u .settings) (u .indices) 1 ++ inverses 72
 
 pub record Miscounts (u : Utterance) (s : List ℕ) : Type 0 where
   pub size : length s ≡ length (imageOf u)
@@ -719,19 +721,19 @@ pub record Miscounts (u : Utterance) (s : List ℕ) : Type 0 where
 
 module _ (u : Utterance) (twice : multiframesOf u ≡ 2) where
   abbrev front : List ℕ
-  front = image (u .rate) (u .kind) (u .indices) 1
+  front = image (u .settings) (u .indices) 1
 
   abbrev cutUp : List ℕ
   cutUp = overwritten u
 
   front-size : length front ≡ multiframeOctets
-  front-size = length-image (u .rate) (u .kind) (u .indices) 1
+  front-size = length-image (u .settings) (u .indices) 1
 
   front-part : (a v : ℕ) → a + v ≤ multiframeOctets → part a v cutUp ≡ part a v front
   front-part a v h = part-left front (inverses 72) a v (omega (arith, front-size))
 
   front-octet : (i : ℕ) → i < 2 → getD front i 0 ≡ getD sync i 0
-  front-octet i h = sym (getD-take 2 (drop 0 front) i 0 h) ∙ ap (λ (l : List ℕ). getD l i 0) (image-sync (u .rate) (u .kind) (u .indices) 1 0 (lit< tt))
+  front-octet i h = sym (getD-take 2 (drop 0 front) i 0 h) ∙ ap (λ (l : List ℕ). getD l i 0) (image-sync (u .settings) (u .indices) 1 0 (lit< tt))
 
   -- it is cut into one multiframe
   cut-once : cutting cutUp ≡ record { places = rowOf 1; ending = whole }
@@ -742,8 +744,8 @@ module _ (u : Utterance) (twice : multiframesOf u ≡ 2) where
 
   word-there : wordIn cutUp 0 ≡ wordIn (imageOf u) 0
   word-there =
-      ap (λ (l : List ℕ). value (bits l)) (front-part syncOctets headerOctets (lit< tt)) ∙ image-word (u .rate) (u .kind) (u .indices) 1 0 (lit< tt)
-      ∙ sym (image-word (u .rate) (u .kind) (u .indices) (multiframesOf u) 0 (omega arith))
+      ap (λ (l : List ℕ). value (bits l)) (front-part syncOctets headerOctets (lit< tt)) ∙ image-word (u .settings) (u .indices) 1 0 (lit< tt)
+      ∙ sym (image-word (u .settings) (u .indices) (multiframesOf u) 0 (omega arith))
 
   no-flip : headerFlips (imageOf u) cutUp 0 ≡ 0
   no-flip = ap (λ (w : ℕ). ones (bitXor w (wordIn (imageOf u) 0))) word-there ∙ ap ones (xor-self (wordIn (imageOf u) 0)) ∙ none-flipped
@@ -751,7 +753,7 @@ module _ (u : Utterance) (twice : multiframesOf u ≡ 2) where
   packet-there : packetIn cutUp 0 ≡ packetOf (u .indices) 0
   packet-there =
       ap (λ (l : List ℕ). part 0 packetBits (bits l)) (front-part (syncOctets + headerOctets) streamOctets (lit< tt))
-      ∙ image-packet (u .rate) (u .kind) (u .indices) 1 0 (lit< tt)
+      ∙ image-packet (u .settings) (u .indices) 1 0 (lit< tt)
 
   settled-once : settling (readings cutUp (rowOf 1)) ≡ Set.Settled (sentCommon u)
   settled-once =
@@ -794,14 +796,14 @@ module _ (u : Utterance) (twice : multiframesOf u ≡ 2) where
 
   pub syncs-miscount : Miscounts u (overwritten u)
   syncs-miscount = record {
-    size = length-append front (inverses 72) ∙ omega (arith, front-size, length-inverses 72, length-image (u .rate) (u .kind) (u .indices) (multiframesOf u));
+    size = length-append front (inverses 72) ∙ omega (arith, front-size, length-inverses 72, length-image (u .settings) (u .indices) (multiframesOf u));
     headers = record {
       two = omega arith;
       but = 1;
       others = λ k h n. let z : k ≡ 0 = omega arith in subst (λ (i : ℕ). headerFlips (imageOf u) cutUp i ≤ 3) (sym z) (omega (arith, no-flip));
     };
-    first-sync = front-part 0 syncOctets (lit< tt) ∙ image-sync (u .rate) (u .kind) (u .indices) 1 0 (lit< tt)
-        ∙ sym (image-sync (u .rate) (u .kind) (u .indices) (multiframesOf u) 0 (omega arith));
+    first-sync = front-part 0 syncOctets (lit< tt) ∙ image-sync (u .settings) (u .indices) 1 0 (lit< tt)
+        ∙ sym (image-sync (u .settings) (u .indices) (multiframesOf u) 0 (omega arith));
     second-sync = part-right front (inverses 72) multiframeOctets syncOctets front-size;
     given = summary cutUp (rowOf 1) (receivedNotes cutUp (rowOf 1) zeroBook zeroThresholds) (sentCommon u);
     succeeds = read-once;

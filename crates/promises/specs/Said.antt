@@ -12,6 +12,7 @@ use borrow.Author.Tests.{ltb-true}
 use Rattle.lists.specs.Tests.{when, true-false, all-holds}
 use Rattle.lists.specs.Rows.{joined}
 use Rattle.layout.specs.Layout.{frameIndices, indexOctets, reportOctets, thresholdNumbers, firstFrame, secondFrame}
+use Rattle.settings.specs.Settings.{settings}
 use Rattle.frames.specs.Frames.{zeroFrame}
 use Rattle.packet.specs.Packet.{row, frameAt}
 use Rattle.consistency.specs.Consistency.{flagged, flags, inconsistent}
@@ -38,23 +39,23 @@ small-octets (x ∷ l) e i = by (ltb x 256) refl e i (λ z j. small-octets l z j
     by false h z i f = absurd (true-false (sym z))
 
 -- 8 kHz, type 0, 24 frames of ones, which take two multiframes
-pub written-24 : verdict 0 0 (replicate 168 1) (needed (replicate 168 1)) ≡ Written (needed (replicate 168 1))
+pub written-24 : verdict (settings 0 0) (replicate 168 1) (needed (replicate 168 1)) ≡ Written (needed (replicate 168 1))
 unfolding verdict roomAnswer firstFrom zeroFrame
 written-24 = refl
 
 abbrev pub ones24 : Utterance
-ones24 = record { rate = 0; kind = 0; indices = replicate 168 1; small = small-octets (replicate 168 1) refl; written = written-24 }
+ones24 = record { settings = settings 0 0; indices = replicate 168 1; small = small-octets (replicate 168 1) refl; written = written-24 }
 
 -- the same with frame 22 of zeros
 abbrev pub gap : List ℕ
 gap = replicate 147 1 ++ (replicate frameIndices 0 ++ replicate 14 1)
 
-pub written-gap : verdict 0 0 gap (needed gap) ≡ Written (needed gap)
+pub written-gap : verdict (settings 0 0) gap (needed gap) ≡ Written (needed gap)
 unfolding verdict roomAnswer firstFrom zeroFrame
 written-gap = refl
 
 abbrev pub gap24 : Utterance
-gap24 = record { rate = 0; kind = 0; indices = gap; small = small-octets gap refl; written = written-gap }
+gap24 = record { settings = settings 0 0; indices = gap; small = small-octets gap refl; written = written-gap }
 
 pub zero-22 : frameAt gap 21 ≡ replicate frameIndices 0
 unfolding row
@@ -65,27 +66,27 @@ abbrev pub rising : ℕ → List ℕ
 rising zero = replicate frameIndices 1
 rising (suc n) = replicate frameIndices 1 ++ (replicate frameIndices 2 ++ rising n)
 
-pub written-23 : verdict 0 0 (rising 11) (needed (rising 11)) ≡ Written (needed (rising 11))
+pub written-23 : verdict (settings 0 0) (rising 11) (needed (rising 11)) ≡ Written (needed (rising 11))
 unfolding verdict roomAnswer firstFrom zeroFrame
 written-23 = refl
 
-pub written-47 : verdict 0 0 (rising 23) (needed (rising 23)) ≡ Written (needed (rising 23))
+pub written-47 : verdict (settings 0 0) (rising 23) (needed (rising 23)) ≡ Written (needed (rising 23))
 unfolding verdict roomAnswer firstFrom zeroFrame
 written-47 = refl
 
-pub written-7 : verdict 0 0 (rising 3) (needed (rising 3)) ≡ Written (needed (rising 3))
+pub written-7 : verdict (settings 0 0) (rising 3) (needed (rising 3)) ≡ Written (needed (rising 3))
 unfolding verdict roomAnswer firstFrom zeroFrame
 written-7 = refl
 
 -- 23 frames, one multiframe; 47 frames, two; 7 frames, one multiframe of which most is padding
 abbrev pub rises23 : Utterance
-rises23 = record { rate = 0; kind = 0; indices = rising 11; small = small-octets (rising 11) refl; written = written-23 }
+rises23 = record { settings = settings 0 0; indices = rising 11; small = small-octets (rising 11) refl; written = written-23 }
 
 abbrev pub rises47 : Utterance
-rises47 = record { rate = 0; kind = 0; indices = rising 23; small = small-octets (rising 23) refl; written = written-47 }
+rises47 = record { settings = settings 0 0; indices = rising 23; small = small-octets (rising 23) refl; written = written-47 }
 
 abbrev pub rises7 : Utterance
-rises7 = record { rate = 0; kind = 0; indices = rising 3; small = small-octets (rising 3) refl; written = written-7 }
+rises7 = record { settings = settings 0 0; indices = rising 3; small = small-octets (rising 3) refl; written = written-7 }
 
 pub lengths : (multiframesOf rises23 ≡ 1) × (multiframesOf rises47 ≡ 2) × (multiframesOf rises7 ≡ 1)
 lengths = (refl, refl, refl)

@@ -19,7 +19,7 @@ use Rattle.packet.specs.Packet.{apart}
 use Rattle.consistency.specs.Consistency.{inconsistent}
 use Rattle.cutting.specs.Cutting.{whole, cutting}
 use Rattle.header.specs.Reading as H
-use Rattle.header.specs.Message.{rateOf, typeOf}
+use Rattle.header.specs.Message.{settingsOf}
 use Rattle.header.specs.declared.Header.{Header}
 use Rattle.header.specs.declared.Header.the-variants.{Lost}
 use Rattle.settling.specs.Settling.{readings, settling, headerNote}
@@ -83,8 +83,7 @@ module _ (o₁ p₁ o₂ p₂ : List ℕ) (count : length p₁ ≡ length p₂)
       given : ℕ → List Header → List ℕ → List ℕ → ℕ → Outcome
       given m hs fs ns c = outcome
           (Read (record {
-            rate = rateOf c;
-            kind = typeOf c;
+            settings = settingsOf c;
             multiframes = m;
             speech = speechOf m (replaced ns fs);
             bad = badPairs ns;

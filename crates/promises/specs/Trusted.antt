@@ -2,10 +2,9 @@
 -- settings, frames, speech and end are those sent. Neither premise of demand 3 is needed." Nor are its limits on headers: it is enough that one
 -- of them has at most five flips, since a header with note 0 is a codeword and two codewords are six bits apart.
 -- Assumes nothing.
-use mathlib.Core.Path.{_≡_, sym, ap, ap₂, _∙_, subst}
+use mathlib.Core.Path.{_≡_, sym, ap, _∙_, subst}
 use mathlib.Core.List.{List, [], _∷_}
 use Prim.Native.Nat.{ℕ, _+_, _*_, _/_, _%_, _≤_, _<_}
-use native.Mathlib.Nat.{mod-eq-of-lt}
 use native.Mathlib.Decide.{ℕ-discrete}
 use native.Mathlib.Omega.{arith}
 use lib.Bits.{xor-zero-r}
@@ -16,11 +15,12 @@ use lib.ListN.{length, getD, replicate}
 use Rattle.lists.specs.Parts.{over}
 use Rattle.lists.specs.Rows.{each-at}
 use Rattle.layout.specs.Layout.{multiframePairs, multiframeOctets, indexOctets, reportOctets, sync}
+use Rattle.settings.specs.declared.Settings.{Settings}
 use Rattle.packet.specs.Packet.{packetOf}
 use Rattle.header_code.specs.Code.{codeword, flipsTo}
 use Rattle.header_code.specs.Code.Distance.{far-from-one}
-use Rattle.header.specs.Message.{message, rateOf, typeOf}
-use Rattle.header.specs.Message.Laws.{message-lt, rate-lt, type-lt, rate-back, type-back}
+use Rattle.header.specs.Message.{message, settingsOf}
+use Rattle.header.specs.Message.Laws.{message-lt, rate-lt, type-lt, settings-fit, settings-back}
 use Rattle.header.specs.Reading as H
 use Rattle.header.specs.Reading.Laws.{flips-of}
 use Rattle.header.specs.declared.Header.{Header}
@@ -35,7 +35,7 @@ use Rattle.reader.specs.declared.Summary.{Summary}
 use Rattle.reader.specs.declared.Answer.the-variants.{Read}
 use Rattle.writer.specs.Laws.{few-multiframes, length-image}
 use Rattle.writer.specs.Made.{syncIn, wordIn, packetIn}
-use Rattle.writer.specs.Image.{image-sync, Utterance, multiframesOf, imageOf, is-accepted, rate-small, kind-small}
+use Rattle.writer.specs.Image.{image-sync, Utterance, multiframesOf, imageOf, is-accepted, settings-right}
 use Rattle.demands.specs.Damage.{DamageUpTo, Damage, headerBits, loosened, headerFlips, sentMessage, header-near, Fate, whole, hit, fate}
 use Rattle.demands.specs.Whole.{rowOf, Lent, readings-are, cut-is, headerNoteIn, pairNoteIn, header-note-is, pair-note-is}
 use Rattle.demands.specs.Received.{touched-note}
@@ -78,13 +78,13 @@ module _ (u : Utterance) (s : List ℕ) (p : Premises u s) (codebook thresholds 
   d = p .damage
 
   size : length s ≡ multiframeOctets * m
-  size = d .size ∙ length-image (u .rate) (u .kind) (u .indices) m
+  size = d .size ∙ length-image (u .settings) (u .indices) m
 
   syncs : (k : ℕ) → k < m → syncIn s k ≡ sync
-  syncs k h = d .syncs k h ∙ image-sync (u .rate) (u .kind) (u .indices) m k h
+  syncs k h = d .syncs k h ∙ image-sync (u .settings) (u .indices) m k h
 
   cut : cutting s .places ≡ rowOf m
-  cut = ap (λ (w : Cutting). w .places) (cut-is s m (few-multiframes (u .rate) (u .kind) (u .indices) (is-accepted u .sizes)) size syncs)
+  cut = ap (λ (w : Cutting). w .places) (cut-is s m (few-multiframes (u .settings) (u .indices) (is-accepted u .sizes)) size syncs)
 
   w : A.WasRead s codebook thresholds index report [] given
   w = A.was-read s codebook thresholds index report [] given (x .succeeds)
@@ -108,7 +108,7 @@ module _ (u : Utterance) (s : List ℕ) (p : Premises u s) (codebook thresholds 
   notes-size = length-notes (received s places) (pairCount places) codebook thresholds
 
   -- each header is a codeword with the settled bits
-  settled-word : (k : ℕ) → k < m → wordIn s k ≡ codeword (message (rateOf c) (typeOf c) (k + 1) 0)
+  settled-word : (k : ℕ) → k < m → wordIn s k ≡ codeword (message (settingsOf c) (k + 1) 0)
   settled-word k h =
       let r : getD (readings s places) k Lost ≡ H.reading (wordIn s k) =
       ap (λ (l : List ℕ). getD (readings s l) k Lost) cut ∙ ap (λ (l : List Header). getD l k Lost) (readings-are s m) ∙ each-at (λ k. H.reading (wordIn s k)) m k Lost h in
@@ -118,10 +118,10 @@ module _ (u : Utterance) (s : List ℕ) (p : Premises u s) (codebook thresholds 
       clean-header c k (wordIn s k) (w .reader-accepts .fitting .usable .exp) (ap (headerNote c k) (sym r) ∙ z)
 
   -- of which one is that near to the one sent
-  same-message : message (rateOf c) (typeOf c) (p .header + 1) 0 ≡ sentMessage u (p .header)
+  same-message : message (settingsOf c) (p .header + 1) 0 ≡ sentMessage u (p .header)
   same-message =
       let k = p .header in
-      let a = message (rateOf c) (typeOf c) (k + 1) 0 in
+      let a = message (settingsOf c) (k + 1) 0 in
       let z : flipsTo (wordIn s k) a ≡ 0 =
       ap (λ (x : ℕ). flipsTo x a) (settled-word k (p .within) ∙ sym (xor-zero-r (codeword a))) ∙ flips-of a 0 ∙ omega (arith, ones-le 0 0 (lit< tt)) in
       elim (ℕ-discrete a (sentMessage u k)) [
@@ -133,22 +133,17 @@ module _ (u : Utterance) (s : List ℕ) (p : Premises u s) (codebook thresholds 
               z,
               p .five,
               header-near u s k (p .within),
-              far-from-one (wordIn s k) a (sentMessage u k) (message-lt (rateOf c) (typeOf c) (k + 1) 0) (message-lt (u .rate) (u .kind) (k + 1) 0) n,
+              far-from-one (wordIn s k) a (sentMessage u k) (message-lt (settingsOf c) (k + 1) 0) (message-lt (u .settings) (k + 1) 0) n,
             ))
       ]
 
-  rate : rateOf c ≡ u .rate
-  rate =
-      sym (rate-back (rateOf c) (typeOf c) (p .header + 1) 0 ∙ mod-eq-of-lt (rate-lt c)) ∙ ap rateOf same-message
-      ∙ rate-back (u .rate) (u .kind) (p .header + 1) 0 ∙ mod-eq-of-lt (rate-small u)
+  same-settings : settingsOf c ≡ u .settings
+  same-settings =
+      sym (settings-fit (settingsOf c) (p .header + 1) 0 (rate-lt c) (type-lt c)) ∙ ap settingsOf same-message
+      ∙ settings-back (u .settings) (p .header + 1) 0 (settings-right u)
 
-  kind : typeOf c ≡ u .kind
-  kind =
-      sym (type-back (rateOf c) (typeOf c) (p .header + 1) 0 ∙ mod-eq-of-lt (type-lt c)) ∙ ap typeOf same-message
-      ∙ type-back (u .rate) (u .kind) (p .header + 1) 0 ∙ mod-eq-of-lt (kind-small u)
-
-  word : (k : ℕ) → k < m → wordIn s k ≡ codeword (message (u .rate) (u .kind) (k + 1) 0)
-  word k h = settled-word k h ∙ ap₂ (λ (a b : ℕ). codeword (message a b (k + 1) 0)) rate kind
+  word : (k : ℕ) → k < m → wordIn s k ≡ codeword (message (u .settings) (k + 1) 0)
+  word k h = settled-word k h ∙ ap (λ (a : Settings). codeword (message a (k + 1) 0)) same-settings
 
   -- each packet is the one sent: a damaged one has note 1
   packet : (q : ℕ) → q < multiframePairs * m → packetOf (u .indices) q ≡ packetIn s q
@@ -166,7 +161,7 @@ module _ (u : Utterance) (s : List ℕ) (p : Premises u s) (codebook thresholds 
           let y : _≡_ {A = ℕ} 0 1 = sym z ∙ one in absurd (omega arith)
 
   is-sent : s ≡ imageOf u
-  is-sent = sym (is-image s m size (d .small) syncs (u .rate) (u .kind) (u .indices) word packet)
+  is-sent = sym (is-image s m size (d .small) syncs (u .settings) (u .indices) word packet)
 
   lent : Lent m codebook thresholds index report
   lent = record {

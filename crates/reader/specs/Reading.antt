@@ -13,7 +13,7 @@ use Rattle.layout.specs.Layout.{multiframePairs, indexOctets, reportOctets, cod
 use Rattle.refusals.specs.Refusals.{success, readingNumber, readingPlace}
 use Rattle.refusals.specs.declared.Reading.the-variants.{WrongTables, Empty, Unsettled, Unfit, IndexShort, ReportShort, AllBad}
 use Rattle.cutting.specs.Cutting.{Ending, whole, refused, cutting}
-use Rattle.header.specs.Message.{rateOf, typeOf, expOf}
+use Rattle.header.specs.Message.{rateOf, settingsOf, expOf}
 use Rattle.header.specs.declared.Header.the-variants.{Lost}
 use Rattle.settling.specs.Settling.{readings, settling, headerNote}
 use Rattle.carrier.specs.Carrier.{received, pairCount}
@@ -35,7 +35,7 @@ answerNumber (Read s) = success
 answerNumber (Refused r) = readingNumber r
 
 abbrev pub answerValues : Answer → List ℕ
-answerValues (Read s) = s .rate ∷ s .kind ∷ s .multiframes ∷ s .speech ∷ s .bad ∷ s .end ∷ []
+answerValues (Read s) = s .settings .rate ∷ s .settings .kind ∷ s .multiframes ∷ s .speech ∷ s .bad ∷ s .end ∷ []
 answerValues (Refused r) = readingPlace r ∷ []
 
 -- ---- what a reading gives, of multiframes at places of the octets; ns are the notes of all pairs
@@ -60,8 +60,7 @@ reportPart octets places ns c =
 abbrev pub summary : List ℕ → List ℕ → List ℕ → ℕ → Summary
 summary octets places ns c =
     record {
-      rate = rateOf c;
-      kind = typeOf c;
+      settings = settingsOf c;
       multiframes = length places;
       speech = speechOf (length places) (indexPart octets places ns);
       bad = badPairs ns;

@@ -14,8 +14,9 @@ use Rattle.lists.specs.Tests.{when}
 use Rattle.lists.specs.Parts.{part, over, length-part, set-over, behind, over-in, drop-over, part-left}
 use Rattle.lists.specs.Rows.{joined, each-at, length-each, same-joined, joined-more}
 use Rattle.layout.specs.Layout.{frameIndices, pairFrames, multiframePairs, multiframeFrames, indexOctets, reportOctets, codebookNumbers, thresholdNumbers, firstPair}
+use Rattle.settings.specs.declared.Settings.{Settings as Sent}
 use Rattle.frames.specs.Frames.{allZero, zeroFrame}
-use Rattle.header.specs.Message.{rateOf, typeOf, expOf}
+use Rattle.header.specs.Message.{rateOf, expOf, settingsOf}
 use Rattle.header.specs.Reading.{reading as readHeader}
 use Rattle.header.specs.declared.Header.{Header}
 use Rattle.header.specs.declared.Header.the-variants.{Lost}
@@ -245,16 +246,16 @@ kept l m (Refuse r) e = tt
 kept l m (Accept c) e = e
 
 -- ---- the summary of what was written
-pub summary-is : (octets places ns : List ℕ) (c rate kind speech bad end : ℕ) (l n : List ℕ) → 1 ≤ length places → length ns ≡ pairCount places
+pub summary-is : (octets places ns : List ℕ) (c : ℕ) (settings : Sent) (speech bad end : ℕ) (l n : List ℕ) → 1 ≤ length places → length ns ≡ pairCount places
     → n ≡ over l 0 (indexOctets * length places) (indexPart octets places ns)
-    → rate ≡ rateOf c → kind ≡ typeOf c → speech ≡ speechOf (length places) n → bad ≡ badPairs ns → end ≡ endOf (length places) n
-    → record { rate = rate; kind = kind; multiframes = length places; speech = speech; bad = bad; end = end } ≡ summary octets places ns c
-summary-is octets places ns c rate kind speech bad end l n some size en er ek es eb ee =
+    → settings ≡ settingsOf c → speech ≡ speechOf (length places) n → bad ≡ badPairs ns → end ≡ endOf (length places) n
+    → record { settings = settings; multiframes = length places; speech = speech; bad = bad; end = end } ≡ summary octets places ns c
+summary-is octets places ns c settings speech bad end l n some size en et es eb ee =
     let m = length places in
     let w = length-index octets places ns size in
     let s : speech ≡ speechOf m (indexPart octets places ns) = es ∙ ap (speechOf m) en ∙ front-speech l (indexPart octets places ns) (indexOctets * m) w m some (omega arith) in
     let e : end ≡ endOf m (indexPart octets places ns) = ee ∙ ap (endOf m) en ∙ front-end l (indexPart octets places ns) (indexOctets * m) w m some (omega arith) in
-    rw (er, ek, s, eb, e)
+    rw (et, s, eb, e)
 
 -- ---- an accepted reading can be written
 pub record Ready (octets : List ℕ) (codebook thresholds : List ℤ) (index report : ℕ) (places : List ℕ) : Type 0 where

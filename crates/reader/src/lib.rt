@@ -20,10 +20,9 @@ ghost use Rattle.reader.specs.Reading.{answerNumber, answerValues, index
 ghost use Rattle.reader.specs.Steps.{earlyVerdict, Kept, section, sections};
 ghost use Rattle.settling.specs.declared.Settlement.the-variants.{Settled};
 
-// Success: the settings (sample rate code and front-end type), the number of multiframes, speech, the number of bad pairs, and end.
+// Success: the settled settings, the number of multiframes, speech, the number of bad pairs, and end.
 pub struct Summary {
-    pub rate: u8,
-    pub kind: u8,
+    pub settings: settings::Settings,
     pub multiframes: usize,
     pub speech: usize,
     pub bad: usize,
@@ -55,7 +54,7 @@ fn early(common: u16, m: usize, index: usize, report: usize) -> Verdict
     ensures { λ r. ⌜ r ≡ earlyVerdict m index report common ⌝ }
 {
     let fields = header::fields_of(common);
-    if fields.rate == UNDEFINED_RATE {
+    if fields.settings.rate == UNDEFINED_RATE {
         return Verdict::Refuse(Reading::Unfit);
     }
     if fields.exp != 0 {
@@ -216,9 +215,9 @@ fn write(
     put_report(headers, notes, common, report);
     let m = places.len();
     let fields = header::fields_of(common);
+    let settings = fields.settings;
     Summary {
-        rate: fields.rate,
-        kind: fields.kind,
+        settings,
         multiframes: m,
         speech: replacing::speech_of(index, m),
         bad: judging::bad_pairs(notes),

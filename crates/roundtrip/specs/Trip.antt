@@ -10,6 +10,8 @@ use lib.ListN.{length, take, drop, replicate}
 use lib.Seq.{take-at}
 use Rattle.lists.specs.Parts.{over, length-over}
 use Rattle.layout.specs.Layout.{indexOctets, reportOctets, codebookNumbers}
+use Rattle.settings.specs.declared.Settings.{Settings}
+use Rattle.settings.specs.Settings.{settings}
 use Rattle.writer.specs.Writing as W
 use Rattle.writer.specs.Writing.{needed, multiframesFor, frameCount, verdict, image, writing}
 use Rattle.writer.specs.Laws.{length-image, accepted, accepts}
@@ -17,6 +19,7 @@ use Rattle.writer.specs.Made.{Small}
 use Rattle.writer.specs.Image.{Utterance, imageOf, is-accepted}
 use Rattle.writer.specs.declared.Answer as WA
 use Rattle.writer.specs.declared.Answer.the-variants.{Written, Refused}
+use Rattle.writer.specs.declared.Refusal.the-variants.{Settings as WrongSettings}
 use Rattle.refusals.specs.declared.Writing as WR
 use Rattle.refusals.specs.declared.Writing.the-variants.{Settings}
 use Rattle.reader.specs.Reading.{Outcome, outcome, reading}
@@ -55,18 +58,18 @@ afterWriting codebook thresholds index report o (Written n) =
     (reading (take n o) codebook thresholds index report .report)
 afterWriting codebook thresholds index report o (Refused r) = made (NotWritten r) o index report
 
-unfoldable pub trip : ℕ → ℕ → List ℕ → List ℤ → List ℤ → List ℕ → List ℕ → List ℕ → Made
-trip rate type idx codebook thresholds out index report =
-    afterWriting codebook thresholds index report (writing rate type idx out .output) (writing rate type idx out .answer)
+unfoldable pub trip : Settings → List ℕ → List ℤ → List ℤ → List ℕ → List ℕ → List ℕ → Made
+trip settings idx codebook thresholds out index report =
+    afterWriting codebook thresholds index report (writing settings idx out .output) (writing settings idx out .answer)
 
 -- what a caller of both needs: the same settings, all multiframes and frames, no bad pair, and the end
-abbrev pub whole : ℕ → ℕ → List ℕ → Summary
-whole rate type idx =
-    record { rate = rate; kind = type; multiframes = multiframesFor (frameCount idx); speech = frameCount idx; bad = 0; end = 1 }
+abbrev pub whole : Settings → List ℕ → Summary
+whole settings idx =
+    record { settings = settings; multiframes = multiframesFor (frameCount idx); speech = frameCount idx; bad = 0; end = 1 }
 
 -- the first n octets are the utterance's image, and octets beyond are as they came
-abbrev pub imaged : ℕ → ℕ → List ℕ → ℕ → List ℕ → List ℕ
-imaged rate type idx n out = over out 0 n (image rate type idx (multiframesFor (frameCount idx)))
+abbrev pub imaged : Settings → List ℕ → ℕ → List ℕ → List ℕ
+imaged settings idx n out = over out 0 n (image settings idx (multiframesFor (frameCount idx)))
 
 -- the frames as written and zeros after them, 168 octets a multiframe, and octets beyond as they came
 abbrev pub framesBack : List ℕ → List ℕ → List ℕ
@@ -79,72 +82,71 @@ noteless idx report = let size = reportOctets * multiframesFor (frameCount idx) 
 
 -- ---- the three ends
 -- BACK, of n octets written
-pub record IsBack (rate type : ℕ) (idx : List ℕ) (n : ℕ) (out index report : List ℕ) (t : Made) : Type 0 where
-  pub answer : t .answer ≡ Back (whole rate type idx)
-  pub image-out : t .output ≡ imaged rate type idx n out
+pub record IsBack (settings : Settings) (idx : List ℕ) (n : ℕ) (out index report : List ℕ) (t : Made) : Type 0 where
+  pub answer : t .answer ≡ Back (whole settings idx)
+  pub image-out : t .output ≡ imaged settings idx n out
   pub frames-back : t .index ≡ framesBack idx index
   pub no-notes : t .report ≡ noteless idx report
 
 -- WRITTEN BUT NOT READ: the output holds the image, which the reader refuses, and what was lent to the reader is as it came
-pub record IsUnread (rate type : ℕ) (idx : List ℕ) (codebook thresholds : List ℤ) (out index report : List ℕ) (x : RR.Reading) (t : Made) : Type 0 where
+pub record IsUnread (settings : Settings) (idx : List ℕ) (codebook thresholds : List ℤ) (out index report : List ℕ) (x : RR.Reading) (t : Made) : Type 0 where
   pub octets : ℕ
-  pub written : verdict rate type idx (length out) ≡ Written octets
-  pub image-out : t .output ≡ imaged rate type idx octets out
-  pub refused : reading (image rate type idx (multiframesFor (frameCount idx))) codebook thresholds index report .answer ≡ R.Refused x
+  pub written : verdict settings idx (length out) ≡ Written octets
+  pub image-out : t .output ≡ imaged settings idx octets out
+  pub refused : reading (image settings idx (multiframesFor (frameCount idx))) codebook thresholds index report .answer ≡ R.Refused x
   pub index-stays : t .index ≡ index
   pub report-stays : t .report ≡ report
 
 -- NOT WRITTEN: all three are as they came
-pub record IsUnwritten (rate type : ℕ) (idx out index report : List ℕ) (x : WR.Writing) (t : Made) : Type 0 where
-  pub refused : verdict rate type idx (length out) ≡ Refused x
+pub record IsUnwritten (settings : Settings) (idx out index report : List ℕ) (x : WR.Writing) (t : Made) : Type 0 where
+  pub refused : verdict settings idx (length out) ≡ Refused x
   pub all-stay : (t .output ≡ out) × (t .index ≡ index) × (t .report ≡ report)
 
-module _ (rate type : ℕ) (idx : List ℕ) (codebook thresholds : List ℤ) (out index report : List ℕ) where
+module _ (settings : Settings) (idx : List ℕ) (codebook thresholds : List ℤ) (out index report : List ℕ) where
   -- whatever the writer accepts, with 01's tables and room, is back
   abbrev pub ComesBack : Made → Type 0
   ComesBack t =
-      (n : ℕ) → verdict rate type idx (length out) ≡ Written n → Lent (multiframesFor (frameCount idx)) codebook thresholds index report
-      → IsBack rate type idx n out index report t
+      (n : ℕ) → verdict settings idx (length out) ≡ Written n → Lent (multiframesFor (frameCount idx)) codebook thresholds index report
+      → IsBack settings idx n out index report t
 
   -- what the buffers hold if the reader refuses, and if the writer does
   abbrev pub Unread : Made → Type 0
-  Unread t = (x : RR.Reading) → t .answer ≡ NotRead x → IsUnread rate type idx codebook thresholds out index report x t
+  Unread t = (x : RR.Reading) → t .answer ≡ NotRead x → IsUnread settings idx codebook thresholds out index report x t
 
   abbrev pub Unwritten : Made → Type 0
-  Unwritten t = (x : WR.Writing) → t .answer ≡ NotWritten x → IsUnwritten rate type idx out index report x t
+  Unwritten t = (x : WR.Writing) → t .answer ≡ NotWritten x → IsUnwritten settings idx out index report x t
 
   -- ---- what is accepted is written, and its image is read
   abbrev back : Outcome
-  back = reading (image rate type idx (multiframesFor (frameCount idx))) codebook thresholds index report
+  back = reading (image settings idx (multiframesFor (frameCount idx))) codebook thresholds index report
 
-  as-written : (n : ℕ) → verdict rate type idx (length out) ≡ Written n
-      → trip rate type idx codebook thresholds out index report ≡ made (tripOf (back .answer)) (imaged rate type idx n out) (back .index) (back .report)
+  as-written : (n : ℕ) → verdict settings idx (length out) ≡ Written n
+      → trip settings idx codebook thresholds out index report ≡ made (tripOf (back .answer)) (imaged settings idx n out) (back .index) (back .report)
   unfolding trip writing
   as-written n e =
-      let i = image rate type idx (multiframesFor (frameCount idx)) in
-      let l : length i ≡ n = length-image rate type idx (multiframesFor (frameCount idx)) ∙ sym (accepted rate type idx (length out) n e .octets-needed) in
-      let t : take n (imaged rate type idx n out) ≡ i = take-at i (drop (0 + n) out) n l in
-      rw e (ap (λ (s : List ℕ). let q = reading s codebook thresholds index report in made (tripOf (q .answer)) (imaged rate type idx n out) (q .index) (q .report)) t)
+      let i = image settings idx (multiframesFor (frameCount idx)) in
+      let l : length i ≡ n = length-image settings idx (multiframesFor (frameCount idx)) ∙ sym (accepted settings idx (length out) n e .octets-needed) in
+      let t : take n (imaged settings idx n out) ≡ i = take-at i (drop (0 + n) out) n l in
+      rw e (ap (λ (s : List ℕ). let q = reading s codebook thresholds index report in made (tripOf (q .answer)) (imaged settings idx n out) (q .index) (q .report)) t)
 
-  not-written : (r : WR.Writing) → verdict rate type idx (length out) ≡ Refused r
-      → trip rate type idx codebook thresholds out index report ≡ made (NotWritten r) out index report
+  not-written : (r : WR.Writing) → verdict settings idx (length out) ≡ Refused r
+      → trip settings idx codebook thresholds out index report ≡ made (NotWritten r) out index report
   unfolding trip writing
   not-written r e = rw e
 
   -- COMES BACK: whatever the writer accepts, with 01's tables and room
-  pub comes-back : Small idx → ComesBack (trip rate type idx codebook thresholds out index report)
+  pub comes-back : Small idx → ComesBack (trip settings idx codebook thresholds out index report)
   comes-back small n e lent =
-      let a = accepted rate type idx (length out) n e in
+      let a = accepted settings idx (length out) n e in
       let u : Utterance =
       record {
-        rate = rate;
-        kind = type;
+        settings = settings;
         indices = idx;
         small = small;
-        written = accepts rate type idx (needed idx) (a .sizes) (a .narrow-indices) (a .speaks) (omega arith);
+        written = accepts settings idx (needed idx) (a .sizes) (a .narrow-indices) (a .speaks) (omega arith);
       } in
       let r = reads-image u codebook thresholds index report lent in
-      subst (IsBack rate type idx n out index report) (sym (as-written n e))
+      subst (IsBack settings idx n out index report) (sym (as-written n e))
       record {
         answer = ap (λ (o : Outcome). tripOf (o .answer)) r;
         image-out = refl;
@@ -157,18 +159,18 @@ module _ (rate type : ℕ) (idx : List ℕ) (codebook thresholds : List ℤ) (ou
   tripped (R.Refused r) x e = let z : r ≡ x = cc in ap R.Refused z
 
   abbrev result : Made
-  result = trip rate type idx codebook thresholds out index report
+  result = trip settings idx codebook thresholds out index report
 
   -- the reader refuses: the image is out, and what was lent to the reader is as it came
   pub unread : Unread result
-  unread x = by (verdict rate type idx (length out)) refl
+  unread x = by (verdict settings idx (length out)) refl
     where
-      by : (v : WA.Answer) → verdict rate type idx (length out) ≡ v → result .answer ≡ NotRead x → IsUnread rate type idx codebook thresholds out index report x result
+      by : (v : WA.Answer) → verdict settings idx (length out) ≡ v → result .answer ≡ NotRead x → IsUnread settings idx codebook thresholds out index report x result
       by (Written n) v e =
           let w = as-written n v in
           let y : back .answer ≡ R.Refused x = tripped (back .answer) x (sym (ap (λ (m : Made). m .answer) w) ∙ e) in
-          let k = refusal-keeps (image rate type idx (multiframesFor (frameCount idx))) codebook thresholds index report x y in
-          subst (IsUnread rate type idx codebook thresholds out index report x) (sym w)
+          let k = refusal-keeps (image settings idx (multiframesFor (frameCount idx))) codebook thresholds index report x y in
+          subst (IsUnread settings idx codebook thresholds out index report x) (sym w)
           record { octets = n; written = v; image-out = refl; refused = y; index-stays = ap (λ (q : Outcome). q .index) k; report-stays = ap (λ (q : Outcome). q .report) k }
       by (Refused r) v e = absurd (never r x (sym (ap (λ (m : Made). m .answer) (not-written r v)) ∙ e))
         where
@@ -177,14 +179,14 @@ module _ (rate type : ℕ) (idx : List ℕ) (codebook thresholds : List ℤ) (ou
 
   -- the writer refuses: all is as it came
   pub unwritten : Unwritten result
-  unwritten x = by (verdict rate type idx (length out)) refl
+  unwritten x = by (verdict settings idx (length out)) refl
     where
-      by : (v : WA.Answer) → verdict rate type idx (length out) ≡ v → result .answer ≡ NotWritten x → IsUnwritten rate type idx out index report x result
+      by : (v : WA.Answer) → verdict settings idx (length out) ≡ v → result .answer ≡ NotWritten x → IsUnwritten settings idx out index report x result
       by (Refused r) v e =
           let w = not-written r v in
           let y : NotWritten r ≡ NotWritten x = sym (ap (λ (m : Made). m .answer) w) ∙ e in
           let z : r ≡ x = cc in
-          subst (IsUnwritten rate type idx out index report x) (sym w) record { refused = v ∙ ap Refused z; all-stay = (refl, refl, refl) }
+          subst (IsUnwritten settings idx out index report x) (sym w) record { refused = v ∙ ap Refused z; all-stay = (refl, refl, refl) }
       by (Written n) v e = absurd (never (back .answer) (sym (ap (λ (m : Made). m .answer) (as-written n v)) ∙ e))
         where
           never : (y : RA.Answer) → tripOf y ≡ NotWritten x → ⊥
@@ -196,61 +198,61 @@ module _ (rate type : ℕ) (idx : List ℕ) (codebook thresholds : List ℤ) (ou
   meets small e = (e, (subst ComesBack (sym e) (comes-back small), (subst Unread (sym e) unread, subst Unwritten (sym e) unwritten)))
 
   -- ---- the code's ends, from what the writer and the reader ensure
-  ends : (x : WA.Answer) (o : List ℕ) → W.outcome x o ≡ writing rate type idx out
-      → afterWriting codebook thresholds index report o x ≡ trip rate type idx codebook thresholds out index report
+  ends : (x : WA.Answer) (o : List ℕ) → W.outcome x o ≡ writing settings idx out
+      → afterWriting codebook thresholds index report o x ≡ trip settings idx codebook thresholds out index report
   unfolding trip
   ends x o e = ap (λ (q : W.Outcome). afterWriting codebook thresholds index report (q .output) (q .answer)) e
 
-  pub ends-unwritten : (x : WA.Answer) (o : List ℕ) (r : WR.Writing) → W.outcome x o ≡ writing rate type idx out → x ≡ Refused r
-      → made (NotWritten r) o index report ≡ trip rate type idx codebook thresholds out index report
+  pub ends-unwritten : (x : WA.Answer) (o : List ℕ) (r : WR.Writing) → W.outcome x o ≡ writing settings idx out → x ≡ Refused r
+      → made (NotWritten r) o index report ≡ trip settings idx codebook thresholds out index report
   ends-unwritten x o r e ex = ap (afterWriting codebook thresholds index report o) (sym ex) ∙ ends x o e
 
-  pub ends-read : (x : WA.Answer) (o : List ℕ) (n : ℕ) (y : RA.Answer) (i′ r′ : List ℕ) (t : Trip) → W.outcome x o ≡ writing rate type idx out → x ≡ Written n
+  pub ends-read : (x : WA.Answer) (o : List ℕ) (n : ℕ) (y : RA.Answer) (i′ r′ : List ℕ) (t : Trip) → W.outcome x o ≡ writing settings idx out → x ≡ Written n
       → outcome y i′ r′ ≡ reading (take n o) codebook thresholds index report → tripOf y ≡ t
-      → made t o i′ r′ ≡ trip rate type idx codebook thresholds out index report
+      → made t o i′ r′ ≡ trip settings idx codebook thresholds out index report
   ends-read x o n y i′ r′ t e ex er et =
       ap (λ (z : Trip). made z o i′ r′) (sym et) ∙ ap (λ (q : Outcome). made (tripOf (q .answer)) o (q .index) (q .report)) er
       ∙ ap (afterWriting codebook thresholds index report o) (sym ex) ∙ ends x o e
 
   -- what was written lies inside the output
-  pub fits-output : (x : WA.Answer) (o : List ℕ) (n : ℕ) → W.outcome x o ≡ writing rate type idx out → x ≡ Written n → n ≤ length o
+  pub fits-output : (x : WA.Answer) (o : List ℕ) (n : ℕ) → W.outcome x o ≡ writing settings idx out → x ≡ Written n → n ≤ length o
   unfolding writing
   fits-output x o n e ex =
-      let v : verdict rate type idx (length out) ≡ Written n = sym (ap (λ (q : W.Outcome). q .answer) e ∙ answered (verdict rate type idx (length out))) ∙ ex in
-      let a = accepted rate type idx (length out) n v in
-      let l : length o ≡ length out = ap (λ (q : W.Outcome). length (q .output)) e ∙ same-length (verdict rate type idx (length out)) refl in
+      let v : verdict settings idx (length out) ≡ Written n = sym (ap (λ (q : W.Outcome). q .answer) e ∙ answered (verdict settings idx (length out))) ∙ ex in
+      let a = accepted settings idx (length out) n v in
+      let l : length o ≡ length out = ap (λ (q : W.Outcome). length (q .output)) e ∙ same-length (verdict settings idx (length out)) refl in
       omega (arith, a .octets-needed, a .room)
     where
-      answered : (v : WA.Answer) → W.finished rate type idx out v .answer ≡ v
+      answered : (v : WA.Answer) → W.finished settings idx out v .answer ≡ v
       answered (Written k) = refl
       answered (Refused r) = refl
 
-      same-length : (v : WA.Answer) → verdict rate type idx (length out) ≡ v → length (W.finished rate type idx out v .output) ≡ length out
+      same-length : (v : WA.Answer) → verdict settings idx (length out) ≡ v → length (W.finished settings idx out v .output) ≡ length out
       same-length (Written k) ev =
-          let b = accepted rate type idx (length out) k ev in
-          length-over out (W.image rate type idx (multiframesFor (frameCount idx))) 0 k (omega (arith, b .octets-needed, b .room))
-          (length-image rate type idx (multiframesFor (frameCount idx)) ∙ sym (b .octets-needed))
+          let b = accepted settings idx (length out) k ev in
+          length-over out (W.image settings idx (multiframesFor (frameCount idx))) 0 k (omega (arith, b .octets-needed, b .room))
+          (length-image settings idx (multiframesFor (frameCount idx)) ∙ sym (b .octets-needed))
       same-length (Refused r) ev = refl
 
 -- ---- BOTH REFUSALS ARE MET
 -- every utterance that is written and then read with a codebook of another size is unread, with refusal 11
 pub wrong-tables : (u : Utterance) (codebook thresholds : List ℤ) (out index report : List ℕ) → needed (u .indices) ≤ length out → (length codebook ≡ codebookNumbers → ⊥)
-    → trip (u .rate) (u .kind) (u .indices) codebook thresholds out index report
-    ≡ made (NotRead WrongTables) (imaged (u .rate) (u .kind) (u .indices) (needed (u .indices)) out) index report
+    → trip (u .settings) (u .indices) codebook thresholds out index report
+    ≡ made (NotRead WrongTables) (imaged (u .settings) (u .indices) (needed (u .indices)) out) index report
 wrong-tables u codebook thresholds out index report room wrong =
     let a = is-accepted u in
-    as-written (u .rate) (u .kind) (u .indices) codebook thresholds out index report (needed (u .indices))
-    (accepts (u .rate) (u .kind) (u .indices) (length out) (a .sizes) (a .narrow-indices) (a .speaks) room)
-    ∙ ap (λ (q : Outcome). made (tripOf (q .answer)) (imaged (u .rate) (u .kind) (u .indices) (needed (u .indices)) out) (q .index) (q .report))
+    as-written (u .settings) (u .indices) codebook thresholds out index report (needed (u .indices))
+    (accepts (u .settings) (u .indices) (length out) (a .sizes) (a .narrow-indices) (a .speaks) room)
+    ∙ ap (λ (q : Outcome). made (tripOf (q .answer)) (imaged (u .settings) (u .indices) (needed (u .indices)) out) (q .index) (q .report))
     (sym (wrong-codebook (imageOf u) codebook thresholds index report wrong))
 
 -- so is 01's frame 1 with no codebook at all: its 144 octets stand in the output, and the octet beyond is as it came
-pub unread-1 : trip 0 0 (lone 1) [] zeroThresholds (replicate 145 255) (indexFor 1) (reportFor 1)
+pub unread-1 : trip (settings 0 0) (lone 1) [] zeroThresholds (replicate 145 255) (indexFor 1) (reportFor 1)
     ≡ made (NotRead WrongTables) (imageOf says1 ++ (255 ∷ [])) (indexFor 1) (reportFor 1)
 unread-1 = wrong-tables says1 [] zeroThresholds (replicate 145 255) (indexFor 1) (reportFor 1) (omega arith) (λ e. omega arith)
 
 -- and a rate of 2 is not written
-pub unwritten-2 : trip 2 0 (lone 1) zeroBook zeroThresholds (replicate 145 255) (indexFor 1) (reportFor 1)
-    ≡ made (NotWritten Settings) (replicate 145 255) (indexFor 1) (reportFor 1)
+pub unwritten-2 : trip (settings 2 0) (lone 1) zeroBook zeroThresholds (replicate 145 255) (indexFor 1) (reportFor 1)
+    ≡ made (NotWritten WrongSettings) (replicate 145 255) (indexFor 1) (reportFor 1)
 unfolding verdict
-unwritten-2 = not-written 2 0 (lone 1) zeroBook zeroThresholds (replicate 145 255) (indexFor 1) (reportFor 1) Settings refl
+unwritten-2 = not-written (settings 2 0) (lone 1) zeroBook zeroThresholds (replicate 145 255) (indexFor 1) (reportFor 1) WrongSettings refl

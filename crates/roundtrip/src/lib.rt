@@ -1,5 +1,6 @@
 // Writing and reading back in one call, for whoever checks a terminal before it leaves: the theorem "reads back" at work.
 use reader::Summary;
+use settings::Settings;
 ghost use mathlib.Core.Path.{_≡_};
 ghost use Rattle.roundtrip.specs.Trip.{made, trip, ComesBack, Unread, Unwritten};
 
@@ -14,8 +15,7 @@ pub enum Trip {
 // accepts comes back whole, with the same settings, its frames and zeros after them in index and no note in report, if the tables are 01's
 // and there is room. If the reader refuses, out holds the image, and index and report are as they came; if the writer refuses, all three are.
 pub fn write_and_read(
-    rate: u8,
-    kind: u8,
+    settings: Settings,
     indices: &[u8],
     codebook: &[i32],
     thresholds: &[i32],
@@ -23,12 +23,12 @@ pub fn write_and_read(
     index: &mut [u8],
     report: &mut [u8],
 ) -> Trip
-    ensures all { λ r. ⌜ made r (now (out .exit)) (now (index .exit)) (now (report .exit)) ≡ trip rate kind (now (indices .entry)) (now (codebook .entry)) (now (thresholds .entry)) (now (out .entry)) (now (index .entry)) (now (report .entry)) ⌝ }
-    ensures back { λ r. ⌜ ComesBack rate kind (now (indices .entry)) (now (codebook .entry)) (now (thresholds .entry)) (now (out .entry)) (now (index .entry)) (now (report .entry)) (made r (now (out .exit)) (now (index .exit)) (now (report .exit))) ⌝ }
-    ensures unread { λ r. ⌜ Unread rate kind (now (indices .entry)) (now (codebook .entry)) (now (thresholds .entry)) (now (out .entry)) (now (index .entry)) (now (report .entry)) (made r (now (out .exit)) (now (index .exit)) (now (report .exit))) ⌝ }
-    ensures unwritten { λ r. ⌜ Unwritten rate kind (now (indices .entry)) (now (codebook .entry)) (now (thresholds .entry)) (now (out .entry)) (now (index .entry)) (now (report .entry)) (made r (now (out .exit)) (now (index .exit)) (now (report .exit))) ⌝ }
+    ensures all { λ r. ⌜ made r (now (out .exit)) (now (index .exit)) (now (report .exit)) ≡ trip settings (now (indices .entry)) (now (codebook .entry)) (now (thresholds .entry)) (now (out .entry)) (now (index .entry)) (now (report .entry)) ⌝ }
+    ensures back { λ r. ⌜ ComesBack settings (now (indices .entry)) (now (codebook .entry)) (now (thresholds .entry)) (now (out .entry)) (now (index .entry)) (now (report .entry)) (made r (now (out .exit)) (now (index .exit)) (now (report .exit))) ⌝ }
+    ensures unread { λ r. ⌜ Unread settings (now (indices .entry)) (now (codebook .entry)) (now (thresholds .entry)) (now (out .entry)) (now (index .entry)) (now (report .entry)) (made r (now (out .exit)) (now (index .exit)) (now (report .exit))) ⌝ }
+    ensures unwritten { λ r. ⌜ Unwritten settings (now (indices .entry)) (now (codebook .entry)) (now (thresholds .entry)) (now (out .entry)) (now (index .entry)) (now (report .entry)) (made r (now (out .exit)) (now (index .exit)) (now (report .exit))) ⌝ }
 {
-    match writer::write(rate, kind, indices, out) {
+    match writer::write(settings, indices, out) {
         writer::Answer::Written { octets } => {
             match reader::read(&out[..octets], codebook, thresholds, index, report) {
                 reader::Answer::Read(s) => Trip::Back(s),

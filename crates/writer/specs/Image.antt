@@ -4,7 +4,6 @@ use mathlib.Core.Path.{_≡_, refl, sym, ap, _∙_, subst}
 use mathlib.Core.Bool.{Bool, true, false}
 use mathlib.Core.List.{List, _++_}
 use Prim.Native.Nat.{ℕ, zero, suc, _+_, _-_, _*_, _/_, _%_, _^_, _≤_, _<_}
-use native.Mathlib.Nat.{mod-eq-of-lt}
 use native.Mathlib.Decide.{ℕ-discrete, decLt}
 use native.Mathlib.Omega.{arith}
 use lib.Dec.{eqb, ltb}
@@ -12,8 +11,10 @@ use lib.ListN.{length, getD, List·getD-eq-default}
 use lib.Pow.{pow-pos}
 use lib.Seq.{ext-getD}
 use borrow.Author.Tests.{eqb-false, ltb-false}
-use Rattle.lists.specs.Tests.{when, true-false}
+use Rattle.lists.specs.Tests.{true-false}
 use Rattle.lists.specs.Parts.{part, over}
+use Rattle.settings.specs.declared.Settings.{Settings}
+use Rattle.settings.specs.Settings.{settingsRight, rate-right, kind-right, right-not-2}
 use Rattle.layout.specs.Layout.{widths, frameIndices, multiframeFrames, multiframePairs, multiframeOctets, headerOctets, streamOctets, firstFrame, secondFrame, firstPair, sync}
 use Rattle.frames.specs.Frames.{Nonzero, unzero}
 use Rattle.bits.specs.Bits.{field, octets, Fits}
@@ -21,8 +22,8 @@ use Rattle.packet.specs.Packet.{stream, packetOf, frameAt}
 use Rattle.packet.specs.Laws.{stream-part, length-stream, fits-frame, getD-row, packetOf-same}
 use Rattle.header_code.specs.Code.{codeword}
 use Rattle.header_code.specs.Code.Distance.{codeword-lt, codeword-low}
-use Rattle.header.specs.Message.{message, rateOf, typeOf}
-use Rattle.header.specs.Message.Laws.{message-lt, rate-back, type-back}
+use Rattle.header.specs.Message.{message, settingsOf}
+use Rattle.header.specs.Message.Laws.{message-lt, settings-back}
 use Rattle.writer.specs.Writing.{Search, at, nowhere, firstFrom, isFound, frameCount, isWide, endsEarly, multiframesFor, needed, verdict, multiframe, image, outcome, finished, writing}
 use Rattle.writer.specs.Laws.{first-nowhere, early-last, early-boundary, length-image, Accepted, accepted, accepts}
 use Rattle.writer.specs.declared.Answer.{Answer}
@@ -31,45 +32,45 @@ use Rattle.writer.specs.declared.Answer.the-variants.{Written, Refused}
 use Rattle.writer.specs.Made.{syncIn, headerIn, wordIn, streamIn, packetIn, framed, made, Small, made-part, made-sync, made-header, made-word, made-stream, made-packet, small-made}
 
 -- ---- the image is so made
-module _ (rate type : ℕ) (idx : List ℕ) where
+module _ (settings : Settings) (idx : List ℕ) where
   abbrev pub words : ℕ → ℕ
-  words k = codeword (message rate type (k + 1) 0)
+  words k = codeword (message settings (k + 1) 0)
 
   abbrev pub streams : ℕ → List Bool
   streams k = stream idx (firstPair k) multiframePairs
 
-  pub image-made : (m : ℕ) → image rate type idx m ≡ made words streams m
+  pub image-made : (m : ℕ) → image settings idx m ≡ made words streams m
   unfolding image multiframe
   image-made zero = refl
   image-made (suc m) = ap (λ (l : List ℕ). l ++ framed (words m) (streams m)) (image-made m)
 
   -- ITS k-TH MULTIFRAME
-  pub image-part : (m k : ℕ) → k < m → part (multiframeOctets * k) multiframeOctets (image rate type idx m) ≡ multiframe rate type idx k
+  pub image-part : (m k : ℕ) → k < m → part (multiframeOctets * k) multiframeOctets (image settings idx m) ≡ multiframe settings idx k
   unfolding multiframe
   image-part m k h = ap (part (multiframeOctets * k) multiframeOctets) (image-made m) ∙ made-part words streams m k h
 
-  pub image-small : (m : ℕ) → Small (image rate type idx m)
+  pub image-small : (m : ℕ) → Small (image settings idx m)
   image-small m = subst Small (sym (image-made m)) (small-made words streams m)
 
   module _ (m k : ℕ) (h : k < m) where
     -- EACH MULTIFRAME BEGINS WITH THE SYNC
-    pub image-sync : syncIn (image rate type idx m) k ≡ sync
+    pub image-sync : syncIn (image settings idx m) k ≡ sync
     image-sync = ap (λ (s : List ℕ). syncIn s k) (image-made m) ∙ made-sync words streams m k h
 
     -- ITS HEADER IS THE CODEWORD of the settings and the counter, 1 in the first
-    pub image-header : headerIn (image rate type idx m) k ≡ octets headerOctets (field 32 (codeword (message rate type (k + 1) 0)))
+    pub image-header : headerIn (image settings idx m) k ≡ octets headerOctets (field 32 (codeword (message settings (k + 1) 0)))
     image-header = ap (λ (s : List ℕ). headerIn s k) (image-made m) ∙ made-header words streams m k h
 
-    pub image-word : wordIn (image rate type idx m) k ≡ codeword (message rate type (k + 1) 0)
+    pub image-word : wordIn (image settings idx m) k ≡ codeword (message settings (k + 1) 0)
     image-word =
         ap (λ (s : List ℕ). wordIn s k) (image-made m)
-        ∙ made-word words streams m k h (codeword-lt (message rate type (k + 1) 0) (message-lt rate type (k + 1) 0))
+        ∙ made-word words streams m k h (codeword-lt (message settings (k + 1) 0) (message-lt settings (k + 1) 0))
 
-    pub image-stream : streamIn (image rate type idx m) k ≡ octets streamOctets (stream idx (firstPair k) multiframePairs)
+    pub image-stream : streamIn (image settings idx m) k ≡ octets streamOctets (stream idx (firstPair k) multiframePairs)
     image-stream = ap (λ (s : List ℕ). streamIn s k) (image-made m) ∙ made-stream words streams m k h
 
   -- ITS PACKETS are those of the pairs, which run on through all multiframes
-  pub image-packet : (m q : ℕ) → q < multiframePairs * m → packetIn (image rate type idx m) q ≡ packetOf idx q
+  pub image-packet : (m q : ℕ) → q < multiframePairs * m → packetIn (image settings idx m) q ≡ packetOf idx q
   image-packet m q h =
       let e : 12 * (q / 12) + q % 12 ≡ q = omega arith in
       let l : q % 12 < 12 = omega arith in
@@ -77,7 +78,7 @@ module _ (rate type : ℕ) (idx : List ℕ) where
       ∙ stream-part idx (firstPair (q / 12)) multiframePairs (q % 12) l ∙ ap (packetOf idx) e
 
 -- ---- what an accepted utterance has
-module _ (rate type : ℕ) (idx : List ℕ) (out n : ℕ) (a : Accepted rate type idx out n) where
+module _ (settings : Settings) (idx : List ℕ) (out n : ℕ) (a : Accepted settings idx out n) where
   -- ITS LAST FRAME IS NOT ZERO
   pub last-speaks : (k : ℕ) → k + 1 ≡ frameCount idx → Nonzero idx k
   last-speaks k e = unzero idx k (sym (early-last idx k e) ∙ first-nowhere (endsEarly idx) 0 (frameCount idx) (a .speaks) k (omega arith) (omega arith))
@@ -134,11 +135,10 @@ module _ (rate type : ℕ) (idx : List ℕ) (out n : ℕ) (a : Accepted rate typ
 
 -- ---- an utterance that the writer accepts, given room for its image
 pub record Utterance : Type 0 where
-  pub rate : ℕ
-  pub kind : ℕ
+  pub settings : Settings
   pub indices : List ℕ
   pub small : Small indices
-  pub written : verdict rate kind indices (needed indices) ≡ Written (needed indices)
+  pub written : verdict settings indices (needed indices) ≡ Written (needed indices)
 
 module _ (u : Utterance) where
   abbrev pub multiframesOf : ℕ
@@ -148,71 +148,53 @@ module _ (u : Utterance) where
   pairsOf = multiframePairs * multiframesOf
 
   abbrev pub imageOf : List ℕ
-  imageOf = image (u .rate) (u .kind) (u .indices) multiframesOf
+  imageOf = image (u .settings) (u .indices) multiframesOf
 
-  pub is-accepted : Accepted (u .rate) (u .kind) (u .indices) (needed (u .indices)) (needed (u .indices))
-  is-accepted = accepted (u .rate) (u .kind) (u .indices) (needed (u .indices)) (needed (u .indices)) (u .written)
+  pub is-accepted : Accepted (u .settings) (u .indices) (needed (u .indices)) (needed (u .indices))
+  is-accepted = accepted (u .settings) (u .indices) (needed (u .indices)) (needed (u .indices)) (u .written)
 
   -- the writer's answer and output, whatever is lent, if it is enough
   pub writes : (out : List ℕ) → needed (u .indices) ≤ length out
-      → writing (u .rate) (u .kind) (u .indices) out ≡ outcome (Written (needed (u .indices))) (over out 0 (needed (u .indices)) imageOf)
+      → writing (u .settings) (u .indices) out ≡ outcome (Written (needed (u .indices))) (over out 0 (needed (u .indices)) imageOf)
   unfolding writing
   writes out room =
       let a = is-accepted in
-      rw (accepts (u .rate) (u .kind) (u .indices) (length out) (a .sizes) (a .narrow-indices) (a .speaks) room)
+      rw (accepts (u .settings) (u .indices) (length out) (a .sizes) (a .narrow-indices) (a .speaks) room)
 
-  -- the settings fit their fields
-  pub rate-small : u .rate < 4
-  rate-small = bound (ltb 3 (u .rate)) refl (is-accepted .sizes .settings)
-    where
-      bound : (t : Bool) → ltb 3 (u .rate) ≡ t → when t false (when (eqb (u .rate) 2) false (when (ltb 1 (u .kind)) false true)) ≡ true → u .rate < 4
-      bound true e z = absurd (true-false (sym z))
-      bound false e z = omega (arith, ltb-false 3 (u .rate) e)
+  -- the settings are right, so they fit their fields
+  pub settings-right : settingsRight (u .settings) ≡ true
+  settings-right = is-accepted .sizes .right
 
-  pub kind-small : u .kind < 2
-  kind-small = bound (ltb 3 (u .rate)) (eqb (u .rate) 2) (ltb 1 (u .kind)) refl (is-accepted .sizes .settings)
-    where
-      bound : (s r t : Bool) → ltb 1 (u .kind) ≡ t → when s false (when r false (when t false true)) ≡ true → u .kind < 2
-      bound true r t e z = absurd (true-false (sym z))
-      bound false true t e z = absurd (true-false (sym z))
-      bound false false true e z = absurd (true-false (sym z))
-      bound false false false e z = omega (arith, ltb-false 1 (u .kind) e)
+  pub rate-small : u .settings .rate < 4
+  rate-small = rate-right (u .settings) settings-right
 
-  pub rate-not-2 : u .rate ≡ 2 → ⊥
-  rate-not-2 = bound (ltb 3 (u .rate)) (eqb (u .rate) 2) refl (is-accepted .sizes .settings)
-    where
-      bound : (s r : Bool) → eqb (u .rate) 2 ≡ r → when s false (when r false (when (ltb 1 (u .kind)) false true)) ≡ true → u .rate ≡ 2 → ⊥
-      bound true r e z = absurd (true-false (sym z))
-      bound false true e z = absurd (true-false (sym z))
-      bound false false e z = eqb-false (u .rate) 2 e
+  pub kind-small : u .settings .kind < 2
+  kind-small = kind-right (u .settings) settings-right
+
+  pub rate-not-2 : u .settings .rate ≡ 2 → ⊥
+  rate-not-2 = right-not-2 (u .settings) settings-right
 
   pub whole-frames : length (u .indices) ≡ frameIndices * frameCount (u .indices)
   whole-frames = omega (arith, is-accepted .sizes .whole)
 
   pub fits-each-frame : (k : ℕ) → Fits widths (frameAt (u .indices) k)
-  fits-each-frame = fits (u .rate) (u .kind) (u .indices) (needed (u .indices)) (needed (u .indices)) is-accepted (u .small)
+  fits-each-frame = fits (u .settings) (u .indices) (needed (u .indices)) (needed (u .indices)) is-accepted (u .small)
 
 -- what the writer answered with some room, it would with just enough
-pub utterance : (rate kind : ℕ) (indices : List ℕ) (out n : ℕ) → Small indices → verdict rate kind indices out ≡ Written n → Utterance
-utterance rate kind indices out n small e =
-    let a = accepted rate kind indices out n e in
+pub utterance : (settings : Settings) (indices : List ℕ) (out n : ℕ) → Small indices → verdict settings indices out ≡ Written n → Utterance
+utterance settings indices out n small e =
+    let a = accepted settings indices out n e in
     record {
-      rate = rate;
-      kind = kind;
+      settings = settings;
       indices = indices;
       small = small;
-      written = accepts rate kind indices (needed indices) (a .sizes) (a .narrow-indices) (a .speaks) (omega arith);
+      written = accepts settings indices (needed indices) (a .sizes) (a .narrow-indices) (a .speaks) (omega arith);
     }
 
 -- ---- TWO ACCEPTED UTTERANCES WITH THE SAME IMAGE ARE THE SAME UTTERANCE
 -- settings of one codeword
-pub same-settings : (u v : Utterance) (c : ℕ) → message (u .rate) (u .kind) c 0 ≡ message (v .rate) (v .kind) c 0 → (u .rate ≡ v .rate) × (u .kind ≡ v .kind)
-same-settings u v c e = (
-  sym (mod-eq-of-lt (rate-small u)) ∙ sym (rate-back (u .rate) (u .kind) c 0) ∙ ap rateOf e ∙ rate-back (v .rate) (v .kind) c 0
-      ∙ mod-eq-of-lt (rate-small v),
-  sym (mod-eq-of-lt (kind-small u)) ∙ sym (type-back (u .rate) (u .kind) c 0) ∙ ap typeOf e ∙ type-back (v .rate) (v .kind) c 0
-      ∙ mod-eq-of-lt (kind-small v),
-)
+pub same-settings : (u v : Utterance) (c : ℕ) → message (u .settings) c 0 ≡ message (v .settings) c 0 → u .settings ≡ v .settings
+same-settings u v c e = sym (settings-back (u .settings) c 0 (settings-right u)) ∙ ap settingsOf e ∙ settings-back (v .settings) c 0 (settings-right v)
 
 -- frames of one packet
 pub same-pair : (u v : Utterance) (q : ℕ) → packetOf (u .indices) q ≡ packetOf (v .indices) q
@@ -230,7 +212,7 @@ module _ (u v : Utterance) (same : (i : ℕ) → getD (u .indices) i 0 ≡ getD 
       by (no d) = omega arith
       by (yes h) =
           let k = frameCount (v .indices) - 1 in
-          let l = last-speaks (v .rate) (v .kind) (v .indices) (needed (v .indices)) (needed (v .indices)) (is-accepted v) k (omega arith) in
+          let l = last-speaks (v .settings) (v .indices) (needed (v .indices)) (needed (v .indices)) (is-accepted v) k (omega arith) in
           absurd (l .nonzero (sym (same (7 * k + l .place)) ∙ List·getD-eq-default (u .indices) 0 (omega (arith, whole-frames u))))
 
 module _ (u v : Utterance) (count : multiframesOf u ≡ multiframesOf v) (packets : (q : ℕ) → q < pairsOf u → packetOf (u .indices) q ≡ packetOf (v .indices) q) where
@@ -261,38 +243,38 @@ module _ (u v : Utterance) (count : multiframesOf u ≡ multiframesOf v) (packet
       let b = no-more v u (λ i. sym (same-index i)) in
       ext-getD 0 (u .indices) (v .indices) (omega (arith, whole-frames u, whole-frames v)) (λ i h. same-index i)
 
-pub same-image : (u v : Utterance) → imageOf u ≡ imageOf v → (u .rate ≡ v .rate) × (u .kind ≡ v .kind) × (u .indices ≡ v .indices)
-same-image u v e = (s .0, s .1, same-indices u v count packets)
+pub same-image : (u v : Utterance) → imageOf u ≡ imageOf v → (u .settings ≡ v .settings) × (u .indices ≡ v .indices)
+same-image u v e = (s, same-indices u v count packets)
   where
     count : multiframesOf u ≡ multiframesOf v
     count =
-        omega (arith, length-image (u .rate) (u .kind) (u .indices) (multiframesOf u), length-image (v .rate) (v .kind) (v .indices) (multiframesOf v), ap length e)
+        omega (arith, length-image (u .settings) (u .indices) (multiframesOf u), length-image (v .settings) (v .indices) (multiframesOf v), ap length e)
 
-    message-of : (w : Utterance) → wordIn (imageOf w) 0 % 2 ^ 16 ≡ message (w .rate) (w .kind) 1 0
+    message-of : (w : Utterance) → wordIn (imageOf w) 0 % 2 ^ 16 ≡ message (w .settings) 1 0
     message-of w =
-        ap (λ (x : ℕ). x % 2 ^ 16) (image-word (w .rate) (w .kind) (w .indices) (multiframesOf w) 0 (omega arith))
-        ∙ codeword-low (message (w .rate) (w .kind) 1 0) (message-lt (w .rate) (w .kind) 1 0)
+        ap (λ (x : ℕ). x % 2 ^ 16) (image-word (w .settings) (w .indices) (multiframesOf w) 0 (omega arith))
+        ∙ codeword-low (message (w .settings) 1 0) (message-lt (w .settings) 1 0)
 
-    s : (u .rate ≡ v .rate) × (u .kind ≡ v .kind)
+    s : u .settings ≡ v .settings
     s = same-settings u v 1 (sym (message-of u) ∙ ap (λ (l : List ℕ). wordIn l 0 % 2 ^ 16) e ∙ message-of v)
 
     packets : (q : ℕ) → q < pairsOf u → packetOf (u .indices) q ≡ packetOf (v .indices) q
     packets q h =
-        sym (image-packet (u .rate) (u .kind) (u .indices) (multiframesOf u) q h) ∙ ap (λ (l : List ℕ). packetIn l q) e
-        ∙ image-packet (v .rate) (v .kind) (v .indices) (multiframesOf v) q (omega (arith, count))
+        sym (image-packet (u .settings) (u .indices) (multiframesOf u) q h) ∙ ap (λ (l : List ℕ). packetIn l q) e
+        ∙ image-packet (v .settings) (v .indices) (multiframesOf v) q (omega (arith, count))
 
 -- ---- what success says: the octets needed, and the image over the output's front
-pub success : (rate type : ℕ) (idx out : List ℕ) (n : ℕ) → writing rate type idx out .answer ≡ Written n
-    → (n ≡ needed idx) × (writing rate type idx out .output ≡ over out 0 n (image rate type idx (multiframesFor (frameCount idx))))
+pub success : (settings : Settings) (idx out : List ℕ) (n : ℕ) → writing settings idx out .answer ≡ Written n
+    → (n ≡ needed idx) × (writing settings idx out .output ≡ over out 0 n (image settings idx (multiframesFor (frameCount idx))))
 unfolding writing
-success rate type idx out n e = by (verdict rate type idx (length out)) refl e
+success settings idx out n e = by (verdict settings idx (length out)) refl e
   where
-    by : (v : Answer) → verdict rate type idx (length out) ≡ v → finished rate type idx out v .answer ≡ Written n
-        → (n ≡ needed idx) × (finished rate type idx out (verdict rate type idx (length out)) .output ≡ over out 0 n (image rate type idx (multiframesFor (frameCount idx))))
+    by : (v : Answer) → verdict settings idx (length out) ≡ v → finished settings idx out v .answer ≡ Written n
+        → (n ≡ needed idx) × (finished settings idx out (verdict settings idx (length out)) .output ≡ over out 0 n (image settings idx (multiframesFor (frameCount idx))))
     by (Refused r) f e = absurd (other r e)
       where
         other : (r : Refusal) → Refused r ≡ Written n → ⊥
         other r e = let z : _≡_ {A = ℕ} 0 1 = cc in omega arith
     by (Written k) f e =
-        let g : verdict rate type idx (length out) ≡ Written n = f ∙ e in
-        (accepted rate type idx (length out) n g .octets-needed, ap (λ (v : Answer). finished rate type idx out v .output) g)
+        let g : verdict settings idx (length out) ≡ Written n = f ∙ e in
+        (accepted settings idx (length out) n g .octets-needed, ap (λ (v : Answer). finished settings idx out v .output) g)

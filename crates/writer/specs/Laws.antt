@@ -12,6 +12,8 @@ use lib.Dec.{eqb, ltb}
 use borrow.Author.Tests.{eq-eqb, ne-eqb, lt-ltb, le-ltb, eqb-true, ltb-false}
 use Rattle.lists.specs.Tests.{when, by-test}
 use Rattle.lists.specs.Parts.{over, over-none, behind}
+use Rattle.settings.specs.declared.Settings.{Settings}
+use Rattle.settings.specs.Settings.{settingsRight}
 use Rattle.layout.specs.Layout.{frameIndices, multiframeFrames, multiframePairs, multiframeOctets, syncOctets, headerOctets, streamOctets, mostFrames, mostMultiframes, firstPair, sync, syncWord}
 use Rattle.frames.specs.Frames.{zeroFrame}
 use Rattle.bits.specs.Bits.{field, octets, numbers, value}
@@ -19,9 +21,10 @@ use Rattle.bits.specs.Laws.{length-octets}
 use Rattle.packet.specs.Packet.{stream}
 use Rattle.header_code.specs.Code.{codeword}
 use Rattle.header.specs.Message.{message}
-use Rattle.writer.specs.Writing.{Search, at, nowhere, firstFrom, settingsRight, frameCount, isWide, endsEarly, firstWide, firstEarly, roomAnswer, earlyAnswer, wideAnswer, needed, verdict, multiframesFor, multiframe, image, outcome, finished, writing, Outcome, numberOf, placeOf}
+use Rattle.writer.specs.Writing.{Search, at, nowhere, firstFrom, frameCount, endsEarly, firstWide, firstEarly, roomAnswer, earlyAnswer, wideAnswer, needed, verdict, multiframesFor, multiframe, image, outcome, writing, Outcome, numberOf, placeOf, isWide, finished}
 use Rattle.refusals.specs.declared.Writing.{Writing as Refusal}
 use Rattle.writer.specs.declared.Answer.{Answer}
+use Rattle.writer.specs.declared.Refusal.the-variants.{Settings as WrongSettings}
 use Rattle.refusals.specs.declared.Writing.the-variants.{Settings, PartFrame, TooMany, WideIndex, ZeroFrame, OutputShort}
 use Rattle.writer.specs.declared.Answer.the-variants.{Written, Refused}
 use Rattle.writer.specs.declared.Found.{Found}
@@ -93,46 +96,46 @@ first-nowhere f k n e = subst (Says f k n) e (first-says f k n)
 
 -- ---- the answers, one by one, in 01's order
 -- the settings are right, the frames whole and not too many
-pub record Sized (rate type : ℕ) (idx : List ℕ) : Type 0 where
-  pub settings : settingsRight rate type ≡ true
+pub record Sized (settings : Settings) (idx : List ℕ) : Type 0 where
+  pub right : settingsRight settings ≡ true
   pub whole : length idx % frameIndices ≡ 0
   pub few : frameCount idx ≤ mostFrames
 
-module _ (rate type : ℕ) (idx : List ℕ) (out : ℕ) where
-  pub refuses-settings : settingsRight rate type ≡ false → verdict rate type idx out ≡ Refused Settings
+module _ (settings : Settings) (idx : List ℕ) (out : ℕ) where
+  pub refuses-settings : settingsRight settings ≡ false → verdict settings idx out ≡ Refused WrongSettings
   unfolding verdict
   refuses-settings e = rw e
 
-  pub refuses-part : settingsRight rate type ≡ true → (length idx % frameIndices ≡ 0 → ⊥) → verdict rate type idx out ≡ Refused (PartFrame (length idx))
+  pub refuses-part : settingsRight settings ≡ true → (length idx % frameIndices ≡ 0 → ⊥) → verdict settings idx out ≡ Refused (PartFrame (length idx))
   unfolding verdict
   refuses-part e n = rw (e, ne-eqb (length idx % frameIndices) 0 n)
 
-  pub refuses-many : settingsRight rate type ≡ true → length idx % frameIndices ≡ 0 → mostFrames < frameCount idx
-      → verdict rate type idx out ≡ Refused (TooMany (frameCount idx))
+  pub refuses-many : settingsRight settings ≡ true → length idx % frameIndices ≡ 0 → mostFrames < frameCount idx
+      → verdict settings idx out ≡ Refused (TooMany (frameCount idx))
   unfolding verdict
   refuses-many e w h = rw (e, eq-eqb (length idx % frameIndices) 0 w, lt-ltb mostFrames (frameCount idx) h)
 
-  sized : Sized rate type idx → verdict rate type idx out ≡ wideAnswer out (needed idx) (firstEarly idx) (firstWide idx)
+  sized : Sized settings idx → verdict settings idx out ≡ wideAnswer out (needed idx) (firstEarly idx) (firstWide idx)
   unfolding verdict
-  sized s = rw (s .settings, eq-eqb (length idx % frameIndices) 0 (s .whole), le-ltb mostFrames (frameCount idx) (s .few))
+  sized s = rw (s .right, eq-eqb (length idx % frameIndices) 0 (s .whole), le-ltb mostFrames (frameCount idx) (s .few))
 
-  pub refuses-wide : Sized rate type idx → (k : ℕ) → firstWide idx ≡ at k → verdict rate type idx out ≡ Refused (WideIndex (record { 0 = k }))
+  pub refuses-wide : Sized settings idx → (k : ℕ) → firstWide idx ≡ at k → verdict settings idx out ≡ Refused (WideIndex (record { 0 = k }))
   refuses-wide s k e = sized s ∙ ap (wideAnswer out (needed idx) (firstEarly idx)) e
 
-  narrow : Sized rate type idx → firstWide idx ≡ nowhere → verdict rate type idx out ≡ earlyAnswer out (needed idx) (firstEarly idx)
+  narrow : Sized settings idx → firstWide idx ≡ nowhere → verdict settings idx out ≡ earlyAnswer out (needed idx) (firstEarly idx)
   narrow s e = sized s ∙ ap (wideAnswer out (needed idx) (firstEarly idx)) e
 
-  pub refuses-zero : Sized rate type idx → firstWide idx ≡ nowhere → (k : ℕ) → firstEarly idx ≡ at k
-      → verdict rate type idx out ≡ Refused (ZeroFrame (record { 0 = k }))
+  pub refuses-zero : Sized settings idx → firstWide idx ≡ nowhere → (k : ℕ) → firstEarly idx ≡ at k
+      → verdict settings idx out ≡ Refused (ZeroFrame (record { 0 = k }))
   refuses-zero s e k g = narrow s e ∙ ap (earlyAnswer out (needed idx)) g
 
-  pub refuses-short : Sized rate type idx → firstWide idx ≡ nowhere → firstEarly idx ≡ nowhere → out < needed idx
-      → verdict rate type idx out ≡ Refused (OutputShort (needed idx))
+  pub refuses-short : Sized settings idx → firstWide idx ≡ nowhere → firstEarly idx ≡ nowhere → out < needed idx
+      → verdict settings idx out ≡ Refused (OutputShort (needed idx))
   unfolding roomAnswer
   refuses-short s e g h = narrow s e ∙ ap (earlyAnswer out (needed idx)) g ∙ rw (lt-ltb out (needed idx) h)
 
-  pub accepts : Sized rate type idx → firstWide idx ≡ nowhere → firstEarly idx ≡ nowhere → needed idx ≤ out
-      → verdict rate type idx out ≡ Written (needed idx)
+  pub accepts : Sized settings idx → firstWide idx ≡ nowhere → firstEarly idx ≡ nowhere → needed idx ≤ out
+      → verdict settings idx out ≡ Written (needed idx)
   unfolding roomAnswer
   accepts s e g h = narrow s e ∙ ap (earlyAnswer out (needed idx)) g ∙ rw (le-ltb out (needed idx) h)
 
@@ -141,16 +144,16 @@ sync-octets : octets syncOctets (field (8 * syncOctets) syncWord) ≡ sync
 unfolding field numbers value
 sync-octets = refl
 
-pub laid-multiframe : (rate type : ℕ) (idx : List ℕ) (k word q : ℕ) (out synced headed done : List ℕ)
-    → multiframeOctets * k + multiframeOctets ≤ length out → word ≡ codeword (message rate type (k + 1) 0) → q ≡ firstPair k
+pub laid-multiframe : (settings : Settings) (idx : List ℕ) (k word q : ℕ) (out synced headed done : List ℕ)
+    → multiframeOctets * k + multiframeOctets ≤ length out → word ≡ codeword (message settings (k + 1) 0) → q ≡ firstPair k
     → synced ≡ over out (multiframeOctets * k) syncOctets (octets syncOctets (field (8 * syncOctets) syncWord))
     → headed ≡ over synced (multiframeOctets * k + 2) headerOctets (octets headerOctets (field 32 word))
     → done ≡ over headed (multiframeOctets * k + 2 + 4) streamOctets (octets streamOctets (stream idx q multiframePairs))
-    → done ≡ over out (multiframeOctets * k) multiframeOctets (multiframe rate type idx k)
+    → done ≡ over out (multiframeOctets * k) multiframeOctets (multiframe settings idx k)
 unfolding multiframe
-laid-multiframe rate type idx k word q out synced headed done room ew eq es eh ed =
+laid-multiframe settings idx k word q out synced headed done room ew eq es eh ed =
     let at = multiframeOctets * k in
-    let head = octets headerOctets (field 32 (codeword (message rate type (k + 1) 0))) in
+    let head = octets headerOctets (field 32 (codeword (message settings (k + 1) 0))) in
     let body = octets streamOctets (stream idx (firstPair k) multiframePairs) in
     let r₁ : at + 2 ≤ length out = omega arith in
     let r₂ : at + 6 ≤ length out = omega arith in
@@ -160,95 +163,95 @@ laid-multiframe rate type idx k word q out synced headed done room ew eq es eh e
     let p : at + 2 + 4 ≡ at + 6 = omega arith in
     let e₃ : done ≡ over headed (at + 6) 138 body =
     ed ∙ ap₂ (λ (x y : ℕ). over headed x 138 (octets streamOctets (stream idx y multiframePairs))) p eq in
-    let size : length (sync ++ head) ≡ 6 = ap (λ (n : ℕ). suc (suc n)) (length-octets 4 (field 32 (codeword (message rate type (k + 1) 0)))) in
+    let size : length (sync ++ head) ≡ 6 = ap (λ (n : ℕ). suc (suc n)) (length-octets 4 (field 32 (codeword (message settings (k + 1) 0)))) in
     behind out at 6 138 (sync ++ head) body r₂ size f e₃ ∙ ap (over out at 144) (append-assoc sync head body)
 
 -- ---- the image's length, and its multiframes one behind the other
-pub length-multiframe : (rate type : ℕ) (idx : List ℕ) (k : ℕ) → length (multiframe rate type idx k) ≡ multiframeOctets
+pub length-multiframe : (settings : Settings) (idx : List ℕ) (k : ℕ) → length (multiframe settings idx k) ≡ multiframeOctets
 unfolding multiframe
-length-multiframe rate type idx k =
+length-multiframe settings idx k =
     ap (λ (n : ℕ). suc (suc n))
-    (length-append (octets headerOctets (field 32 (codeword (message rate type (k + 1) 0)))) (octets streamOctets (stream idx (firstPair k) multiframePairs))
-    ∙ ap₂ _+_ (length-octets 4 (field 32 (codeword (message rate type (k + 1) 0)))) (length-octets 138 (stream idx (firstPair k) multiframePairs)))
+    (length-append (octets headerOctets (field 32 (codeword (message settings (k + 1) 0)))) (octets streamOctets (stream idx (firstPair k) multiframePairs))
+    ∙ ap₂ _+_ (length-octets 4 (field 32 (codeword (message settings (k + 1) 0)))) (length-octets 138 (stream idx (firstPair k) multiframePairs)))
 
-pub length-image : (rate type : ℕ) (idx : List ℕ) (m : ℕ) → length (image rate type idx m) ≡ multiframeOctets * m
+pub length-image : (settings : Settings) (idx : List ℕ) (m : ℕ) → length (image settings idx m) ≡ multiframeOctets * m
 unfolding image
-length-image rate type idx zero = refl
-length-image rate type idx (suc m) = rw (length-append, length-image rate type idx m, length-multiframe rate type idx m) (omega arith)
+length-image settings idx zero = refl
+length-image settings idx (suc m) = rw (length-append, length-image settings idx m, length-multiframe settings idx m) (omega arith)
 
-pub image-none : (rate type : ℕ) (idx out : List ℕ) → out ≡ over out 0 (multiframeOctets * 0) (image rate type idx 0)
+pub image-none : (settings : Settings) (idx out : List ℕ) → out ≡ over out 0 (multiframeOctets * 0) (image settings idx 0)
 unfolding image
-image-none rate type idx out = over-none out 0
+image-none settings idx out = over-none out 0
 
-pub image-more : (rate type : ℕ) (idx out : List ℕ) (k : ℕ) (was done : List ℕ) → multiframeOctets * k ≤ length out
-    → was ≡ over out 0 (multiframeOctets * k) (image rate type idx k)
-    → done ≡ over was (multiframeOctets * k) multiframeOctets (multiframe rate type idx k)
-    → done ≡ over out 0 (multiframeOctets * (k + 1)) (image rate type idx (k + 1))
+pub image-more : (settings : Settings) (idx out : List ℕ) (k : ℕ) (was done : List ℕ) → multiframeOctets * k ≤ length out
+    → was ≡ over out 0 (multiframeOctets * k) (image settings idx k)
+    → done ≡ over was (multiframeOctets * k) multiframeOctets (multiframe settings idx k)
+    → done ≡ over out 0 (multiframeOctets * (k + 1)) (image settings idx (k + 1))
 unfolding image
-image-more rate type idx out k was done room ew ed =
+image-more settings idx out k was done room ew ed =
     let e : multiframeOctets * k + multiframeOctets ≡ multiframeOctets * (k + 1) = omega arith in
     let z : multiframeOctets * k ≡ 0 + multiframeOctets * k = omega arith in
-    behind out 0 (multiframeOctets * k) multiframeOctets (image rate type idx k) (multiframe rate type idx k) (omega arith) (length-image rate type idx k) ew
-    (ed ∙ ap (λ (x : ℕ). over was x multiframeOctets (multiframe rate type idx k)) z)
-    ∙ ap₂ (λ (n : ℕ) (l : List ℕ). over out 0 n l) e (ap (image rate type idx) (sym (add-one k)))
+    behind out 0 (multiframeOctets * k) multiframeOctets (image settings idx k) (multiframe settings idx k) (omega arith) (length-image settings idx k) ew
+    (ed ∙ ap (λ (x : ℕ). over was x multiframeOctets (multiframe settings idx k)) z)
+    ∙ ap₂ (λ (n : ℕ) (l : List ℕ). over out 0 n l) e (ap (image settings idx) (sym (add-one k)))
 
 -- ---- what an accepted utterance has, and that this is enough
-pub record Accepted (rate type : ℕ) (idx : List ℕ) (out n : ℕ) : Type 0 where
-  pub sizes : Sized rate type idx
+pub record Accepted (settings : Settings) (idx : List ℕ) (out n : ℕ) : Type 0 where
+  pub sizes : Sized settings idx
   pub narrow-indices : firstWide idx ≡ nowhere
   pub speaks : firstEarly idx ≡ nowhere
   pub octets-needed : n ≡ needed idx
   pub room : needed idx ≤ out
 
-module _ (rate type : ℕ) (idx : List ℕ) (out : ℕ) where
+module _ (settings : Settings) (idx : List ℕ) (out : ℕ) where
   abbrev AcceptedBy : Answer → Type 0
-  AcceptedBy (Written n) = Accepted rate type idx out n
+  AcceptedBy (Written n) = Accepted settings idx out n
   AcceptedBy (Refused r) = Unit
 
-  accepted-by : AcceptedBy (verdict rate type idx out)
+  accepted-by : AcceptedBy (verdict settings idx out)
   unfolding verdict roomAnswer
   accepted-by =
-      by-test AcceptedBy (settingsRight rate type) (λ hs.
+      by-test AcceptedBy (settingsRight settings) (λ hs.
       by-test AcceptedBy (eqb (length idx % frameIndices) 0) (λ hw.
       by-test AcceptedBy (ltb mostFrames (frameCount idx)) (λ h. tt) (λ hf.
       wide (firstWide idx) refl
-      (record { settings = hs; whole = eqb-true (length idx % frameIndices) 0 hw; few = ltb-false mostFrames (frameCount idx) hf }))) (λ h. tt)) (λ h. tt)
+      (record { right = hs; whole = eqb-true (length idx % frameIndices) 0 hw; few = ltb-false mostFrames (frameCount idx) hf }))) (λ h. tt)) (λ h. tt)
     where
-      early : (s : Search) → firstEarly idx ≡ s → firstWide idx ≡ nowhere → Sized rate type idx → AcceptedBy (earlyAnswer out (needed idx) s)
+      early : (s : Search) → firstEarly idx ≡ s → firstWide idx ≡ nowhere → Sized settings idx → AcceptedBy (earlyAnswer out (needed idx) s)
       early (at k) e w z = tt
       early nowhere e w z =
           by-test AcceptedBy (ltb out (needed idx)) (λ h. tt)
           (λ h. record { sizes = z; narrow-indices = w; speaks = e; octets-needed = refl; room = ltb-false out (needed idx) h })
 
-      wide : (s : Search) → firstWide idx ≡ s → Sized rate type idx → AcceptedBy (wideAnswer out (needed idx) (firstEarly idx) s)
+      wide : (s : Search) → firstWide idx ≡ s → Sized settings idx → AcceptedBy (wideAnswer out (needed idx) (firstEarly idx) s)
       wide (at k) e z = tt
       wide nowhere e z = early (firstEarly idx) refl e z
 
-  pub accepted : (n : ℕ) → verdict rate type idx out ≡ Written n → Accepted rate type idx out n
+  pub accepted : (n : ℕ) → verdict settings idx out ≡ Written n → Accepted settings idx out n
   accepted n e = rw e at accepted-by
 
 -- 6,119 frames are 255 multiframes, and no accepted utterance has more
-pub few-multiframes : (rate type : ℕ) (idx : List ℕ) → Sized rate type idx → multiframesFor (frameCount idx) ≤ mostMultiframes
-few-multiframes rate type idx s = omega (arith, s .few)
+pub few-multiframes : (settings : Settings) (idx : List ℕ) → Sized settings idx → multiframesFor (frameCount idx) ≤ mostMultiframes
+few-multiframes settings idx s = omega (arith, s .few)
 
 -- the writer's end: the first n octets are the image, the rest is as it came
-pub finishes : (rate type : ℕ) (idx out done : List ℕ) (n : ℕ) → verdict rate type idx (length out) ≡ Written n
-    → done ≡ over out 0 (multiframeOctets * (n / multiframeOctets)) (image rate type idx (n / multiframeOctets))
-    → outcome (Written n) done ≡ writing rate type idx out
+pub finishes : (settings : Settings) (idx out done : List ℕ) (n : ℕ) → verdict settings idx (length out) ≡ Written n
+    → done ≡ over out 0 (multiframeOctets * (n / multiframeOctets)) (image settings idx (n / multiframeOctets))
+    → outcome (Written n) done ≡ writing settings idx out
 unfolding writing
-finishes rate type idx out done n e ed =
-    let a = accepted rate type idx (length out) n e in
+finishes settings idx out done n e ed =
+    let a = accepted settings idx (length out) n e in
     let q : n / multiframeOctets ≡ multiframesFor (frameCount idx) = omega (arith, a .octets-needed) in
     let p : multiframeOctets * multiframesFor (frameCount idx) ≡ n = sym (a .octets-needed) in
-    rw e (ap (outcome (Written n)) (ed ∙ ap (λ (m : ℕ). over out 0 (multiframeOctets * m) (image rate type idx m)) q
-    ∙ ap (λ (k : ℕ). over out 0 k (image rate type idx (multiframesFor (frameCount idx)))) p))
+    rw e (ap (outcome (Written n)) (ed ∙ ap (λ (m : ℕ). over out 0 (multiframeOctets * m) (image settings idx m)) q
+    ∙ ap (λ (k : ℕ). over out 0 k (image settings idx (multiframesFor (frameCount idx)))) p))
 
-pub leaves : (rate type : ℕ) (idx out : List ℕ) (r : Refusal) → verdict rate type idx (length out) ≡ Refused r → outcome (Refused r) out ≡ writing rate type idx out
+pub leaves : (settings : Settings) (idx out : List ℕ) (r : Refusal) → verdict settings idx (length out) ≡ Refused r → outcome (Refused r) out ≡ writing settings idx out
 unfolding writing
-leaves rate type idx out r e = rw e
+leaves settings idx out r e = rw e
 
 -- every place fits 64 bits, as the number of index octets does
-module _ (rate type : ℕ) (idx : List ℕ) (out : ℕ) (octets-fit : length idx < 2 ^ 64) where
+module _ (settings : Settings) (idx : List ℕ) (out : ℕ) (octets-fit : length idx < 2 ^ 64) where
   abbrev Fits : Answer → Type 0
   Fits a = placeOf a < 2 ^ 64
 
@@ -261,27 +264,27 @@ module _ (rate type : ℕ) (idx : List ℕ) (out : ℕ) (octets-fit : length idx
   wide-fits (at k) few h = omega (arith, h .1)
   wide-fits nowhere few h = early-fits (firstEarly idx) few (first-says (endsEarly idx) 0 (frameCount idx))
 
-  verdict-fits : Fits (verdict rate type idx out)
+  verdict-fits : Fits (verdict settings idx out)
   unfolding verdict
   verdict-fits =
-      by-test Fits (settingsRight rate type) (λ s.
+      by-test Fits (settingsRight settings) (λ s.
       by-test Fits (eqb (length idx % frameIndices) 0) (λ w.
       by-test Fits (ltb mostFrames (frameCount idx)) (λ f. omega arith) (λ f. wide-fits (firstWide idx) (ltb-false mostFrames (frameCount idx) f) (first-says (isWide idx) 0 (frameCount idx))))
       (λ w. octets-fit)) (λ s. omega arith)
 
-pub place-fits : (rate type : ℕ) (idx out : List ℕ) → length idx < 2 ^ 64 → placeOf (writing rate type idx out .answer) < 2 ^ 64
+pub place-fits : (settings : Settings) (idx out : List ℕ) → length idx < 2 ^ 64 → placeOf (writing settings idx out .answer) < 2 ^ 64
 unfolding writing
-place-fits rate type idx out h = by (verdict rate type idx (length out)) (verdict-fits rate type idx (length out) h)
+place-fits settings idx out h = by (verdict settings idx (length out)) (verdict-fits settings idx (length out) h)
   where
-    by : (a : Answer) → placeOf a < 2 ^ 64 → placeOf (finished rate type idx out a .answer) < 2 ^ 64
+    by : (a : Answer) → placeOf a < 2 ^ 64 → placeOf (finished settings idx out a .answer) < 2 ^ 64
     by (Written n) f = f
     by (Refused r) f = f
 
 -- what `writing` says of answer and output, it says of 01's number and place, and the place fits
-pub in-numbers : (rate type : ℕ) (idx out : List ℕ) {o : Outcome} → length idx < 2 ^ 64 → o ≡ writing rate type idx out
-    → (o ≡ writing rate type idx out)
-    × ((numberOf (o .answer) ≡ numberOf (writing rate type idx out .answer))
-    × ((placeOf (o .answer) ≡ placeOf (writing rate type idx out .answer)) × (placeOf (o .answer) < 2 ^ 64)))
-in-numbers rate type idx out h e =
+pub in-numbers : (settings : Settings) (idx out : List ℕ) {o : Outcome} → length idx < 2 ^ 64 → o ≡ writing settings idx out
+    → (o ≡ writing settings idx out)
+    × ((numberOf (o .answer) ≡ numberOf (writing settings idx out .answer))
+    × ((placeOf (o .answer) ≡ placeOf (writing settings idx out .answer)) × (placeOf (o .answer) < 2 ^ 64)))
+in-numbers settings idx out h e =
     let p = ap (λ (q : Outcome). placeOf (q .answer)) e in
-    (e, (ap (λ (q : Outcome). numberOf (q .answer)) e, (p, subst (λ (k : ℕ). k < 2 ^ 64) (sym p) (place-fits rate type idx out h))))
+    (e, (ap (λ (q : Outcome). numberOf (q .answer)) e, (p, subst (λ (k : ℕ). k < 2 ^ 64) (sym p) (place-fits settings idx out h))))

@@ -8,12 +8,15 @@ use lib.Dec.{eqb, ltb}
 use lib.ListN.{length, getD}
 use Rattle.lists.specs.Tests.{when}
 use Rattle.lists.specs.Parts.{over}
+use Rattle.settings.specs.declared.Settings.{Settings}
+use Rattle.settings.specs.Settings.{settingsRight}
 use Rattle.layout.specs.Layout.{frameIndices, multiframeFrames, multiframePairs, multiframeOctets, headerOctets, streamOctets, mostFrames, firstPair, sync}
 use Rattle.frames.specs.Frames.{zeroFrame}
 use Rattle.bits.specs.Bits.{field, octets}
 use Rattle.packet.specs.Packet.{stream}
 use Rattle.header_code.specs.Code.{codeword}
 use Rattle.header.specs.Message.{message}
+use Rattle.writer.specs.declared.Refusal.the-variants.{Settings as WrongSettings}
 use Rattle.refusals.specs.Refusals.{success, writingNumber, writingPlace}
 use Rattle.refusals.specs.declared.Writing.the-variants.{Settings, PartFrame, TooMany, WideIndex, ZeroFrame, OutputShort}
 use Rattle.writer.specs.declared.Answer.{Answer}
@@ -27,10 +30,6 @@ numberOf (Refused r) = writingNumber r
 abbrev pub placeOf : Answer → ℕ
 placeOf (Written n) = n
 placeOf (Refused r) = writingPlace r
-
--- ---- the settings: rate 0, 1 or 3, type 0 or 1
-abbrev pub settingsRight : ℕ → ℕ → Bool
-settingsRight rate type = when (ltb 3 rate) false (when (eqb rate 2) false (when (ltb 1 type) false true))
 
 -- ---- the first place at which a test holds
 pub data Search : Type 0 where
@@ -91,27 +90,27 @@ abbrev pub needed : List ℕ → ℕ
 needed idx = multiframeOctets * multiframesFor (frameCount idx)
 
 -- 1: settings. 2: no multiple of 7. 3: more than 6,119 frames
-unfoldable pub verdict : ℕ → ℕ → List ℕ → ℕ → Answer
-verdict rate type idx out =
-    when (settingsRight rate type)
+unfoldable pub verdict : Settings → List ℕ → ℕ → Answer
+verdict settings idx out =
+    when (settingsRight settings)
     (when (eqb (length idx % frameIndices) 0)
     (when (ltb mostFrames (frameCount idx)) (Refused (TooMany (frameCount idx)))
     (wideAnswer out (needed idx) (firstEarly idx) (firstWide idx)))
     (Refused (PartFrame (length idx))))
-    (Refused Settings)
+    (Refused WrongSettings)
 
 -- ---- the image
 -- multiframe k: sync 87 B2, the header's codeword with the counter 1 in the first and stepping modulo 16, and twelve packets; frames past
 -- the last are zeros
-unfoldable pub multiframe : ℕ → ℕ → List ℕ → ℕ → List ℕ
-multiframe rate type idx k =
+unfoldable pub multiframe : Settings → List ℕ → ℕ → List ℕ
+multiframe settings idx k =
     sync
-    ++ (octets headerOctets (field 32 (codeword (message rate type (k + 1) 0))) ++ octets streamOctets (stream idx (firstPair k) multiframePairs))
+    ++ (octets headerOctets (field 32 (codeword (message settings (k + 1) 0))) ++ octets streamOctets (stream idx (firstPair k) multiframePairs))
 
 -- m multiframes, one behind the other
-unfoldable pub image : ℕ → ℕ → List ℕ → ℕ → List ℕ
-image rate type idx zero = []
-image rate type idx (suc m) = image rate type idx m ++ multiframe rate type idx m
+unfoldable pub image : Settings → List ℕ → ℕ → List ℕ
+image settings idx zero = []
+image settings idx (suc m) = image settings idx m ++ multiframe settings idx m
 
 -- ---- the answer and the output
 pub record Outcome : Type 0 where
@@ -122,9 +121,9 @@ abbrev pub outcome : Answer → List ℕ → Outcome
 outcome a o = record { answer = a; output = o }
 
 -- success lays the image over the output's front, and octets beyond stay; a refusal changes no octet
-abbrev pub finished : ℕ → ℕ → List ℕ → List ℕ → Answer → Outcome
-finished rate type idx out (Written n) = outcome (Written n) (over out 0 n (image rate type idx (multiframesFor (frameCount idx))))
-finished rate type idx out (Refused r) = outcome (Refused r) out
+abbrev pub finished : Settings → List ℕ → List ℕ → Answer → Outcome
+finished settings idx out (Written n) = outcome (Written n) (over out 0 n (image settings idx (multiframesFor (frameCount idx))))
+finished settings idx out (Refused r) = outcome (Refused r) out
 
-unfoldable pub writing : ℕ → ℕ → List ℕ → List ℕ → Outcome
-writing rate type idx out = finished rate type idx out (verdict rate type idx (length out))
+unfoldable pub writing : Settings → List ℕ → List ℕ → Outcome
+writing settings idx out = finished settings idx out (verdict settings idx (length out))

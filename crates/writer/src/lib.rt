@@ -5,13 +5,14 @@ use layout::FrameLayout;
 use layout::Multiframe;
 use layout::MultiframeLayout;
 use layout::UtteranceLayout;
+use settings::Settings;
 use refusals::Writing;
 ghost use mathlib.Core.Path.{_≡_};
 ghost use Prim.Native.Nat.{ℕ, _+_, _*_, _%_, _^_, _≤_, _<_};
 ghost use lib.ListN.{length};
 ghost use Rattle.lists.specs.Parts.{over};
 ghost use Rattle.layout.specs.Layout.{frameIndices, multiframeOctets, mostFrames, mostMultiframes};
-ghost use Rattle.writer.specs.Writing.{settingsRight, frameCount, isWide, endsEarly, firstWide, firstEarly, verdict, multiframe, image, outcome, writing, numberOf, placeOf};
+ghost use Rattle.writer.specs.Writing.{frameCount, isWide, endsEarly, firstWide, firstEarly, verdict, multiframe, image, outcome, writing, numberOf, placeOf};
 ghost use Rattle.writer.specs.Laws.{foundAs};
 
 // The largest index of six bits.
@@ -83,27 +84,11 @@ fn first_early(indices: &[u8]) -> Found
     Found::Nowhere
 }
 
-// Rate 0, 1 or 3, type 0 or 1.
-fn settings_right(rate: u8, kind: u8) -> bool
-    ensures { λ r. ⌜ r ≡ settingsRight rate kind ⌝ }
-{
-    if 3 < rate {
-        return false;
-    }
-    if rate == 2 {
-        return false;
-    }
-    if 1 < kind {
-        return false;
-    }
-    true
-}
-
 // Every refusal, in 01's order. Nothing that can be written is lent, so that a refusal can change nothing.
-fn decide(rate: u8, kind: u8, indices: &[u8], room: usize) -> Answer
-    ensures { λ r. ⌜ r ≡ verdict rate kind (now (indices .entry)) room ⌝ }
+fn decide(settings: Settings, indices: &[u8], room: usize) -> Answer
+    ensures { λ r. ⌜ r ≡ verdict settings (now (indices .entry)) room ⌝ }
 {
-    if !settings_right(rate, kind) {
+    if !settings::is_right(settings) {
         return Answer::Refused(Writing::Settings);
     }
     if indices.len() % FrameLayout::INDICES != 0 {
@@ -129,16 +114,15 @@ fn decide(rate: u8, kind: u8, indices: &[u8], room: usize) -> Answer
 }
 
 // One multiframe at its place. It asks for whole frames, at most 255 multiframes and room, which `decide` has tested.
-fn put_multiframe(rate: u8, kind: u8, indices: &[u8], k: Multiframe, out: &mut [u8])
+fn put_multiframe(settings: Settings, indices: &[u8], k: Multiframe, out: &mut [u8])
     requires { ⌜ (length (now indices) % frameIndices ≡ 0) × (k .0 < mostMultiframes) ⌝ }
     requires { ⌜ multiframeOctets * k .0 + multiframeOctets ≤ length (now out) ⌝ }
-    ensures { λ _. ⌜ now (out .exit) ≡ over (now (out .entry)) (multiframeOctets * k .0) multiframeOctets (multiframe rate kind (now (indices .entry)) (k .0)) ⌝ }
+    ensures { λ _. ⌜ now (out .exit) ≡ over (now (out .entry)) (multiframeOctets * k .0) multiframeOctets (multiframe settings (now (indices .entry)) (k .0)) ⌝ }
 {
     let at = MultiframeLayout::OCTETS * k.0;
     let count = ((k.0 + 1) & 15) as u8;
     let message = header::message_of(Fields {
-        rate,
-        kind,
+        settings,
         count,
         exp: 0,
     });
@@ -159,28 +143,28 @@ fn put_multiframe(rate: u8, kind: u8, indices: &[u8], k: Multiframe, out: &mut [
 }
 
 // The first m multiframes, one behind the other.
-fn put_image(rate: u8, kind: u8, indices: &[u8], m: usize, out: &mut [u8])
+fn put_image(settings: Settings, indices: &[u8], m: usize, out: &mut [u8])
     requires { ⌜ (length (now indices) % frameIndices ≡ 0) × (m ≤ mostMultiframes) ⌝ }
     requires { ⌜ multiframeOctets * m ≤ length (now out) ⌝ }
-    ensures { λ _. ⌜ now (out .exit) ≡ over (now (out .entry)) 0 (multiframeOctets * m) (image rate kind (now (indices .entry)) m) ⌝ }
+    ensures { λ _. ⌜ now (out .exit) ≡ over (now (out .entry)) 0 (multiframeOctets * m) (image settings (now (indices .entry)) m) ⌝ }
 {
     for k in 0..m {
-        put_multiframe(rate, kind, indices, Multiframe(k), out);
+        put_multiframe(settings, indices, Multiframe(k), out);
     }
 }
 
 // write puts the utterance of these settings and index octets, seven a frame, into the front of out as multiframes and answers the number
 // of octets written; octets beyond stay. Or it refuses, in 01's order, and every octet of out is as it came. 01's number and place of the
 // answer are those of the definition.
-pub fn write(rate: u8, kind: u8, indices: &[u8], out: &mut [u8]) -> Answer
-    ensures all { λ r. ⌜ outcome r (now (out .exit)) ≡ writing rate kind (now (indices .entry)) (now (out .entry)) ⌝ }
-    ensures number { λ r. ⌜ numberOf r ≡ numberOf (writing rate kind (now (indices .entry)) (now (out .entry)) .answer) ⌝ }
-    ensures place { λ r. ⌜ placeOf r ≡ placeOf (writing rate kind (now (indices .entry)) (now (out .entry)) .answer) ⌝ }
+pub fn write(settings: Settings, indices: &[u8], out: &mut [u8]) -> Answer
+    ensures all { λ r. ⌜ outcome r (now (out .exit)) ≡ writing settings (now (indices .entry)) (now (out .entry)) ⌝ }
+    ensures number { λ r. ⌜ numberOf r ≡ numberOf (writing settings (now (indices .entry)) (now (out .entry)) .answer) ⌝ }
+    ensures place { λ r. ⌜ placeOf r ≡ placeOf (writing settings (now (indices .entry)) (now (out .entry)) .answer) ⌝ }
     ensures fits { λ r. ⌜ placeOf r < 2 ^ 64 ⌝ }
 {
-    match decide(rate, kind, indices, out.len()) {
+    match decide(settings, indices, out.len()) {
         Answer::Written { octets } => {
-            put_image(rate, kind, indices, octets / MultiframeLayout::OCTETS, out);
+            put_image(settings, indices, octets / MultiframeLayout::OCTETS, out);
             Answer::Written { octets }
         }
         Answer::Refused(r) => Answer::Refused(r),

@@ -6,10 +6,10 @@ use Rattle.header.proofs.message_of.Statement.{statement}
 use Rattle.header.proofs.message_of.Tie as tie
 
 cast-rate : tie.Need-cast-rate
-cast-rate c = record { fits = omega (arith, mask-lt (c .before .args .f .rate) 2) }
+cast-rate c = record { fits = omega (arith, mask-lt (c .before .args .f .settings .rate) 2) }
 
 cast-kind : tie.Need-cast-kind
-cast-kind c = record { fits = omega (arith, mask-lt (c .before .before .args .f .kind) 1) }
+cast-kind c = record { fits = omega (arith, mask-lt (c .before .before .args .f .settings .kind) 1) }
 
 cast-count : tie.Need-cast-count
 cast-count c = record { fits = omega (arith, mask-lt (c .before .before .before .args .f .count) 4) }
@@ -17,7 +17,7 @@ cast-count c = record { fits = omega (arith, mask-lt (c .before .before .before 
 returns : tie.Need-returns
 returns c =
     let f = c .before .before .before .before .args .f in
-    packed (f .rate) (f .kind) (f .count) (f .exp)
+    packed (f .settings) (f .count) (f .exp)
 
 pub message-of-spec : {M : Type 1} → statement M
 message-of-spec = tie.close (tie.spec cast-rate cast-kind cast-count returns)

@@ -1,17 +1,20 @@
 -- Making a message and taking its fields out are each other's inverse, and the common bits are all of it but the counter.
 -- Assumes nothing.
 use mathlib.Core.Path.{_≡_, refl, sym, ap, ap₂, _∙_}
+use mathlib.Core.Bool.{true}
 use Prim.Native.Nat.{ℕ, _+_, _*_, _/_, _%_, _^_, _<_}
 use native.Mathlib.Nat.{mod-lt, mod-eq-of-lt, mod-mod}
 use native.Mathlib.Omega.{arith}
 use lib.Bits.{bitAnd, bitOr, and-mask, or-shifted-r}
 use lib.Dec.{lit<}
 use lib.Pow.{shl-exact}
-use Rattle.header.specs.Message.{message, rateOf, typeOf, countOf, expOf, commonBits}
+use Rattle.settings.specs.declared.Settings.{Settings}
+use Rattle.settings.specs.Settings.{settings, settings-same, settingsRight, rate-right, kind-right}
+use Rattle.header.specs.Message.{message, rateOf, typeOf, settingsOf, countOf, expOf, commonBits}
 
-pub message-lt : (r t c e : ℕ) → message r t c e < 2 ^ 16
+pub message-lt : (s : Settings) (c e : ℕ) → message s c e < 2 ^ 16
 unfolding message
-message-lt r t c e = omega arith
+message-lt s c e = omega arith
 
 pub rate-lt : (m : ℕ) → rateOf m < 4
 unfolding rateOf
@@ -30,20 +33,28 @@ unfolding expOf
 exp-lt m = omega arith
 
 -- ---- from fields to a message and back
-module _ (r t c e : ℕ) where
-  pub rate-back : rateOf (message r t c e) ≡ r % 4
+module _ (s : Settings) (c e : ℕ) where
+  pub rate-back : rateOf (message s c e) ≡ s .rate % 4
   unfolding message rateOf
   rate-back = omega arith
 
-  pub type-back : typeOf (message r t c e) ≡ t % 2
+  pub type-back : typeOf (message s c e) ≡ s .kind % 2
   unfolding message typeOf
   type-back = omega arith
 
-  pub count-back : countOf (message r t c e) ≡ c % 16
+  -- settings that fit their fields come back whole
+  pub settings-fit : s .rate < 4 → s .kind < 2 → settingsOf (message s c e) ≡ s
+  settings-fit r t = settings-same (settingsOf (message s c e)) s (rate-back ∙ mod-eq-of-lt r) (type-back ∙ mod-eq-of-lt t)
+
+  -- and so do all that may be written
+  pub settings-back : settingsRight s ≡ true → settingsOf (message s c e) ≡ s
+  settings-back right = settings-fit (rate-right s right) (kind-right s right)
+
+  pub count-back : countOf (message s c e) ≡ c % 16
   unfolding message countOf
   count-back = omega arith
 
-  pub exp-back : expOf (message r t c e) ≡ e % 512
+  pub exp-back : expOf (message s c e) ≡ e % 512
   unfolding message expOf
   exp-back = omega arith
 
@@ -60,49 +71,52 @@ joined m h =
     sum m (m / 4) (m / 8) (m / 128 % 512) (m % 4) (m / 4 % 2) (m / 8 % 16) e f g
 
 -- fields that are not too large stand side by side
-plain : (r t c e : ℕ) → r < 4 → t < 2 → c < 16 → e < 512 → message r t c e ≡ r + 4 * t + 8 * c + 128 * e
+plain : (r t c e : ℕ) → r < 4 → t < 2 → c < 16 → e < 512 → message (settings r t) c e ≡ r + 4 * t + 8 * c + 128 * e
 unfolding message
 plain r t c e hr ht hc he = rw (mod-eq-of-lt hr, mod-eq-of-lt ht, mod-eq-of-lt hc, mod-eq-of-lt he)
 
 -- ---- from a message to its fields and back
-pub message-back : (m : ℕ) → m < 2 ^ 16 → message (rateOf m) (typeOf m) (countOf m) (expOf m) ≡ m
+pub message-back : (m : ℕ) → m < 2 ^ 16 → message (settingsOf m) (countOf m) (expOf m) ≡ m
 message-back m h =
     plain (rateOf m) (typeOf m) (countOf m) (expOf m) (rate-lt m) (type-lt m) (count-lt m) (exp-lt m) ∙ joined m h
 
 -- ---- common bits
 pub common-lt : (m : ℕ) → commonBits m < 2 ^ 16
 unfolding commonBits
-common-lt m = message-lt (rateOf m) (typeOf m) 0 (expOf m)
+common-lt m = message-lt (settingsOf m) 0 (expOf m)
 
 pub common-rate : (m : ℕ) → rateOf (commonBits m) ≡ rateOf m
 unfolding commonBits
-common-rate m = rate-back (rateOf m) (typeOf m) 0 (expOf m) ∙ mod-eq-of-lt (rate-lt m)
+common-rate m = rate-back (settingsOf m) 0 (expOf m) ∙ mod-eq-of-lt (rate-lt m)
 
 pub common-type : (m : ℕ) → typeOf (commonBits m) ≡ typeOf m
 unfolding commonBits
-common-type m = type-back (rateOf m) (typeOf m) 0 (expOf m) ∙ mod-eq-of-lt (type-lt m)
+common-type m = type-back (settingsOf m) 0 (expOf m) ∙ mod-eq-of-lt (type-lt m)
+
+pub common-settings : (m : ℕ) → settingsOf (commonBits m) ≡ settingsOf m
+common-settings m = settings-same (settingsOf (commonBits m)) (settingsOf m) (common-rate m) (common-type m)
 
 pub common-exp : (m : ℕ) → expOf (commonBits m) ≡ expOf m
 unfolding commonBits
-common-exp m = exp-back (rateOf m) (typeOf m) 0 (expOf m) ∙ mod-eq-of-lt (exp-lt m)
+common-exp m = exp-back (settingsOf m) 0 (expOf m) ∙ mod-eq-of-lt (exp-lt m)
 
--- the common bits are the three fields
-pub common-from : (a b : ℕ) → rateOf a ≡ rateOf b → typeOf a ≡ typeOf b → expOf a ≡ expOf b → commonBits a ≡ commonBits b
+-- the common bits are the settings and EXP
+pub common-from : (a b : ℕ) → settingsOf a ≡ settingsOf b → expOf a ≡ expOf b → commonBits a ≡ commonBits b
 unfolding commonBits
-common-from a b r t e = ap₂ (λ (x y : ℕ). message x y 0 (expOf a)) r t ∙ ap (message (rateOf b) (typeOf b) 0) e
+common-from a b s e = ap₂ (λ (t : Settings) (x : ℕ). message t 0 x) s e
 
-pub common-message : (r t c e : ℕ) → commonBits (message r t c e) ≡ commonBits (message r t 0 e)
-common-message r t c e =
-    common-from (message r t c e) (message r t 0 e) (rate-back r t c e ∙ sym (rate-back r t 0 e)) (type-back r t c e ∙ sym (type-back r t 0 e))
-    (exp-back r t c e ∙ sym (exp-back r t 0 e))
+pub common-message : (s : Settings) (c e : ℕ) → commonBits (message s c e) ≡ commonBits (message s 0 e)
+common-message s c e =
+    common-from (message s c e) (message s 0 e)
+    (settings-same (settingsOf (message s c e)) (settingsOf (message s 0 e)) (rate-back s c e ∙ sym (rate-back s 0 e)) (type-back s c e ∙ sym (type-back s 0 e)))
+    (exp-back s c e ∙ sym (exp-back s 0 e))
 
 -- a message is its common bits and its counter
 pub common-and-count : (a b : ℕ) → a < 2 ^ 16 → b < 2 ^ 16 → commonBits a ≡ commonBits b → countOf a ≡ countOf b → a ≡ b
 common-and-count a b ha hb e f =
-    let r : rateOf a ≡ rateOf b = sym (common-rate a) ∙ ap rateOf e ∙ common-rate b in
-    let t : typeOf a ≡ typeOf b = sym (common-type a) ∙ ap typeOf e ∙ common-type b in
+    let s : settingsOf a ≡ settingsOf b = sym (common-settings a) ∙ ap settingsOf e ∙ common-settings b in
     let x : expOf a ≡ expOf b = sym (common-exp a) ∙ ap expOf e ∙ common-exp b in
-    sym (message-back a ha) ∙ ap₂ (λ (p q : ℕ). message p q (countOf a) (expOf a)) r t ∙ ap₂ (message (rateOf b) (typeOf b)) f x ∙ message-back b hb
+    sym (message-back a ha) ∙ ap (λ (t : Settings). message t (countOf a) (expOf a)) s ∙ ap₂ (message (settingsOf b)) f x ∙ message-back b hb
 
 -- ---- what the code computes: masks and shifts
 pub rate-masked : (m : ℕ) → bitAnd m 3 ≡ rateOf m
@@ -122,10 +136,13 @@ unfolding expOf
 exp-shifted m h = omega arith
 
 -- four fields, each shifted behind the ones before it
-pub packed : (r t c e : ℕ)
-    → bitOr (bitOr (bitOr (bitAnd r 3) (bitAnd t 1 * 2 ^ 2 % 2 ^ 16)) (bitAnd c 15 * 2 ^ 3 % 2 ^ 16)) (bitAnd e 511 * 2 ^ 7 % 2 ^ 16) ≡ message r t c e
+pub packed : (s : Settings) (c e : ℕ)
+    → bitOr (bitOr (bitOr (bitAnd (s .rate) 3) (bitAnd (s .kind) 1 * 2 ^ 2 % 2 ^ 16)) (bitAnd c 15 * 2 ^ 3 % 2 ^ 16)) (bitAnd e 511 * 2 ^ 7 % 2 ^ 16)
+    ≡ message s c e
 unfolding message
-packed r t c e =
+packed s c e =
+    let r = s .rate in
+    let t = s .kind in
     let a = r % 4 in
     let b = t % 2 in
     let d = c % 16 in
@@ -162,23 +179,23 @@ common-masked m h =
     (low-three m h ∙ sym (plain (rateOf m) (typeOf m) 0 (expOf m) (rate-lt m) (type-lt m) (lit< tt) (exp-lt m)))
 
 -- the counter counts modulo 16
-pub count-mod : (r t c e : ℕ) → message r t (c % 16) e ≡ message r t c e
+pub count-mod : (s : Settings) (c e : ℕ) → message s (c % 16) e ≡ message s c e
 unfolding message
-count-mod r t c e = rw (mod-mod c 16)
+count-mod s c e = rw (mod-mod c 16)
 
 -- ---- the messages of 01's examples, as numbers
-pub message-counts : (message 0 0 1 0 ≡ 8) × (message 0 0 2 0 ≡ 16) × (message 0 0 3 0 ≡ 24)
+pub message-counts : (message (settings 0 0) 1 0 ≡ 8) × (message (settings 0 0) 2 0 ≡ 16) × (message (settings 0 0) 3 0 ≡ 24)
 unfolding message
 message-counts = (refl, refl, refl)
 
-pub message-nothing : message 0 0 0 0 ≡ 0
+pub message-nothing : message (settings 0 0) 0 0 ≡ 0
 unfolding message
 message-nothing = refl
 
-pub message-rate-1 : message 1 0 0 0 ≡ 1
+pub message-rate-1 : message (settings 1 0) 0 0 ≡ 1
 unfolding message
 message-rate-1 = refl
 
-pub message-exp-9 : message 0 0 0 256 ≡ 32768
+pub message-exp-9 : message (settings 0 0) 0 256 ≡ 32768
 unfolding message
 message-exp-9 = refl

@@ -1,7 +1,8 @@
 -- `early` meets its contract: the tests stand in the definition's order. Assumes nothing.
 use Prim.Native.Nat.{_*_}
-use mathlib.Core.Path.{sym, _∙_}
+use mathlib.Core.Path.{sym, ap, _∙_}
 use borrow.Author.Tests.{eq-eqb, ne-eqb, lt-ltb, le-ltb}
+use Rattle.settings.specs.declared.Settings.{Settings}
 use Rattle.header.specs.Message.{rateOf, expOf}
 use Rattle.reader.specs.Steps.{earlyVerdict}
 use borrow.Author.Needs.{needs}
@@ -15,7 +16,7 @@ returns : tie.Need-returns
 unfolding earlyVerdict
 returns c =
     let f = c .before .before in
-    rw (eq-eqb (rateOf (f .before .args .common)) 2 (sym (f .fields-of .ensures .0) ∙ c .if1 .taken))
+    rw (eq-eqb (rateOf (f .before .args .common)) 2 (sym (ap (λ (s : Settings). s .rate) (f .fields-of .ensures .0)) ∙ c .if1 .taken))
 
 returns-2 : tie.Need-returns-2
 unfolding earlyVerdict
@@ -23,7 +24,7 @@ returns-2 c =
     let i = c .before .before in
     let f = i .before .before in
     let x = f .before .args .common in
-    rw (ne-eqb (rateOf x) 2 (λ e. i .if1 .left (f .fields-of .ensures .0 ∙ e)), ne-eqb (expOf x) 0 (λ e. c .if2 .taken (f .fields-of .ensures .1 .1 .1 ∙ e)))
+    rw (ne-eqb (rateOf x) 2 (λ e. i .if1 .left (ap (λ (s : Settings). s .rate) (f .fields-of .ensures .0) ∙ e)), ne-eqb (expOf x) 0 (λ e. c .if2 .taken (f .fields-of .ensures .1 .1 ∙ e)))
 
 mul-if3 : tie.Need-mul-if3
 mul-if3 c = search needs
@@ -38,7 +39,7 @@ returns-3 c =
     let i = j .before .before in
     let f = i .before .before in
     let a = f .before .args in
-    rw (ne-eqb (rateOf (a .common)) 2 (λ e. i .if1 .left (f .fields-of .ensures .0 ∙ e)), eq-eqb (expOf (a .common)) 0 (sym (f .fields-of .ensures .1 .1 .1) ∙ j .if2 .left), lt-ltb (a .index) (168 * a .m) (c .if3 .taken))
+    rw (ne-eqb (rateOf (a .common)) 2 (λ e. i .if1 .left (ap (λ (s : Settings). s .rate) (f .fields-of .ensures .0) ∙ e)), eq-eqb (expOf (a .common)) 0 (sym (f .fields-of .ensures .1 .1) ∙ j .if2 .left), lt-ltb (a .index) (168 * a .m) (c .if3 .taken))
 
 mul-if4 : tie.Need-mul-if4
 mul-if4 c = search needs
@@ -54,7 +55,7 @@ returns-4 c =
     let i = j .before .before in
     let f = i .before .before in
     let a = f .before .args in
-    rw (ne-eqb (rateOf (a .common)) 2 (λ e. i .if1 .left (f .fields-of .ensures .0 ∙ e)), eq-eqb (expOf (a .common)) 0 (sym (f .fields-of .ensures .1 .1 .1) ∙ j .if2 .left), le-ltb (a .index) (168 * a .m) (k .if3 .left), lt-ltb (a .report) (13 * a .m) (c .if4 .taken))
+    rw (ne-eqb (rateOf (a .common)) 2 (λ e. i .if1 .left (ap (λ (s : Settings). s .rate) (f .fields-of .ensures .0) ∙ e)), eq-eqb (expOf (a .common)) 0 (sym (f .fields-of .ensures .1 .1) ∙ j .if2 .left), le-ltb (a .index) (168 * a .m) (k .if3 .left), lt-ltb (a .report) (13 * a .m) (c .if4 .taken))
 
 returns-5 : tie.Need-returns-5
 unfolding earlyVerdict
@@ -64,7 +65,7 @@ returns-5 c =
     let i = j .before .before in
     let f = i .before .before in
     let a = f .before .args in
-    rw (ne-eqb (rateOf (a .common)) 2 (λ e. i .if1 .left (f .fields-of .ensures .0 ∙ e)), eq-eqb (expOf (a .common)) 0 (sym (f .fields-of .ensures .1 .1 .1) ∙ j .if2 .left), le-ltb (a .index) (168 * a .m) (k .if3 .left), le-ltb (a .report) (13 * a .m) (c .if4 .left))
+    rw (ne-eqb (rateOf (a .common)) 2 (λ e. i .if1 .left (ap (λ (s : Settings). s .rate) (f .fields-of .ensures .0) ∙ e)), eq-eqb (expOf (a .common)) 0 (sym (f .fields-of .ensures .1 .1) ∙ j .if2 .left), le-ltb (a .index) (168 * a .m) (k .if3 .left), le-ltb (a .report) (13 * a .m) (c .if4 .left))
 
 pub early-spec : {M : Type 1} → statement M
 early-spec =

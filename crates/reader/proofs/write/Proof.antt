@@ -38,7 +38,7 @@ bad-pairs-requires c κs = search needs
 
 end-of-requires : tie.Need-end-of-requires
 end-of-requires c κs =
-    let r = c .before .before .before .before .before .before .before .before .before .before .before in
+    let r = c .before .before .before .before .before .before .before .before .before .before .before .before in
     let t = r .before .before .before .before in
     let st = t .before .before .before .before .before .before .before .before in
     let p = st .pre in
@@ -54,7 +54,7 @@ returns : tie.Need-returns
 returns c =
     let b = c .before .before in
     let s = b .before in
-    let f = s .before .before in
+    let f = s .before .before .before in
     let w = f .before .before .before in
     let r = w .before .before .before .before in
     let t = r .before .before .before .before in
@@ -64,7 +64,7 @@ returns c =
     let stored = p .1 .0 .0 in
     let size = p .1 .0 .1 in
     let e = index-is (a .octets .now) (a .places .now) (a .notes .now) (a .index .now) (t .take-all-apart .last .1 .1 .0) (r .replace .last .1 .0) size (p .1 .1 .0) (t .take-all-apart .ensures) (p .1 .0 .2) (r .replace .ensures) in (
-      summary-is (a .octets .now) (a .places .now) (a .notes .now) (a .common) _ _ _ _ _ (a .index .now) (r .replace .last .1 .0) (p .0 .1) size e (f .fields-of .ensures .0) (f .fields-of .ensures .1 .0) (s .speech-of .ensures) (b .bad-pairs .ensures) (c .end-of .ensures),
+      summary-is (a .octets .now) (a .places .now) (a .notes .now) (a .common) _ _ _ _ (a .index .now) (r .replace .last .1 .0) (p .0 .1) size e (f .fields-of .ensures .0) (s .speech-of .ensures) (b .bad-pairs .ensures) (c .end-of .ensures),
       (e, w .put-report .ensures ∙ ap₂ (λ (k : ℕ) (l : List ℕ). over (a .report .now) 0 (reportOctets * k) l) (stored-size (a .octets .now) (a .places .now) (a .headers .now) stored) (sections-are (a .octets .now) (a .places .now) (a .headers .now) stored (a .notes .now) (a .common))),
     )
 

@@ -9,26 +9,26 @@ use borrow.Author.Needs.{needs}
 use Rattle.writer.proofs.decide.Statement.{statement}
 use Rattle.writer.proofs.decide.Tie as tie
 
-settings-right-requires : tie.Need-settings-right-requires
-settings-right-requires c κs = search needs
+is-right-requires : tie.Need-is-right-requires
+is-right-requires c κs = search needs
 
 returns : tie.Need-returns
 returns c =
     let a = c .before .before .before .args in
-    sym (refuses-settings (a .rate) (a .kind) (a .indices .now) (a .room) (sym (c .before .settings-right .ensures) ∙ not-true _ (c .if1 .taken)))
+    sym (refuses-settings (a .settings) (a .indices .now) (a .room) (sym (c .before .is-right .ensures) ∙ not-true _ (c .if1 .taken)))
 
 returns-2 : tie.Need-returns-2
 returns-2 c =
     let s = c .before .before in
     let a = s .before .before .args in
-    sym (refuses-part (a .rate) (a .kind) (a .indices .now) (a .room) (sym (s .settings-right .ensures) ∙ not-false _ (c .before .if1 .left)) (c .if2 .taken))
+    sym (refuses-part (a .settings) (a .indices .now) (a .room) (sym (s .is-right .ensures) ∙ not-false _ (c .before .if1 .left)) (c .if2 .taken))
 
 returns-3 : tie.Need-returns-3
 returns-3 c =
     let s = c .before .before .before in
     let a = s .before .before .args in
     let w : length (a .indices .now) % 7 ≡ 0 = omega (arith, c .before .if2 .left) in
-    sym (refuses-many (a .rate) (a .kind) (a .indices .now) (a .room) (sym (s .settings-right .ensures) ∙ not-false _ (c .before .before .if1 .left)) w (c .if3 .taken))
+    sym (refuses-many (a .settings) (a .indices .now) (a .room) (sym (s .is-right .ensures) ∙ not-false _ (c .before .before .if1 .left)) w (c .if3 .taken))
 
 first-wide-requires : tie.Need-first-wide-requires
 first-wide-requires c κs = search needs
@@ -42,9 +42,9 @@ returns-4 c =
     let s = e .before .before .before in
     let a = s .before .before .args in
     let idx = a .indices .now in
-    let z : Sized (a .rate) (a .kind) idx =
-    record { settings = sym (s .settings-right .ensures) ∙ not-false _ (e .before .before .if1 .left); whole = omega (arith, e .before .if2 .left); few = omega (arith, e .if3 .left) } in
-    sym (refuses-wide (a .rate) (a .kind) idx (a .room) z _ (sym (c .before .before .before .first-wide .ensures) ∙ ap foundAs (c .before .f .given .1)))
+    let z : Sized (a .settings) idx =
+    record { right = sym (s .is-right .ensures) ∙ not-false _ (e .before .before .if1 .left); whole = omega (arith, e .before .if2 .left); few = omega (arith, e .if3 .left) } in
+    sym (refuses-wide (a .settings) idx (a .room) z _ (sym (c .before .before .before .first-wide .ensures) ∙ ap foundAs (c .before .f .given .1)))
 
 enum-told : tie.Need-enum-told
 enum-told c = search needs
@@ -61,10 +61,10 @@ returns-5 c =
     let s = e .before .before .before in
     let a = s .before .before .args in
     let idx = a .indices .now in
-    let z : Sized (a .rate) (a .kind) idx =
-    record { settings = sym (s .settings-right .ensures) ∙ not-false _ (e .before .before .if1 .left); whole = omega (arith, e .before .if2 .left); few = omega (arith, e .if3 .left) } in
+    let z : Sized (a .settings) idx =
+    record { right = sym (s .is-right .ensures) ∙ not-false _ (e .before .before .if1 .left); whole = omega (arith, e .before .if2 .left); few = omega (arith, e .if3 .left) } in
     let none = sym (c .before .before .before .before .before .before .first-wide .ensures) ∙ ap foundAs (c .before .before .before .before .enum-told .given .1) in
-    sym (refuses-zero (a .rate) (a .kind) idx (a .room) z none _ (sym (c .before .before .before .first-early .ensures) ∙ ap foundAs (c .before .f2 .given .1)))
+    sym (refuses-zero (a .settings) idx (a .room) z none _ (sym (c .before .before .before .first-early .ensures) ∙ ap foundAs (c .before .f2 .given .1)))
 
 enum-told-2 : tie.Need-enum-told-2
 enum-told-2 c = search needs
@@ -81,11 +81,11 @@ returns-6 c =
     let s = e .before .before .before in
     let a = s .before .before .args in
     let idx = a .indices .now in
-    let z : Sized (a .rate) (a .kind) idx =
-    record { settings = sym (s .settings-right .ensures) ∙ not-false _ (e .before .before .if1 .left); whole = omega (arith, e .before .if2 .left); few = omega (arith, e .if3 .left) } in
+    let z : Sized (a .settings) idx =
+    record { right = sym (s .is-right .ensures) ∙ not-false _ (e .before .before .if1 .left); whole = omega (arith, e .before .if2 .left); few = omega (arith, e .if3 .left) } in
     let none = sym (c .before .before .before .before .before .before .first-wide .ensures) ∙ ap foundAs (c .before .before .before .before .enum-told .given .1) in
     let quiet = sym (c .before .before .before .first-early .ensures) ∙ ap foundAs (c .before .enum-told2 .given .1) in
-    sym (refuses-short (a .rate) (a .kind) idx (a .room) z none quiet (c .if4 .taken))
+    sym (refuses-short (a .settings) idx (a .room) z none quiet (c .if4 .taken))
 
 returns-7 : tie.Need-returns-7
 returns-7 c =
@@ -93,17 +93,17 @@ returns-7 c =
     let s = e .before .before .before in
     let a = s .before .before .args in
     let idx = a .indices .now in
-    let z : Sized (a .rate) (a .kind) idx =
-    record { settings = sym (s .settings-right .ensures) ∙ not-false _ (e .before .before .if1 .left); whole = omega (arith, e .before .if2 .left); few = omega (arith, e .if3 .left) } in
+    let z : Sized (a .settings) idx =
+    record { right = sym (s .is-right .ensures) ∙ not-false _ (e .before .before .if1 .left); whole = omega (arith, e .before .if2 .left); few = omega (arith, e .if3 .left) } in
     let none = sym (c .before .before .before .before .before .before .first-wide .ensures) ∙ ap foundAs (c .before .before .before .before .enum-told .given .1) in
     let quiet = sym (c .before .before .before .first-early .ensures) ∙ ap foundAs (c .before .enum-told2 .given .1) in
-    sym (accepts (a .rate) (a .kind) idx (a .room) z none quiet (omega (arith, c .if4 .left)))
+    sym (accepts (a .settings) idx (a .room) z none quiet (omega (arith, c .if4 .left)))
 
 pub decide-spec : {M : Type 1} → statement M
 decide-spec =
     tie.close
     (tie.spec
-    settings-right-requires
+    is-right-requires
     returns
     returns-2
     returns-3

@@ -12,13 +12,13 @@ use Rattle.writer.proofs.put_image.Statement.{statement}
 use Rattle.writer.proofs.put_image.Tie as tie
 
 abbrev Inv-loop : tie.InvT-loop
-Inv-loop rate kind indices m out₀ k₀ out k = (k ≤ m) × (length out ≡ length out₀) × (out ≡ over out₀ 0 (multiframeOctets * k) (image rate kind indices k))
+Inv-loop settings indices m out₀ k₀ out k = (k ≤ m) × (length out ≡ length out₀) × (out ≡ over out₀ 0 (multiframeOctets * k) (image settings indices k))
 
 abbrev μ-loop : tie.MeasureT-loop
-μ-loop rate kind indices m out₀ k₀ out k = m - k
+μ-loop settings indices m out₀ k₀ out k = m - k
 
 loop-holds : tie.Need-loop-holds Inv-loop μ-loop
-loop-holds c = (omega arith, refl, image-none _ _ _ _)
+loop-holds c = (omega arith, refl, image-none _ _ _)
 
 put-multiframe-requires : tie.Need-put-multiframe-requires Inv-loop μ-loop
 put-multiframe-requires c κs =
@@ -39,8 +39,8 @@ loop-again c =
     let e = c .before .before .put-multiframe .ensures in
     let fits : multiframeOctets * l .k + multiframeOctets ≤ length (l .out) = omega (arith, a .pre .1, l .inv .1) in (
       omega arith,
-      ap length e ∙ length-over (l .out) (multiframe (a .args .rate) (a .args .kind) (a .args .indices .now) (l .k)) (multiframeOctets * l .k) multiframeOctets fits (length-multiframe _ _ _ (l .k)) ∙ l .inv .1,
-      image-more _ _ _ _ (l .k) _ _ (omega (arith, fits, l .inv .1)) (l .inv .2) e,
+      ap length e ∙ length-over (l .out) (multiframe (a .args .settings) (a .args .indices .now) (l .k)) (multiframeOctets * l .k) multiframeOctets fits (length-multiframe _ _ (l .k)) ∙ l .inv .1,
+      image-more _ _ _ (l .k) _ _ (omega (arith, fits, l .inv .1)) (l .inv .2) e,
     )
 
 same-length : tie.Need-same-length Inv-loop μ-loop
@@ -51,7 +51,7 @@ returns c =
     let l = c .before .loop in
     let a = c .before .before .before .before .args in
     let e : l .k ≡ a .m = omega arith in
-    l .inv .2 ∙ ap (λ (k : ℕ). over (a .out .now) 0 (multiframeOctets * k) (image (a .rate) (a .kind) (a .indices .now) k)) e
+    l .inv .2 ∙ ap (λ (k : ℕ). over (a .out .now) 0 (multiframeOctets * k) (image (a .settings) (a .indices .now) k)) e
 
 pub put-image-spec : {M : Type 1} → statement M
 put-image-spec =

@@ -59,9 +59,9 @@ returns c =
     let e = c .before .before .before .before .before .before .before .before .before .before .before .before .before in
     let a = e .before .before .before .before .before .before .args in
     let k = a .k .0 in
-    let m : e .before .message-of .result ≡ message (a .rate) (a .kind) (k + 1) 0 =
-    e .before .message-of .ensures ∙ ap (λ (n : ℕ). message (a .rate) (a .kind) n 0) (and-mask (k + 1) 4) ∙ count-mod (a .rate) (a .kind) (k + 1) 0 in
-    laid-multiframe (a .rate) (a .kind) (a .indices .now) k (e .encode .result) _ (a .out .now) _ _ _ (e .before .before .before .before .before .before .pre .1)
+    let m : e .before .message-of .result ≡ message (a .settings) (k + 1) 0 =
+    e .before .message-of .ensures ∙ ap (λ (n : ℕ). message (a .settings) n 0) (and-mask (k + 1) 4) ∙ count-mod (a .settings) (k + 1) 0 in
+    laid-multiframe (a .settings) (a .indices .now) k (e .encode .result) _ (a .out .now) _ _ _ (e .before .before .before .before .before .before .pre .1)
     (e .encode .ensures ∙ ap codeword m) (c .before .before .before .before .first-pair .ensures) (s .store .ensures) (c .before .before .before .before .before .before .before .store2 .ensures) (c .before .before .put-stream .ensures)
 
 pub put-multiframe-spec : {M : Type 1} → statement M

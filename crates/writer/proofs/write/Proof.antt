@@ -17,8 +17,8 @@ put-image-requires : tie.Need-put-image-requires
 put-image-requires c κs =
     let d = c .before .before .before .before in
     let a = d .before .before .before .args in
-    let h = accepted (a .rate) (a .kind) (a .indices .now) (length (a .out .now)) _ (sym (d .decide .ensures) ∙ c .before .before .octets .given .1) in
-    let m = few-multiframes (a .rate) (a .kind) (a .indices .now) (h .sizes) in
+    let h = accepted (a .settings) (a .indices .now) (length (a .out .now)) _ (sym (d .decide .ensures) ∙ c .before .before .octets .given .1) in
+    let m = few-multiframes (a .settings) (a .indices .now) (h .sizes) in
     ((h .sizes .whole, omega (arith, h .octets-needed, m)), omega (arith, h .octets-needed, h .room))
 
 enum-known-r : tie.Need-enum-known-r
@@ -31,16 +31,16 @@ returns : tie.Need-returns
 returns c =
     let d = c .before .before .before .before .before .before .before in
     let a = d .before .before .before .args in
-    in-numbers (a .rate) (a .kind) (a .indices .now) (a .out .now) (omega arith)
-    (finishes (a .rate) (a .kind) (a .indices .now) (a .out .now) _ _ (sym (d .decide .ensures) ∙ c .before .before .before .before .before .octets .given .1)
+    in-numbers (a .settings) (a .indices .now) (a .out .now) (omega arith)
+    (finishes (a .settings) (a .indices .now) (a .out .now) _ _ (sym (d .decide .ensures) ∙ c .before .before .before .before .before .octets .given .1)
     (c .before .before .put-image .ensures))
 
 returns-2 : tie.Need-returns-2
 returns-2 c =
     let d = c .before .before .before in
     let a = d .before .before .before .args in
-    in-numbers (a .rate) (a .kind) (a .indices .now) (a .out .now) (omega arith)
-    (leaves (a .rate) (a .kind) (a .indices .now) (a .out .now) _ (sym (d .decide .ensures) ∙ c .before .r .given .1))
+    in-numbers (a .settings) (a .indices .now) (a .out .now) (omega arith)
+    (leaves (a .settings) (a .indices .now) (a .out .now) _ (sym (d .decide .ensures) ∙ c .before .r .given .1))
 
 pub write-spec : {M : Type 1} → statement M
 write-spec =
