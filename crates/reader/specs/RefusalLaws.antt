@@ -18,11 +18,11 @@ use Rattle.cutting.specs.Cutting.{Ending, whole, refused, cutting}
 use Rattle.cutting.specs.Laws.{Met, sound}
 use Rattle.header.specs.Message.{rateOf, expOf}
 use Rattle.settling.specs.Settling.{readings, settling}
-use Rattle.settling.specs.declared.Settings.{Settings}
-use Rattle.settling.specs.declared.Settings.the-variants as S
-use Rattle.pairs.specs.Pairs.{pairCount, pairNotes}
+use Rattle.settling.specs.declared.Settlement.{Settlement}
+use Rattle.settling.specs.declared.Settlement.the-variants as S
+use Rattle.carrier.specs.Carrier.{pairCount}
 use Rattle.judging.specs.Judging.{badPairs}
-use Rattle.reader.specs.Reading.{roomVerdict, settledVerdict, wholeVerdict, endVerdict, verdict, finished, reading}
+use Rattle.reader.specs.Reading.{roomVerdict, settledVerdict, wholeVerdict, endVerdict, verdict, finished, reading, receivedNotes}
 use Rattle.reader.specs.ReadingLaws.{Usable}
 use Rattle.reader.specs.declared.Summary.{Summary}
 use Rattle.reader.specs.declared.Answer.the-variants.{Read, Refused}
@@ -77,7 +77,7 @@ module _ (octets : List ℕ) (codebook thresholds : List ℤ) (index report : �
   -- 19: report buffer under 13m
   Given (ReportShort n) = IndexRoom × (report < reportOctets * length places) × (n ≡ reportOctets * length places)
   -- 20: every pair bad
-  Given AllBad = Room × (badPairs (pairNotes octets places codebook thresholds) ≡ pairCount places)
+  Given AllBad = Room × (badPairs (receivedNotes octets places codebook thresholds) ≡ pairCount places)
 
   -- ---- the conditions lead to the refusals
   pub refuses-tables : (Tables → ⊥) → verdict octets codebook thresholds index report ≡ Refuse WrongTables
@@ -99,8 +99,8 @@ module _ (octets : List ℕ) (codebook thresholds : List ℤ) (index report : �
   unfolding wholeVerdict
   refuses-empty w z = ends (w .0) whole (w .1) ∙ rw (eq-eqb (length places) 0 z)
 
-  settled : Some → (s : Settings) → settling (readings octets places) ≡ s
-      → verdict octets codebook thresholds index report ≡ settledVerdict (length places) (badPairs (pairNotes octets places codebook thresholds)) (pairCount places) index report s
+  settled : Some → (s : Settlement) → settling (readings octets places) ≡ s
+      → verdict octets codebook thresholds index report ≡ settledVerdict (length places) (badPairs (receivedNotes octets places codebook thresholds)) (pairCount places) index report s
   unfolding wholeVerdict
   settled w s e = ends (w .0 .0) whole (w .0 .1) ∙ rw (ne-eqb (length places) 0 (w .1), e)
 
@@ -116,7 +116,7 @@ module _ (octets : List ℕ) (codebook thresholds : List ℤ) (index report : �
       settled w (S.Settled c) e ∙ by-test (λ (v : Verdict). v ≡ Refuse Unfit) (eqb (rateOf c) 2) (λ a. refl) (λ a. rw (ne-eqb (expOf c) 0 h))
 
   fits : (f : Fit) → verdict octets codebook thresholds index report
-      ≡ roomVerdict (length places) (badPairs (pairNotes octets places codebook thresholds)) (pairCount places) index report (f .1 .0)
+      ≡ roomVerdict (length places) (badPairs (receivedNotes octets places codebook thresholds)) (pairCount places) index report (f .1 .0)
   unfolding settledVerdict
   fits f =
       settled (f .0) (S.Settled (f .1 .0)) (f .1 .1 .0) ∙ rw (ne-eqb (rateOf (f .1 .0)) 2 (f .1 .1 .1 .rate), eq-eqb (expOf (f .1 .0)) 0 (f .1 .1 .1 .exp))
@@ -129,11 +129,11 @@ module _ (octets : List ℕ) (codebook thresholds : List ℤ) (index report : �
   unfolding roomVerdict
   refuses-report f h = fits (f .0) ∙ rw (le-ltb index (indexOctets * length places) (f .1), lt-ltb report (reportOctets * length places) h)
 
-  pub refuses-all-bad : Room → badPairs (pairNotes octets places codebook thresholds) ≡ pairCount places → verdict octets codebook thresholds index report ≡ Refuse AllBad
+  pub refuses-all-bad : Room → badPairs (receivedNotes octets places codebook thresholds) ≡ pairCount places → verdict octets codebook thresholds index report ≡ Refuse AllBad
   unfolding roomVerdict
   refuses-all-bad f h =
       fits (f .0 .0)
-      ∙ rw (le-ltb index (indexOctets * length places) (f .0 .1), le-ltb report (reportOctets * length places) (f .1), eq-eqb (badPairs (pairNotes octets places codebook thresholds)) (pairCount places) h)
+      ∙ rw (le-ltb index (indexOctets * length places) (f .0 .1), le-ltb report (reportOctets * length places) (f .1), eq-eqb (badPairs (receivedNotes octets places codebook thresholds)) (pairCount places) h)
 
   given-refused : (r : Refusal) → Given r → verdict octets codebook thresholds index report ≡ Refuse r
   given-refused WrongTables g = refuses-tables g
@@ -152,17 +152,17 @@ module _ (octets : List ℕ) (codebook thresholds : List ℤ) (index report : �
   Shows (Refuse r) = Given r
   Shows (Accept c) = Unit
 
-  shows-room : (f : Fit) → Shows (roomVerdict (length places) (badPairs (pairNotes octets places codebook thresholds)) (pairCount places) index report (f .1 .0))
+  shows-room : (f : Fit) → Shows (roomVerdict (length places) (badPairs (receivedNotes octets places codebook thresholds)) (pairCount places) index report (f .1 .0))
   unfolding roomVerdict
   shows-room f =
       by-test Shows (ltb index (indexOctets * length places)) (λ h. (f, ltb-true index (indexOctets * length places) h, refl)) (λ h.
       let i = ltb-false index (indexOctets * length places) h in
       by-test Shows (ltb report (reportOctets * length places)) (λ k. ((f, i), ltb-true report (reportOctets * length places) k, refl)) (λ k.
-      by-test Shows (eqb (badPairs (pairNotes octets places codebook thresholds)) (pairCount places))
-      (λ b. (((f, i), ltb-false report (reportOctets * length places) k), eqb-true (badPairs (pairNotes octets places codebook thresholds)) (pairCount places) b)) (λ b. tt)))
+      by-test Shows (eqb (badPairs (receivedNotes octets places codebook thresholds)) (pairCount places))
+      (λ b. (((f, i), ltb-false report (reportOctets * length places) k), eqb-true (badPairs (receivedNotes octets places codebook thresholds)) (pairCount places) b)) (λ b. tt)))
 
-  shows-settled : Some → (s : Settings) → settling (readings octets places) ≡ s
-      → Shows (settledVerdict (length places) (badPairs (pairNotes octets places codebook thresholds)) (pairCount places) index report s)
+  shows-settled : Some → (s : Settlement) → settling (readings octets places) ≡ s
+      → Shows (settledVerdict (length places) (badPairs (receivedNotes octets places codebook thresholds)) (pairCount places) index report s)
   unfolding settledVerdict
   shows-settled w S.Unsettled e = (w, e)
   shows-settled w (S.Settled c) e =

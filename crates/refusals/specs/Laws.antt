@@ -23,7 +23,7 @@ Between n = (success < n) × (n < noRoom)
 
 -- ---- the writer's
 pub writing-between : (r : Writing) → Between (writingNumber r)
-writing-between W.Settings = (omega arith, omega arith)
+writing-between W.WrongSettings = (omega arith, omega arith)
 writing-between (W.PartFrame n) = (omega arith, omega arith)
 writing-between (W.TooMany n) = (omega arith, omega arith)
 writing-between (W.WideIndex f) = (omega arith, omega arith)
@@ -36,7 +36,7 @@ writing-no-success r e = omega (arith, writing-between r)
 -- the case that the number n stands for, with the place p
 unfoldable pub writingOf : ℕ → ℕ → Writing
 writingOf n p =
-    when (eqb n 1) W.Settings
+    when (eqb n 1) W.WrongSettings
     (when (eqb n 2) (W.PartFrame p)
     (when (eqb n 3) (W.TooMany p)
     (when (eqb n 4) (W.WideIndex (record { 0 = p - 1 }))
@@ -47,7 +47,7 @@ from-1 f = let e : f .0 + 1 - 1 ≡ f .0 = omega arith in rw e
 
 pub writing-told : (r : Writing) → writingOf (writingNumber r) (writingPlace r) ≡ r
 unfolding writingOf
-writing-told W.Settings = refl
+writing-told W.WrongSettings = refl
 writing-told (W.PartFrame n) = refl
 writing-told (W.TooMany n) = refl
 writing-told (W.WideIndex f) = ap W.WideIndex (from-1 f)

@@ -20,7 +20,7 @@ noRoom = 99
 
 -- ---- the writer's (01, "Writing"); frames count from 0, in the places from 1
 abbrev pub writingNumber : Writing → ℕ
-writingNumber W.Settings = 1
+writingNumber W.WrongSettings = 1
 writingNumber (W.PartFrame n) = 2
 writingNumber (W.TooMany n) = 3
 writingNumber (W.WideIndex f) = 4
@@ -28,7 +28,7 @@ writingNumber (W.ZeroFrame f) = 5
 writingNumber (W.OutputShort n) = 6
 
 abbrev pub writingPlace : Writing → ℕ
-writingPlace W.Settings = 0
+writingPlace W.WrongSettings = 0
 writingPlace (W.PartFrame n) = n
 writingPlace (W.TooMany n) = n
 writingPlace (W.WideIndex f) = f .0 + 1

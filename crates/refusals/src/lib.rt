@@ -14,7 +14,7 @@ pub const NO_ROOM: u32 = 99;
 
 // Why an utterance is not written: 01's refusals 1 to 6. Frames count from 0 here, in 01's places from 1.
 pub enum Writing {
-    Settings,
+    WrongSettings,
     PartFrame { octets: usize },
     TooMany { frames: usize },
     WideIndex { frame: Frame },
@@ -56,7 +56,7 @@ pub fn writing_number(r: Writing) -> u32
     ensures { λ n. ⌜ n ≡ writingNumber r ⌝ }
 {
     match r {
-        Writing::Settings => 1,
+        Writing::WrongSettings => 1,
         Writing::PartFrame { octets: _ } => 2,
         Writing::TooMany { frames: _ } => 3,
         Writing::WideIndex { frame: _ } => 4,
@@ -71,7 +71,7 @@ pub fn writing_place(r: Writing) -> usize
     ensures { λ n. ⌜ n ≡ writingPlace r ⌝ }
 {
     match r {
-        Writing::Settings => 0,
+        Writing::WrongSettings => 0,
         Writing::PartFrame { octets } => octets,
         Writing::TooMany { frames } => frames,
         Writing::WideIndex { frame } => frame.0 + 1,

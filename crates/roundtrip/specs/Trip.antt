@@ -19,9 +19,8 @@ use Rattle.writer.specs.Made.{Small}
 use Rattle.writer.specs.Image.{Utterance, imageOf, is-accepted}
 use Rattle.writer.specs.declared.Answer as WA
 use Rattle.writer.specs.declared.Answer.the-variants.{Written, Refused}
-use Rattle.writer.specs.declared.Refusal.the-variants.{Settings as WrongSettings}
 use Rattle.refusals.specs.declared.Writing as WR
-use Rattle.refusals.specs.declared.Writing.the-variants.{Settings}
+use Rattle.refusals.specs.declared.Writing.the-variants.{WrongSettings}
 use Rattle.reader.specs.Reading.{Outcome, outcome, reading}
 use Rattle.reader.specs.ReadingLaws.{refusal-keeps}
 use Rattle.reader.specs.Steps.{wrong-codebook}

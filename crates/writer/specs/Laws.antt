@@ -24,8 +24,7 @@ use Rattle.header.specs.Message.{message}
 use Rattle.writer.specs.Writing.{Search, at, nowhere, firstFrom, frameCount, endsEarly, firstWide, firstEarly, roomAnswer, earlyAnswer, wideAnswer, needed, verdict, multiframesFor, multiframe, image, outcome, writing, Outcome, numberOf, placeOf, isWide, finished}
 use Rattle.refusals.specs.declared.Writing.{Writing as Refusal}
 use Rattle.writer.specs.declared.Answer.{Answer}
-use Rattle.writer.specs.declared.Refusal.the-variants.{Settings as WrongSettings}
-use Rattle.refusals.specs.declared.Writing.the-variants.{Settings, PartFrame, TooMany, WideIndex, ZeroFrame, OutputShort}
+use Rattle.refusals.specs.declared.Writing.the-variants.{WrongSettings, PartFrame, TooMany, WideIndex, ZeroFrame, OutputShort}
 use Rattle.writer.specs.declared.Answer.the-variants.{Written, Refused}
 use Rattle.writer.specs.declared.Found.{Found}
 use Rattle.writer.specs.declared.Found.the-variants.{At, Nowhere}

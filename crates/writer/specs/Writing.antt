@@ -16,9 +16,8 @@ use Rattle.bits.specs.Bits.{field, octets}
 use Rattle.packet.specs.Packet.{stream}
 use Rattle.header_code.specs.Code.{codeword}
 use Rattle.header.specs.Message.{message}
-use Rattle.writer.specs.declared.Refusal.the-variants.{Settings as WrongSettings}
 use Rattle.refusals.specs.Refusals.{success, writingNumber, writingPlace}
-use Rattle.refusals.specs.declared.Writing.the-variants.{Settings, PartFrame, TooMany, WideIndex, ZeroFrame, OutputShort}
+use Rattle.refusals.specs.declared.Writing.the-variants.{WrongSettings, PartFrame, TooMany, WideIndex, ZeroFrame, OutputShort}
 use Rattle.writer.specs.declared.Answer.{Answer}
 use Rattle.writer.specs.declared.Answer.the-variants.{Written, Refused}
 

@@ -89,7 +89,7 @@ fn decide(settings: Settings, indices: &[u8], room: usize) -> Answer
     ensures { λ r. ⌜ r ≡ verdict settings (now (indices .entry)) room ⌝ }
 {
     if !settings::is_right(settings) {
-        return Answer::Refused(Writing::Settings);
+        return Answer::Refused(Writing::WrongSettings);
     }
     if indices.len() % FrameLayout::INDICES != 0 {
         return Answer::Refused(Writing::PartFrame {
