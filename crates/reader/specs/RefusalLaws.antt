@@ -18,8 +18,8 @@ use Rattle.cutting.specs.Cutting.{Ending, whole, refused, cutting}
 use Rattle.cutting.specs.Laws.{Met, sound}
 use Rattle.header.specs.Message.{rateOf, expOf}
 use Rattle.settling.specs.Settling.{readings, settling}
-use Rattle.settling.specs.declared.Settings.{Settings}
-use Rattle.settling.specs.declared.Settings.the-variants as S
+use Rattle.settling.specs.declared.Settlement.{Settlement}
+use Rattle.settling.specs.declared.Settlement.the-variants as S
 use Rattle.pairs.specs.Pairs.{pairCount, pairNotes}
 use Rattle.judging.specs.Judging.{badPairs}
 use Rattle.reader.specs.Reading.{roomVerdict, settledVerdict, wholeVerdict, endVerdict, verdict, finished, reading}
@@ -99,7 +99,7 @@ module _ (octets : List ℕ) (codebook thresholds : List ℤ) (index report : �
   unfolding wholeVerdict
   refuses-empty w z = ends (w .0) whole (w .1) ∙ rw (eq-eqb (length places) 0 z)
 
-  settled : Some → (s : Settings) → settling (readings octets places) ≡ s
+  settled : Some → (s : Settlement) → settling (readings octets places) ≡ s
       → verdict octets codebook thresholds index report ≡ settledVerdict (length places) (badPairs (pairNotes octets places codebook thresholds)) (pairCount places) index report s
   unfolding wholeVerdict
   settled w s e = ends (w .0 .0) whole (w .0 .1) ∙ rw (ne-eqb (length places) 0 (w .1), e)
@@ -161,7 +161,7 @@ module _ (octets : List ℕ) (codebook thresholds : List ℤ) (index report : �
       by-test Shows (eqb (badPairs (pairNotes octets places codebook thresholds)) (pairCount places))
       (λ b. (((f, i), ltb-false report (reportOctets * length places) k), eqb-true (badPairs (pairNotes octets places codebook thresholds)) (pairCount places) b)) (λ b. tt)))
 
-  shows-settled : Some → (s : Settings) → settling (readings octets places) ≡ s
+  shows-settled : Some → (s : Settlement) → settling (readings octets places) ≡ s
       → Shows (settledVerdict (length places) (badPairs (pairNotes octets places codebook thresholds)) (pairCount places) index report s)
   unfolding settledVerdict
   shows-settled w S.Unsettled e = (w, e)
