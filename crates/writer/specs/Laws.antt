@@ -3,7 +3,7 @@
 use mathlib.Core.Path.{_≡_, refl, sym, ap, ap₂, _∙_, subst}
 use mathlib.Core.Bool.{Bool, true, false}
 use mathlib.Core.List.{List, _++_, append-assoc}
-use Prim.Native.Nat.{ℕ, zero, suc, _+_, _-_, _*_, _/_, _%_, _≤_, _<_}
+use Prim.Native.Nat.{ℕ, zero, suc, _+_, _-_, _*_, _/_, _%_, _^_, _≤_, _<_}
 use native.Mathlib.Numerals.{add-one}
 use native.Mathlib.Decide.{ℕ-discrete}
 use native.Mathlib.Omega.{arith}
@@ -19,10 +19,10 @@ use Rattle.bits.specs.Laws.{length-octets}
 use Rattle.packet.specs.Packet.{stream}
 use Rattle.header_code.specs.Code.{codeword}
 use Rattle.header.specs.Message.{message}
-use Rattle.writer.specs.Writing.{Search, at, nowhere, firstFrom, settingsRight, frameCount, endsEarly, firstWide, firstEarly, roomAnswer, earlyAnswer, wideAnswer, needed, verdict, multiframesFor, multiframe, image, outcome, writing, Outcome, numberOf, placeOf}
-use Rattle.writer.specs.declared.Refusal.{Refusal}
+use Rattle.writer.specs.Writing.{Search, at, nowhere, firstFrom, settingsRight, frameCount, isWide, endsEarly, firstWide, firstEarly, roomAnswer, earlyAnswer, wideAnswer, needed, verdict, multiframesFor, multiframe, image, outcome, finished, writing, Outcome, numberOf, placeOf}
+use Rattle.refusals.specs.declared.Writing.{Writing as Refusal}
 use Rattle.writer.specs.declared.Answer.{Answer}
-use Rattle.writer.specs.declared.Refusal.the-variants.{Settings, PartFrame, TooMany, WideIndex, ZeroFrame, OutputShort}
+use Rattle.refusals.specs.declared.Writing.the-variants.{Settings, PartFrame, TooMany, WideIndex, ZeroFrame, OutputShort}
 use Rattle.writer.specs.declared.Answer.the-variants.{Written, Refused}
 use Rattle.writer.specs.declared.Found.{Found}
 use Rattle.writer.specs.declared.Found.the-variants.{At, Nowhere}
@@ -116,14 +116,14 @@ module _ (rate type : ℕ) (idx : List ℕ) (out : ℕ) where
   unfolding verdict
   sized s = rw (s .settings, eq-eqb (length idx % frameIndices) 0 (s .whole), le-ltb mostFrames (frameCount idx) (s .few))
 
-  pub refuses-wide : Sized rate type idx → (k : ℕ) → firstWide idx ≡ at k → verdict rate type idx out ≡ Refused (WideIndex (k + 1))
+  pub refuses-wide : Sized rate type idx → (k : ℕ) → firstWide idx ≡ at k → verdict rate type idx out ≡ Refused (WideIndex (record { 0 = k }))
   refuses-wide s k e = sized s ∙ ap (wideAnswer out (needed idx) (firstEarly idx)) e
 
   narrow : Sized rate type idx → firstWide idx ≡ nowhere → verdict rate type idx out ≡ earlyAnswer out (needed idx) (firstEarly idx)
   narrow s e = sized s ∙ ap (wideAnswer out (needed idx) (firstEarly idx)) e
 
   pub refuses-zero : Sized rate type idx → firstWide idx ≡ nowhere → (k : ℕ) → firstEarly idx ≡ at k
-      → verdict rate type idx out ≡ Refused (ZeroFrame (k + 1))
+      → verdict rate type idx out ≡ Refused (ZeroFrame (record { 0 = k }))
   refuses-zero s e k g = narrow s e ∙ ap (earlyAnswer out (needed idx)) g
 
   pub refuses-short : Sized rate type idx → firstWide idx ≡ nowhere → firstEarly idx ≡ nowhere → out < needed idx
@@ -247,8 +247,41 @@ pub leaves : (rate type : ℕ) (idx out : List ℕ) (r : Refusal) → verdict ra
 unfolding writing
 leaves rate type idx out r e = rw e
 
--- what `writing` says of answer and output, it says of 01's number and place
-pub in-numbers : (rate type : ℕ) (idx out : List ℕ) {o : Outcome} → o ≡ writing rate type idx out
+-- every place fits 64 bits, as the number of index octets does
+module _ (rate type : ℕ) (idx : List ℕ) (out : ℕ) (octets-fit : length idx < 2 ^ 64) where
+  abbrev Fits : Answer → Type 0
+  Fits a = placeOf a < 2 ^ 64
+
+  early-fits : (s : Search) → frameCount idx ≤ mostFrames → Says (endsEarly idx) 0 (frameCount idx) s → Fits (earlyAnswer out (needed idx) s)
+  unfolding roomAnswer
+  early-fits (at k) few h = omega (arith, h .1)
+  early-fits nowhere few h = by-test Fits (ltb out (needed idx)) (λ r. omega arith) (λ r. omega arith)
+
+  wide-fits : (s : Search) → frameCount idx ≤ mostFrames → Says (isWide idx) 0 (frameCount idx) s → Fits (wideAnswer out (needed idx) (firstEarly idx) s)
+  wide-fits (at k) few h = omega (arith, h .1)
+  wide-fits nowhere few h = early-fits (firstEarly idx) few (first-says (endsEarly idx) 0 (frameCount idx))
+
+  verdict-fits : Fits (verdict rate type idx out)
+  unfolding verdict
+  verdict-fits =
+      by-test Fits (settingsRight rate type) (λ s.
+      by-test Fits (eqb (length idx % frameIndices) 0) (λ w.
+      by-test Fits (ltb mostFrames (frameCount idx)) (λ f. omega arith) (λ f. wide-fits (firstWide idx) (ltb-false mostFrames (frameCount idx) f) (first-says (isWide idx) 0 (frameCount idx))))
+      (λ w. octets-fit)) (λ s. omega arith)
+
+pub place-fits : (rate type : ℕ) (idx out : List ℕ) → length idx < 2 ^ 64 → placeOf (writing rate type idx out .answer) < 2 ^ 64
+unfolding writing
+place-fits rate type idx out h = by (verdict rate type idx (length out)) (verdict-fits rate type idx (length out) h)
+  where
+    by : (a : Answer) → placeOf a < 2 ^ 64 → placeOf (finished rate type idx out a .answer) < 2 ^ 64
+    by (Written n) f = f
+    by (Refused r) f = f
+
+-- what `writing` says of answer and output, it says of 01's number and place, and the place fits
+pub in-numbers : (rate type : ℕ) (idx out : List ℕ) {o : Outcome} → length idx < 2 ^ 64 → o ≡ writing rate type idx out
     → (o ≡ writing rate type idx out)
-    × ((numberOf (o .answer) ≡ numberOf (writing rate type idx out .answer)) × (placeOf (o .answer) ≡ placeOf (writing rate type idx out .answer)))
-in-numbers rate type idx out e = (e, (ap (λ (q : Outcome). numberOf (q .answer)) e, ap (λ (q : Outcome). placeOf (q .answer)) e))
+    × ((numberOf (o .answer) ≡ numberOf (writing rate type idx out .answer))
+    × ((placeOf (o .answer) ≡ placeOf (writing rate type idx out .answer)) × (placeOf (o .answer) < 2 ^ 64)))
+in-numbers rate type idx out h e =
+    let p = ap (λ (q : Outcome). placeOf (q .answer)) e in
+    (e, (ap (λ (q : Outcome). numberOf (q .answer)) e, (p, subst (λ (k : ℕ). k < 2 ^ 64) (sym p) (place-fits rate type idx out h))))
