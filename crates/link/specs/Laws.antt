@@ -10,6 +10,7 @@ use Rattle.layout.specs.Layout.{streamOctets, indexOctets, multiframePairs}
 use Rattle.bits.specs.Bits.{bits, octets}
 use Rattle.carrier.specs.Carrier.{streamPacket}
 use Rattle.packet.specs.Packet.{stream}
+use Rattle.refusals.specs.Refusals.{success, noRoom, readingNumber, readingPlace}
 use Rattle.pairs.specs.Pairs.{allFrames, crcNotes}
 use Rattle.pairs.specs.Laws.{over-all}
 use Rattle.refusals.specs.Refusals.{success, noRoom, readingNumber, readingPlace}
