@@ -24,7 +24,7 @@ use Rattle.cutting.specs.Cutting.{Cutting, cutting}
 use Rattle.cutting.specs.Laws.{every-length}
 use Rattle.settling.specs.Settling.{readings, headerNote}
 use Rattle.reader.specs.Reading.{receivedNotes}
-use Rattle.carrier.specs.Carrier.{streamAt, received, pairCount}
+use Rattle.carrier.specs.Carrier.{received, pairCount}
 use Rattle.settling.specs.Laws.{note-flips}
 use Rattle.pairs.specs.Laws.{length-notes}
 use Rattle.reader.specs.Reading as R
