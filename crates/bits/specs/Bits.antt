@@ -67,7 +67,3 @@ Fits [] [] = Unit
 Fits [] (x ∷ f) = ⊥
 Fits (w ∷ ws) [] = ⊥
 Fits (w ∷ ws) (x ∷ f) = (x < 2 ^ w) × Fits ws f
-
--- n with the w bits from k on replaced by v
-abbrev pub spliced : ℕ → ℕ → ℕ → ℕ → ℕ
-spliced n k w v = (n / 2 ^ (k + w) * 2 ^ w + v) * 2 ^ k + n % 2 ^ k

@@ -5,7 +5,7 @@ use mathlib.Core.Path.{_≡_, refl, sym, ap, ap₂, _∙_, subst}
 use mathlib.Core.Bool.{Bool, true, false}
 use mathlib.Core.List.{List, [], _∷_, _++_, append-assoc, append-nil}
 use Prim.Native.Nat.{ℕ, zero, suc, _+_, _-_, _*_, _/_, _%_, _^_, _≤_, _<_}
-use native.Mathlib.Nat.{zero-add, suc-add, add-zero, div-one, div-div-eq-div-mul, pow-suc, pow-succ', zero-mul, suc-mul, mod-lt, mod-one, zero-lt-suc, add-assoc, mod-eq-of-lt, mul-assoc, mul-mod-left, mul-zero, mul-suc, add-comm, lt-of-lt-of-le}
+use native.Mathlib.Nat.{zero-add, suc-add, add-zero, div-one, div-div-eq-div-mul, pow-suc, pow-succ', zero-mul, suc-mul, mod-lt, mod-one, zero-lt-suc, mod-eq-of-lt, mul-assoc, mul-mod-left, mul-zero, mul-suc, add-comm, lt-of-lt-of-le}
 use native.Mathlib.Omega.{arith}
 use lib.Arith.{mod-mul, digits-div, digits-mod, digits-lt}
 use lib.Dec.{eqb, lit<}
@@ -14,7 +14,7 @@ use lib.Pow.{pow-pos, pow-mono, pow-add, split, high, mod-pow-add, shl-shr, shl-
 use lib.ListN.{length, length-drop, take, drop, getD, length-append, length-take, take-append-drop, replicate, replicate-append-replicate, length-replicate}
 use lib.Seq.{take-at, drop-at, length-take-le, take-append-le, drop-append-le, drop-drop}
 use Rattle.lists.specs.Parts.{part, over, part-over, length-part, part-left}
-use Rattle.bits.specs.Bits.{odd, one, field, value, fields, bits, laid, numbers, octets, total, Fits, spliced}
+use Rattle.bits.specs.Bits.{odd, one, field, value, fields, bits, laid, numbers, octets, total, Fits}
 
 pub length-field : (w n : ℕ) → length (field w n) ≡ w
 unfolding field
@@ -60,11 +60,6 @@ pub field-part : (j n k w : ℕ) → k + w ≤ j → part k w (field j n) ≡ fi
 field-part j n k w h =
     let e : k + (w + (j - (k + w))) ≡ j = omega arith in
     rw (← e, drop-field k (w + (j - (k + w))) n, take-field)
-
-pub field-spliced : (k w m n v : ℕ) → v < 2 ^ w → field (k + (w + m)) (spliced n k w v) ≡ over (field (k + (w + m)) n) k w (field w v)
-field-spliced k w m n v h =
-    let lo = mod-lt n (pow-pos k) in
-    rw (field-add k (w + m) (spliced n k w v), high (n / 2 ^ (k + w) * 2 ^ w + v) k lo, field-add w m, field-mod w, high (n / 2 ^ (k + w)) w h, field-mod k, field-low k n, take-field, ← add-assoc k w m, drop-field)
 
 -- ---- fields in a row, and bits of octets
 pub length-fields : (w : ℕ) (s : List ℕ) → length (fields w s) ≡ length s * w

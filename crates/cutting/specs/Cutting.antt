@@ -7,24 +7,11 @@ use lib.ListN.{length, getD}
 use lib.Dec.{ltb, eqb}
 use Rattle.lists.specs.Tests.{when}
 use Rattle.lists.specs.Parts.{over}
-use Rattle.layout.specs.Layout.{multiframeOctets, syncOctets, mostMultiframes}
+use Rattle.layout.specs.Layout.{multiframeOctets, syncOctets, mostMultiframes, syncFirst, syncSecond, inverseFirst, inverseSecond}
 use Rattle.cutting.specs.declared.Piece.{Piece}
 use Rattle.cutting.specs.declared.Piece.the-variants.{End, Multiframe, Inverse, Bad}
 use Rattle.cutting.specs.declared.Cut.{Cut}
 use Rattle.cutting.specs.declared.Cut.the-variants as C
-
--- the sync 87 B2 and the inverse sync 78 4D, in sending order (01, "Multiframe")
-abbrev pub syncFirst : ℕ
-syncFirst = 0x87
-
-abbrev pub syncSecond : ℕ
-syncSecond = 0xB2
-
-abbrev pub inverseFirst : ℕ
-inverseFirst = 0x78
-
-abbrev pub inverseSecond : ℕ
-inverseSecond = 0x4D
 
 -- a sync with n octets from it on, after m multiframes: one too many, even a cut one (15); too few octets (13); else a multiframe
 unfoldable pub syncMet : ℕ → ℕ → Piece

@@ -12,10 +12,10 @@ use lib.Dec.{ltb, eqb}
 use native.Mathlib.Omega.{arith}
 use borrow.Author.Tests.{le-ltb, ne-eqb, ltb-false, eqb-true, eqb-false}
 use Rattle.lists.specs.Tests.{by-test}
-use Rattle.layout.specs.Layout.{multiframeOctets, syncOctets, mostMultiframes}
+use Rattle.layout.specs.Layout.{multiframeOctets, syncOctets, mostMultiframes, syncFirst, syncSecond, inverseFirst, inverseSecond}
 use Rattle.cutting.specs.declared.Piece.{Piece}
 use Rattle.cutting.specs.declared.Piece.the-variants.{End, Multiframe, Inverse, Bad}
-use Rattle.cutting.specs.Cutting.{syncFirst, syncSecond, inverseFirst, inverseSecond, syncMet, lastMet, pieceBy, pieceOf, Ending, whole, refused, Cutting, prepend, step, walk, cutting}
+use Rattle.cutting.specs.Cutting.{syncMet, lastMet, pieceBy, pieceOf, Ending, whole, refused, Cutting, prepend, step, walk, cutting}
 
 -- ---- the pieces
 

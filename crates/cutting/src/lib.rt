@@ -6,15 +6,6 @@ ghost use lib.ListN.{length};
 ghost use Rattle.layout.specs.Layout.{mostMultiframes};
 ghost use Rattle.cutting.specs.Cutting.{pieceOf, syncMet, cutting, answered, laid};
 
-// The sync in sending order, and its inverse.
-pub const SYNC_FIRST: u8 = 0x87;
-
-pub const SYNC_SECOND: u8 = 0xB2;
-
-const INVERSE_FIRST: u8 = 0x78;
-
-const INVERSE_SECOND: u8 = 0x4D;
-
 // 01's numbers for what cutting meets.
 const UNKNOWN: u8 = 12;
 
@@ -45,23 +36,23 @@ pub fn piece_of(rest: &[u8], count: usize) -> Piece
     }
     let a = rest[0];
     if rest.len() == 1 {
-        if a == SYNC_FIRST {
+        if a == MultiframeLayout::SYNC_FIRST {
             return Piece::Bad { number: CUT_SHORT };
         }
-        if a == INVERSE_FIRST {
+        if a == MultiframeLayout::INVERSE_FIRST {
             return Piece::Bad { number: CUT_SHORT };
         }
         return Piece::Bad { number: UNKNOWN };
     }
     let b = rest[1];
-    if a == SYNC_FIRST {
-        if b == SYNC_SECOND {
+    if a == MultiframeLayout::SYNC_FIRST {
+        if b == MultiframeLayout::SYNC_SECOND {
             return sync_met(rest.len(), count);
         }
         return Piece::Bad { number: UNKNOWN };
     }
-    if a == INVERSE_FIRST {
-        if b == INVERSE_SECOND {
+    if a == MultiframeLayout::INVERSE_FIRST {
+        if b == MultiframeLayout::INVERSE_SECOND {
             return Piece::Inverse;
         }
     }

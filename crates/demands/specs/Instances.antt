@@ -15,6 +15,7 @@ use lib.Seq.{take-at, drop-append-add}
 use Rattle.gf2.specs.Light.{ones-in}
 use Rattle.lists.specs.Parts.{part}
 use Rattle.layout.specs.Layout.{widths, frameIndices, firstFrame, packetBits, streamOctets, packetStart}
+use Rattle.frames.specs.Frames.{zeroFrame}
 use Rattle.settings.specs.Settings.{settings}
 use Rattle.bits.specs.Bits.{field, laid}
 use Rattle.crc.specs.Crc.{crc, after, flip, Damaged}
@@ -49,11 +50,11 @@ small-lone x h (suc (suc (suc (suc (suc (suc zero)))))) = lit< tt
 small-lone x h (suc (suc (suc (suc (suc (suc (suc i))))))) = lit< tt
 
 pub written-1 : verdict (settings 0 0) (lone 1) (needed (lone 1)) ≡ Written (needed (lone 1))
-unfolding verdict roomAnswer firstFrom
+unfolding verdict roomAnswer firstFrom zeroFrame
 written-1 = refl
 
 pub written-2 : verdict (settings 0 0) (lone 2) (needed (lone 2)) ≡ Written (needed (lone 2))
-unfolding verdict roomAnswer firstFrom
+unfolding verdict roomAnswer firstFrom zeroFrame
 written-2 = refl
 
 -- 8 kHz, type 0, the frame 1,0,0,0,0,0,0; and the same with 2 for 1

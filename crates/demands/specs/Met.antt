@@ -17,6 +17,7 @@ use Rattle.gf2.specs.Light.{ones-in}
 use Rattle.lists.specs.Tests.{true-false}
 use Rattle.lists.specs.Parts.{part, over}
 use Rattle.layout.specs.Layout.{frameIndices, packetBits, streamOctets, indexOctets, reportOctets, codebookNumbers, thresholdNumbers, firstPair, packetStart}
+use Rattle.frames.specs.Frames.{zeroFrame}
 use Rattle.settings.specs.Settings.{settings}
 use Rattle.crc.specs.Crc.{flip, Damaged}
 use Rattle.crc.specs.Damage.{length-flip, flips-burst, flips-double}
@@ -233,7 +234,7 @@ small-ones (suc n) zero = lit< tt
 small-ones (suc n) (suc i) = small-ones n i
 
 written-24 : verdict (settings 0 0) (replicate 168 1) (needed (replicate 168 1)) ≡ Written (needed (replicate 168 1))
-unfolding verdict roomAnswer firstFrom
+unfolding verdict roomAnswer firstFrom zeroFrame
 written-24 = refl
 
 pub says24 : Utterance

@@ -27,7 +27,8 @@ use Rattle.gf2.specs.Xor.{xor-swap}
 use Rattle.lists.specs.Tests.{true-false}
 use Rattle.lists.specs.Parts.{part}
 use Rattle.lists.specs.Rows.{each, joined, length-joined, joined-part}
-use Rattle.layout.specs.Layout.{frameIndices, multiframeFrames, indexOctets, packetBits, multiframePairs, multiframeOctets, mostMultiframes, streamOctets, firstPair, packetStart, multiframeOf}
+use Rattle.layout.specs.Layout.{frameIndices, multiframeFrames, indexOctets, packetBits, multiframePairs, multiframeOctets, mostMultiframes, streamOctets, firstPair, packetStart, multiframeOf, sync}
+use Rattle.frames.specs.Frames.{zeroFrame}
 use Rattle.settings.specs.declared.Settings.{Settings}
 use Rattle.settings.specs.Settings.{settings}
 use Rattle.bits.specs.Bits.{field, laid}
@@ -74,7 +75,7 @@ module _ (u : Utterance) (s : List ℕ) (d : Damage (multiframesOf u) (imageOf u
   size : length s ≡ multiframeOctets * m
   size = d .size ∙ length-image (u .settings) (u .indices) m
 
-  syncs : (k : ℕ) → k < m → syncIn s k ≡ 0x87 ∷ 0xB2 ∷ []
+  syncs : (k : ℕ) → k < m → syncIn s k ≡ sync
   syncs k h = d .syncs k h ∙ image-sync (u .settings) (u .indices) m k h
 
   pub mended-unsettles : m ≡ 1 → (headerFlips (imageOf u) s 0 ≡ 0 → ⊥) → reading s codebook thresholds index report ≡ outcome (Refused Unsettled) index report
@@ -166,7 +167,7 @@ small-eighth (suc (suc (suc (suc (suc (suc zero)))))) = lit< tt
 small-eighth (suc (suc (suc (suc (suc (suc (suc i))))))) = lit< tt
 
 pub written-eighth : verdict (settings 0 0) eighth (needed eighth) ≡ Written (needed eighth)
-unfolding verdict roomAnswer firstFrom
+unfolding verdict roomAnswer firstFrom zeroFrame
 written-eighth = refl
 
 abbrev pub saysEighth : Utterance
@@ -201,7 +202,7 @@ passes-15 = record {
 -- ---- THREE FLIPS IN A HEADER CONFUSE TWO RATES: the same frames at 8 and at 11 kHz, and octets that are three header flips from the image of
 -- either and otherwise whole. This is how 8 kHz went to the 11 kHz model
 pub written-11 : verdict (settings 1 0) (lone 1) (needed (lone 1)) ≡ Written (needed (lone 1))
-unfolding verdict roomAnswer firstFrom
+unfolding verdict roomAnswer firstFrom zeroFrame
 written-11 = refl
 
 abbrev pub says1At11 : Utterance

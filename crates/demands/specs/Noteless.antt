@@ -3,7 +3,7 @@
 -- Assumes nothing.
 use mathlib.Core.Path.{_≡_, refl, sym, ap, ap₂, _∙_}
 use mathlib.Core.Bool.{Bool, true, false}
-use mathlib.Core.List.{List, [], _∷_, _++_}
+use mathlib.Core.List.{List, _++_}
 use Prim.Native.Nat.{ℕ, zero, suc, _+_, _-_, _*_, _/_, _%_, _≤_, _<_}
 use native.Mathlib.Decide.{decLt}
 use native.Mathlib.Omega.{arith}
@@ -17,7 +17,8 @@ use borrow.Author.Tests.{eqb-true}
 use Rattle.lists.specs.Tests.{when, true-false}
 use Rattle.lists.specs.Parts.{part, length-part, part-right}
 use Rattle.lists.specs.Rows.{joined, same-joined}
-use Rattle.layout.specs.Layout.{widths, frameIndices, dataBits, packetBits, multiframeFrames, multiframePairs, multiframeOctets, firstPair}
+use Rattle.layout.specs.Layout.{widths, frameIndices, dataBits, packetBits, multiframeFrames, multiframePairs, multiframeOctets, firstPair, sync}
+use Rattle.frames.specs.Frames.{zeroFrame, all-zero-at}
 use Rattle.settings.specs.declared.Settings.{Settings}
 use Rattle.bits.specs.Bits.{bits, total}
 use Rattle.bits.specs.Laws.{length-bits, length-numbers}
@@ -33,11 +34,10 @@ use Rattle.header.specs.Reading.Laws.{reads}
 use Rattle.header.specs.declared.Header.{Header}
 use Rattle.header.specs.declared.Header.the-variants.{Codeword, Lost}
 use Rattle.settling.specs.Settling.{headerNote}
-use Rattle.replacing.specs.Speech.{zeroFrame, lastNonzero, speechOf, endOf, place-le, place-stop, zero-behind, nonzero-at}
+use Rattle.replacing.specs.Speech.{lastNonzero, speechOf, endOf, place-le, place-stop, zero-behind, nonzero-at}
 use Rattle.writer.specs.Writing.{frameCount, multiframesFor, image}
 use Rattle.writer.specs.Made.{Small, syncIn, wordIn, streamIn, packetIn, framed, made-again, part-within, rows}
 use Rattle.writer.specs.Image.{image-made, words, streams}
-use Rattle.demands.specs.Whole.{all-zero-at}
 
 -- ---- a header with note 0 is a codeword with the settled common bits and the counter of its place
 -- no ones, no number
@@ -80,7 +80,7 @@ in-a-row idx q zero = refl
 in-a-row idx q (suc n) = ap (λ (l : List Bool). l ++ packetOf idx (q + n)) (in-a-row idx q n)
 
 -- ---- the octets are the image
-module _ (s : List ℕ) (m : ℕ) (size : length s ≡ multiframeOctets * m) (small : Small s) (syncs : (k : ℕ) → k < m → syncIn s k ≡ 0x87 ∷ 0xB2 ∷ [])
+module _ (s : List ℕ) (m : ℕ) (size : length s ≡ multiframeOctets * m) (small : Small s) (syncs : (k : ℕ) → k < m → syncIn s k ≡ sync)
     (settings : Settings) (idx : List ℕ) (headers : (k : ℕ) → k < m → wordIn s k ≡ codeword (message settings (k + 1) 0))
     (packets : (q : ℕ) → q < multiframePairs * m → packetOf idx q ≡ packetIn s q) where
   stream-is : (k : ℕ) → k < m → stream idx (firstPair k) multiframePairs ≡ bits (streamIn s k)

@@ -22,6 +22,7 @@ use Rattle.lists.specs.Tests.{true-false, not-false}
 use Rattle.lists.specs.Parts.{part, over, length-part}
 use Rattle.lists.specs.Rows.{joined, same-joined}
 use Rattle.layout.specs.Layout.{frameIndices, multiframeFrames, multiframePairs, indexOctets, reportOctets, firstPair}
+use Rattle.frames.specs.Frames.{allZero, zeroFrame, all-zero-at, Nonzero}
 use Rattle.settings.specs.declared.Settings.{Settings}
 use Rattle.packet.specs.Packet.{frameAt}
 use Rattle.packet.specs.Laws.{length-row, getD-row}
@@ -33,7 +34,7 @@ use Rattle.pairs.specs.Pairs.{pairCount, allFrames, pairNotes}
 use Rattle.pairs.specs.Laws.{length-notes, length-all}
 use Rattle.judging.specs.Judging.{bad, badPairs}
 use Rattle.replacing.specs.Replacing.{replaced}
-use Rattle.replacing.specs.Speech.{allZero, zeroFrame, lastNonzero, speechOf, endOf, place-le, zero-behind, nonzero-at}
+use Rattle.replacing.specs.Speech.{lastNonzero, speechOf, endOf, place-le, zero-behind, nonzero-at}
 use Rattle.reader.specs.Reading.{indexPart, reportPart, summary, Outcome, outcome, reading}
 use Rattle.reader.specs.declared.Summary.{Summary}
 use Rattle.reader.specs.declared.Answer.the-variants.{Read}
@@ -42,10 +43,10 @@ use Rattle.writer.specs.Writing as W
 use Rattle.writer.specs.Laws.{length-image}
 use Rattle.writer.specs.declared.Answer.the-variants.{Written}
 use Rattle.writer.specs.Made.{wordIn, packetIn}
-use Rattle.writer.specs.Image.{Nonzero, last-speaks, Utterance, multiframesOf, pairsOf, imageOf, is-accepted, whole-frames, writes}
+use Rattle.writer.specs.Image.{last-speaks, Utterance, multiframesOf, pairsOf, imageOf, is-accepted, whole-frames, writes}
 use Rattle.demands.specs.Damage.{DamageUpTo, Damage, loosened, headerFlips}
 use Rattle.demands.specs.Damages.{unharmed}
-use Rattle.demands.specs.Whole.{rowOf, Lent, nothing-replaced, all-zero-at}
+use Rattle.demands.specs.Whole.{rowOf, Lent, nothing-replaced}
 use Rattle.demands.specs.Headers.{Settling, enough, sentCommon, settings-sent, note-of-header}
 use Rattle.demands.specs.Received.{BadBefore, BadPair, Tells, is-so, not-so, tells-bad}
 use Rattle.demands.specs.NamesTheDamage as N

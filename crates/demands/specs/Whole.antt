@@ -1,25 +1,21 @@
 -- Octets of m whole multiframes and nothing else, as the reader meets them: where it finds each header word and each packet, and what it gives
 -- once the settings are settled, a pair is good and there is room.
 -- Assumes nothing.
-use mathlib.Core.Path.{_≡_, refl, sym, ap, ap₂, _∙_, subst}
-use mathlib.Core.Bool.{Bool, true, false}
-use lib.Dec.{eqb}
-use borrow.Author.Tests.{eq-eqb, ne-eqb, le-ltb, eqb-true}
-use Rattle.lists.specs.Tests.{when, true-false}
+use mathlib.Core.Path.{_≡_, sym, ap, ap₂, _∙_, subst}
+use borrow.Author.Tests.{eq-eqb, ne-eqb, le-ltb}
 use Rattle.replacing.specs.Replacing.{source, pairsOctets, replaced}
 use Rattle.replacing.specs.Laws.{good-stays, replaced-length, replaced-at}
-use Rattle.replacing.specs.Speech.{allZero}
-use mathlib.Core.List.{List, [], _∷_}
-use Prim.Native.Nat.{ℕ, zero, suc, _+_, _*_, _/_, _%_, _≤_, _<_}
+use mathlib.Core.List.{List, _∷_}
+use Prim.Native.Nat.{ℕ, suc, _+_, _*_, _/_, _%_, _≤_, _<_}
 use native.Mathlib.Omega.{arith}
 use lib.IntN.{ℤ}
 use lib.ListN.{length, drop, getD, List·getD-append}
 use lib.Seq.{ext-getD, getD-take, getD-drop}
 use Rattle.lists.specs.Parts.{part, over, part-left}
 use Rattle.lists.specs.Rows.{each, same-each}
-use Rattle.layout.specs.Layout.{multiframePairs, multiframeOctets, syncOctets, headerOctets, streamOctets, mostMultiframes, indexOctets, reportOctets, codebookNumbers, thresholdNumbers, pairOf, multiframeOf, firstPair}
+use Rattle.layout.specs.Layout.{multiframePairs, multiframeOctets, syncOctets, headerOctets, streamOctets, mostMultiframes, indexOctets, reportOctets, codebookNumbers, thresholdNumbers, pairOf, multiframeOf, firstPair, sync}
 use Rattle.bits.specs.Bits.{bits}
-use Rattle.cutting.specs.Cutting.{Cutting, whole, cutting, syncFirst, syncSecond}
+use Rattle.cutting.specs.Cutting.{Cutting, whole, cutting}
 use Rattle.cutting.specs.Laws.{every, every-length, every-at, whole-image}
 use Rattle.header.specs.Reading as H
 use Rattle.header.specs.declared.Header.the-variants.{Lost}
@@ -66,8 +62,8 @@ readings-are s m =
     ∙ same-each (λ k. H.reading (headerWord s (getD (rowOf m) k 0))) (λ k. H.reading (wordIn s k)) m (λ k h. ap H.reading (word-at s m k h))
 
 module _ (s : List ℕ) (m : ℕ) (few : m ≤ mostMultiframes) (size : length s ≡ multiframeOctets * m)
-    (syncs : (k : ℕ) → k < m → syncIn s k ≡ syncFirst ∷ syncSecond ∷ []) where
-  in-sync : (k i : ℕ) → k < m → i < 2 → getD s (multiframeOctets * k + i) 0 ≡ getD (syncFirst ∷ syncSecond ∷ []) i 0
+    (syncs : (k : ℕ) → k < m → syncIn s k ≡ sync) where
+  in-sync : (k i : ℕ) → k < m → i < 2 → getD s (multiframeOctets * k + i) 0 ≡ getD sync i 0
   in-sync k i h l =
       sym (getD-take 2 (drop (144 * k) s) i 0 l ∙ getD-drop (144 * k) s i 0) ∙ ap (λ (x : List ℕ). getD x i 0) (syncs k h)
 
@@ -146,18 +142,8 @@ nothing-replaced ns l good size =
     let z : 7 * (t / 7) + t % 7 ≡ t = omega arith in
     replaced-at ns l t (omega (arith, lr)) ∙ ap (λ (k : ℕ). getD l (7 * k + t % 7) 0) e ∙ ap (λ (k : ℕ). getD l k 0) z)
 
--- a zero frame is zero at each index
-pub all-zero-at : (l : List ℕ) (j : ℕ) → allZero l ≡ true → getD l j 0 ≡ 0
-all-zero-at [] j e = refl
-all-zero-at (x ∷ l) j e = by (eqb x 0) refl e j (λ i z. all-zero-at l i z)
-  where
-    by : (t : Bool) → eqb x 0 ≡ t → when t (allZero l) false ≡ true → (j : ℕ) → ((i : ℕ) → allZero l ≡ true → getD l i 0 ≡ 0) → getD (x ∷ l) j 0 ≡ 0
-    by true z e zero f = eqb-true x 0 z
-    by true z e (suc j) f = f j e
-    by false z e j f = absurd (true-false (sym e))
-
 -- ---- refusals that damage can bring: 16 and 20
-module _ (s : List ℕ) (m : ℕ) (few : m ≤ mostMultiframes) (size : length s ≡ multiframeOctets * m) (syncs : (k : ℕ) → k < m → syncIn s k ≡ syncFirst ∷ syncSecond ∷ [])
+module _ (s : List ℕ) (m : ℕ) (few : m ≤ mostMultiframes) (size : length s ≡ multiframeOctets * m) (syncs : (k : ℕ) → k < m → syncIn s k ≡ sync)
     (codebook thresholds : List ℤ) (index report : List ℕ) (some : 0 < m) (lent : Lent m codebook thresholds index report) where
   -- past 11 to 15 the settings decide
   settled-next : verdict s codebook thresholds (length index) (length report)

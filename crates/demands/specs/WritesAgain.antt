@@ -12,7 +12,7 @@ use lib.Seq.{ext-getD, getD-take, getD-drop, take-append-le}
 use Rattle.lists.specs.Tests.{not-false}
 use Rattle.lists.specs.Parts.{over, length-part}
 use Rattle.lists.specs.Rows.{each, length-each, each-at}
-use Rattle.layout.specs.Layout.{widths, frameIndices, dataBits, packetBits, multiframeFrames, multiframePairs, multiframeOctets, indexOctets, reportOctets}
+use Rattle.layout.specs.Layout.{widths, frameIndices, dataBits, packetBits, multiframeFrames, multiframePairs, multiframeOctets, indexOctets, reportOctets, sync, syncFirst, syncSecond}
 use Rattle.bits.specs.Bits.{bits}
 use Rattle.bits.specs.Laws.{length-bits}
 use Rattle.crc.specs.Crc.{Right, right}
@@ -23,7 +23,7 @@ use Rattle.header.specs.Message.{message, settingsOf}
 use Rattle.header.specs.Reading as H
 use Rattle.header.specs.declared.Header.{Header}
 use Rattle.header.specs.declared.Header.the-variants.{Lost}
-use Rattle.cutting.specs.Cutting.{cutting, syncFirst, syncSecond}
+use Rattle.cutting.specs.Cutting.{cutting}
 use Rattle.cutting.specs.Laws.{every-at, no-inverse, sound, place-stands}
 use Rattle.settling.specs.Settling.{readings, headerNote}
 use Rattle.pairs.specs.Pairs.{packetAt, pairCount, pairFails, framesOf, pairOdd, allFrames, pairNotes}
@@ -142,10 +142,10 @@ module _ (s : List ℕ) (codebook thresholds : List ℤ) (index report output : 
     place k h = ap (λ (l : List ℕ). getD l k 0) row ∙ every-at 0 m k h ∙ omega arith
 
     -- its syncs
-    syncs : (k : ℕ) → k < m → syncIn s k ≡ 0x87 ∷ 0xB2 ∷ []
+    syncs : (k : ℕ) → k < m → syncIn s k ≡ sync
     syncs k h =
         let l : length (syncIn s k) ≡ 2 = length-part s (144 * k) 2 (omega (arith, size)) in
-        ext-getD 0 (syncIn s k) (0x87 ∷ 0xB2 ∷ []) l (λ i j. at i (omega (arith, l)))
+        ext-getD 0 (syncIn s k) sync l (λ i j. at i (omega (arith, l)))
       where
         x : (0 + multiframeOctets * k ≤ getD places k 0) × (getD places k 0 + multiframeOctets ≤ length s) × (getD s (getD places k 0) 0 ≡ syncFirst) × (getD s (getD places k 0 + 1) 0 ≡ syncSecond)
         x = place-stands s 0 places (sound s .stand) k h
@@ -153,7 +153,7 @@ module _ (s : List ℕ) (codebook thresholds : List ℤ) (index report output : 
         octet : (i : ℕ) → i < 2 → getD (syncIn s k) i 0 ≡ getD s (multiframeOctets * k + i) 0
         octet i b = getD-take 2 (drop (144 * k) s) i 0 b ∙ getD-drop (144 * k) s i 0
 
-        at : (i : ℕ) → i < 2 → getD (syncIn s k) i 0 ≡ getD (0x87 ∷ 0xB2 ∷ []) i 0
+        at : (i : ℕ) → i < 2 → getD (syncIn s k) i 0 ≡ getD sync i 0
         at zero b =
             let z : 144 * k + 0 ≡ 144 * k = omega arith in
             octet 0 b ∙ ap (λ (j : ℕ). getD s j 0) (z ∙ sym (place k h)) ∙ x .2

@@ -7,9 +7,8 @@ use lib.ListN.{length}
 use lib.Dec.{ltb, leb}
 use Rattle.lists.specs.Tests.{when, both}
 use Rattle.lists.specs.Parts.{part}
-use Rattle.layout.specs.Layout.{syncOctets, headerOctets, multiframeOctets}
+use Rattle.layout.specs.Layout.{syncOctets, headerOctets, multiframeOctets, syncFirst, syncSecond}
 use Rattle.bits.specs.Bits.{field, value, bits}
-use Rattle.cutting.specs.Cutting.{syncFirst, syncSecond}
 use Rattle.header.specs.Reading.{reading}
 use Rattle.header.specs.declared.Header.{Header}
 use Rattle.header.specs.declared.Header.the-variants.{Codeword, Lost}

@@ -10,7 +10,7 @@ ghost use Rattle.header.specs.Reading.{reading};
 ghost use Rattle.hunt.specs.Hunt.{syncBits, headerBits, sync, inRange, matches, readable, headPasses, searched, placesLeft, huntedFrom, hunted, numberOf, placeOf, testedOf};
 
 // The sync's sixteen bits as a number, first sent least significant, and how many they are.
-const SYNC: u32 = 256 * (cutting::SYNC_SECOND as u32) + (cutting::SYNC_FIRST as u32);
+const SYNC: u32 = MultiframeLayout::SYNC_WORD as u32;
 
 const SYNC_BITS: usize = 8 * MultiframeLayout::SYNC;
 

@@ -6,14 +6,15 @@ use mathlib.Core.List.{List, [], _∷_}
 use native.Mathlib.Omega.{arith}
 use lib.ListN.{length, set, length-set}
 use Rattle.lists.specs.Parts.{part, over, behind, set-over}
+use Rattle.layout.specs.Layout.{syncFirst, syncSecond}
 use Rattle.bits.specs.Bits.{bits, octets}
 use Rattle.hunting.specs.Hunting.{aligned}
 
 pub put-is : (s image out : List ℕ) (p at : ℕ) → at + 144 ≤ length image
-    → out ≡ over (set (set image at 135) (at + 1) 178) (at + 2) 142 (octets 142 (part (p + 16) 1136 (bits s))) → out ≡ over image at 144 (aligned s p)
+    → out ≡ over (set (set image at syncFirst) (at + 1) syncSecond) (at + 2) 142 (octets 142 (part (p + 16) 1136 (bits s))) → out ≡ over image at 144 (aligned s p)
 unfolding aligned
 put-is s image out p at room e =
-    let a : set image at 135 ≡ over image at 1 (135 ∷ []) = set-over image at 135 (omega arith) in
-    let b : set (set image at 135) (at + 1) 178 ≡ over (set image at 135) (at + 1) 1 (178 ∷ []) = set-over (set image at 135) (at + 1) 178 (omega (arith, length-set image at 135)) in
-    let c : set (set image at 135) (at + 1) 178 ≡ over image at 2 (135 ∷ 178 ∷ []) = behind image at 1 1 (135 ∷ []) (178 ∷ []) (omega arith) refl a b in
-    behind image at 2 142 (135 ∷ 178 ∷ []) (octets 142 (part (p + 16) 1136 (bits s))) (omega arith) refl c e
+    let a : set image at syncFirst ≡ over image at 1 (syncFirst ∷ []) = set-over image at syncFirst (omega arith) in
+    let b : set (set image at syncFirst) (at + 1) syncSecond ≡ over (set image at syncFirst) (at + 1) 1 (syncSecond ∷ []) = set-over (set image at syncFirst) (at + 1) syncSecond (omega (arith, length-set image at syncFirst)) in
+    let c : set (set image at syncFirst) (at + 1) syncSecond ≡ over image at 2 (syncFirst ∷ syncSecond ∷ []) = behind image at 1 1 (syncFirst ∷ []) (syncSecond ∷ []) (omega arith) refl a b in
+    behind image at 2 142 (syncFirst ∷ syncSecond ∷ []) (octets 142 (part (p + 16) 1136 (bits s))) (omega arith) refl c e

@@ -9,9 +9,8 @@ use lib.IntN.{ℤ}
 use lib.Dec.{eqb}
 use Rattle.lists.specs.Tests.{when}
 use Rattle.lists.specs.Parts.{part}
-use Rattle.layout.specs.Layout.{syncOctets, multiframeOctets, mostMultiframes, codebookNumbers, thresholdNumbers}
+use Rattle.layout.specs.Layout.{syncOctets, multiframeOctets, mostMultiframes, codebookNumbers, thresholdNumbers, syncFirst, syncSecond}
 use Rattle.bits.specs.Bits.{bits, octets}
-use Rattle.cutting.specs.Cutting.{syncFirst, syncSecond}
 use Rattle.hunt.specs.Hunt.{syncBits, multiframeBits, inRange, searched, huntedFrom, testedOf}
 use Rattle.hunt.specs.declared.Hunted.{Hunted}
 use Rattle.hunt.specs.declared.Hunted.the-variants as H

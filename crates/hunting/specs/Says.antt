@@ -13,9 +13,9 @@ use lib.ListN.{length, getD}
 use lib.Seq.{getD-append-add}
 use borrow.Author.Tests.{eq-eqb, ne-eqb, eqb-true, eqb-false}
 use Rattle.lists.specs.Tests.{by-test, true-false}
-use Rattle.layout.specs.Layout.{mostMultiframes, codebookNumbers, thresholdNumbers}
+use Rattle.layout.specs.Layout.{mostMultiframes, codebookNumbers, thresholdNumbers, syncFirst, syncSecond}
 use Rattle.bits.specs.Bits.{bits}
-use Rattle.cutting.specs.Cutting.{Cutting, cutting, syncFirst, syncSecond, whole as uncut}
+use Rattle.cutting.specs.Cutting.{Cutting, cutting, whole as uncut}
 use Rattle.cutting.specs.Laws.{every, every-length, whole-image}
 use Rattle.settling.specs.declared.Settings.{Settings}
 use Rattle.settling.specs.declared.Settings.the-variants as S

@@ -59,8 +59,8 @@ fn put_found(octets: &[u8], place: usize, image: &mut [u8], k: Multiframe)
     ensures { λ _. ⌜ now (image .exit) ≡ over (now (image .entry)) (multiframeOctets * k .0) multiframeOctets (aligned (now (octets .entry)) place) ⌝ }
 {
     let at = MultiframeLayout::OCTETS * k.0;
-    image[at] = cutting::SYNC_FIRST;
-    image[at + 1] = cutting::SYNC_SECOND;
+    image[at] = MultiframeLayout::SYNC_FIRST;
+    image[at + 1] = MultiframeLayout::SYNC_SECOND;
     bits::copy(
         octets,
         place + SYNC_BITS,

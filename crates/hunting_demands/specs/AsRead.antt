@@ -11,11 +11,10 @@ use lib.ListN.{length, take}
 use lib.Seq.{drop-append-add}
 use Rattle.lists.specs.Parts.{part, part-left}
 use Rattle.lists.specs.Rows.{same-joined}
-use Rattle.layout.specs.Layout.{multiframeOctets, mostMultiframes, codebookNumbers, thresholdNumbers}
+use Rattle.layout.specs.Layout.{multiframeOctets, mostMultiframes, codebookNumbers, thresholdNumbers, syncFirst, syncSecond}
 use Rattle.bits.specs.Bits.{value, bits}
 use Rattle.bits.specs.Laws.{length-bits, bits-part}
 use Rattle.header.specs.Reading.{reading}
-use Rattle.cutting.specs.Cutting.{syncFirst, syncSecond}
 use Rattle.hunt.specs.Hunt.{fewestMatches, syncBits, multiframeBits, sync, matches, passes, searched}
 use Rattle.reader.specs.Reading as R
 use Rattle.reader.specs.declared.Summary.{Summary}

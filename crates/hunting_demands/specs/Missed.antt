@@ -20,6 +20,7 @@ use Rattle.gf2.specs.Light.{ones-in}
 use Rattle.lists.specs.Tests.{all-holds}
 use Rattle.lists.specs.Parts.{part, over}
 use Rattle.layout.specs.Layout.{widths, frameIndices, packetBits, packetStart, multiframePairs, streamOctets, indexOctets, reportOctets, firstPair}
+use Rattle.frames.specs.Frames.{zeroFrame}
 use Rattle.settings.specs.Settings.{settings}
 use Rattle.bits.specs.Bits.{field, fields, value, laid, numbers, bits, octets}
 use Rattle.bits.specs.Laws.{length-bits}
@@ -65,11 +66,11 @@ small-fours (suc n) zero = lit< tt
 small-fours (suc n) (suc i) = small-fours n i
 
 pub written-25 : verdict (settings 0 0) (replicate 175 4) (needed (replicate 175 4)) ≡ Written (needed (replicate 175 4))
-unfolding verdict roomAnswer firstFrom
+unfolding verdict roomAnswer firstFrom zeroFrame
 written-25 = refl
 
 pub written-1 : verdict (settings 1 0) (replicate 7 4) (needed (replicate 7 4)) ≡ Written (needed (replicate 7 4))
-unfolding verdict roomAnswer firstFrom
+unfolding verdict roomAnswer firstFrom zeroFrame
 written-1 = refl
 
 -- sent: 8 kHz, type 0, 25 frames of fours, which take two multiframes

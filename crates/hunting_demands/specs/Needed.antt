@@ -18,11 +18,10 @@ use Rattle.gf2.specs.Light.{ones-in}
 use Rattle.lists.specs.Tests.{true-false}
 use Rattle.lists.specs.Parts.{part}
 use Rattle.lists.specs.Rows.{each, joined, length-joined, joined-part}
-use Rattle.layout.specs.Layout.{packetBits, packetStart, multiframePairs, multiframeOctets, mostMultiframes, indexOctets, reportOctets, codebookNumbers, thresholdNumbers}
+use Rattle.layout.specs.Layout.{packetBits, packetStart, multiframePairs, multiframeOctets, mostMultiframes, indexOctets, reportOctets, codebookNumbers, thresholdNumbers, syncFirst, syncSecond}
 use Rattle.settings.specs.Settings.{settings}
 use Rattle.bits.specs.Bits.{field, fields, value, bits}
 use Rattle.bits.specs.Laws.{length-field, length-bits}
-use Rattle.cutting.specs.Cutting.{syncFirst, syncSecond}
 use Rattle.cutting.specs.Laws.{every-length}
 use Rattle.crc.specs.Crc.{flip}
 use Rattle.crc.specs.Damage.{length-flip, flips-burst}

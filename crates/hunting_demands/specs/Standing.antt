@@ -13,7 +13,7 @@ use lib.Dec.{leb}
 use borrow.Author.Tests.{eq-eqb, le-leb, lt-leb}
 use Rattle.lists.specs.Tests.{both}
 use Rattle.lists.specs.Parts.{part, length-part}
-use Rattle.layout.specs.Layout.{streamOctets, multiframeOctets, mostMultiframes, codebookNumbers, thresholdNumbers}
+use Rattle.layout.specs.Layout.{streamOctets, multiframeOctets, mostMultiframes, codebookNumbers, thresholdNumbers, syncFirst, syncSecond}
 use Rattle.bits.specs.Bits.{field, fields, value, bits, octets}
 use Rattle.bits.specs.Laws.{field-value, value-lt, bits-octets, octets-append}
 use Rattle.header.specs.Reading.{reading}
@@ -202,7 +202,7 @@ aligned-framed s p room =
     let parts : part (p + 16) 1136 l ≡ head ++ part (p + 16 + 32) 1104 l =
     take-add 32 1104 (drop (p + 16) l) ∙ ap (λ (x : List Bool). head ++ take 1104 x) (drop-drop 32 (p + 16) l) in
     let again : field 32 (value head) ≡ head = subst (λ (n : ℕ). field n (value head) ≡ head) size (field-value head) in
-    ap (λ (x : List ℕ). (0x87 ∷ 0xB2 ∷ []) ++ x)
+    ap (λ (x : List ℕ). (syncFirst ∷ syncSecond ∷ []) ++ x)
     (ap (octets 142) parts ∙ octets-append 4 138 head (part (p + 16 + 32) 1104 l) size
     ∙ ap (λ (x : List Bool). octets 4 x ++ octets 138 (part (p + 16 + 32) 1104 l)) (sym again))
 
@@ -234,7 +234,7 @@ module _ (s : List ℕ) (at m : ℕ) (inside : at + multiframeBits * m ≤ searc
   image-small = subst Small (sym image-made) (small-made words streams m)
 
   module _ (k : ℕ) (h : k < m) where
-    pub image-sync : syncIn (imageOf s (row at m)) k ≡ 0x87 ∷ 0xB2 ∷ []
+    pub image-sync : syncIn (imageOf s (row at m)) k ≡ syncFirst ∷ syncSecond ∷ []
     image-sync = ap (λ (x : List ℕ). syncIn x k) image-made ∙ made-sync words streams m k h
 
     pub image-word : wordIn (imageOf s (row at m)) k ≡ wordAt (bits s) (placeInRow at k)

@@ -38,6 +38,26 @@ multiframeFrames = pairFrames * multiframePairs
 abbrev pub syncOctets : ℕ
 syncOctets = 2
 
+-- the sync 87 B2 and the inverse sync 78 4D, in sending order
+abbrev pub syncFirst : ℕ
+syncFirst = 0x87
+
+abbrev pub syncSecond : ℕ
+syncSecond = 0xB2
+
+abbrev pub sync : List ℕ
+sync = syncFirst ∷ syncSecond ∷ []
+
+abbrev pub inverseFirst : ℕ
+inverseFirst = 0x78
+
+abbrev pub inverseSecond : ℕ
+inverseSecond = 0x4D
+
+-- the sync's sixteen bits as a number, the first sent lowest
+abbrev pub syncWord : ℕ
+syncWord = 256 * syncSecond + syncFirst
+
 abbrev pub headerOctets : ℕ
 headerOctets = 4
 
@@ -82,9 +102,6 @@ multiframeOf pair = pair / multiframePairs
 
 abbrev pub firstPair : ℕ → ℕ
 firstPair multiframe = multiframePairs * multiframe
-
-abbrev pub multiframeOfFrame : ℕ → ℕ
-multiframeOfFrame frame = frame / multiframeFrames
 
 abbrev pub firstFrameOf : ℕ → ℕ
 firstFrameOf multiframe = multiframeFrames * multiframe

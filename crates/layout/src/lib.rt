@@ -2,7 +2,7 @@
 // standard keeps apart. A second layout (the extended front end) gets types of its own beside these.
 ghost use mathlib.Core.Path.{_≡_};
 ghost use Prim.Native.Nat.{_<_};
-ghost use Rattle.layout.specs.Layout.{frameIndices, frameBits, crcBits, dataBits, packetBits, multiframePairs, multiframeFrames, headerOctets, streamOctets, multiframeOctets, mostMultiframes, mostFrames, indexOctets, reportOctets, codebookNumbers, thresholdNumbers, pairOf, firstFrame, secondFrame, multiframeOf, firstPair, multiframeOfFrame, firstFrameOf, packetStart};
+ghost use Rattle.layout.specs.Layout.{frameIndices, frameBits, crcBits, dataBits, packetBits, multiframePairs, multiframeFrames, syncOctets, syncFirst, syncSecond, syncWord, inverseFirst, inverseSecond, headerOctets, streamOctets, multiframeOctets, mostMultiframes, mostFrames, indexOctets, reportOctets, codebookNumbers, thresholdNumbers, firstFrame, secondFrame, multiframeOf, firstPair, firstFrameOf, packetStart};
 
 // Six indices of 6 bits, then one of 8.
 pub struct FrameLayout;
@@ -42,6 +42,18 @@ impl MultiframeLayout {
 
     pub const SYNC: usize = 2;
 
+    // The sync in sending order, and its inverse.
+    pub const SYNC_FIRST: u8 = 0x87;
+
+    pub const SYNC_SECOND: u8 = 0xB2;
+
+    pub const INVERSE_FIRST: u8 = 0x78;
+
+    pub const INVERSE_SECOND: u8 = 0x4D;
+
+    // The sync's sixteen bits as a number, the first sent lowest.
+    pub const SYNC_WORD: u64 = 256 * (Self::SYNC_SECOND as u64) + (Self::SYNC_FIRST as u64);
+
     pub const HEADER: usize = 4;
 
     pub const STREAM: usize = PacketLayout::BITS * Self::PAIRS / 8;
@@ -71,6 +83,12 @@ impl ReadingLayout {
     pub const THRESHOLDS: usize = 2 * FrameLayout::INDICES;
 }
 
+// The two octets of a sync, in sending order.
+pub struct SyncOctets {
+    pub first: u8,
+    pub second: u8,
+}
+
 // The constants above, handed out so that a contract can hold them to the definitions' sizes.
 pub struct Sizes {
     pub indices: usize,
@@ -80,6 +98,10 @@ pub struct Sizes {
     pub packet: usize,
     pub pairs: usize,
     pub frames: usize,
+    pub sync: usize,
+    pub opening: SyncOctets,
+    pub inverse: SyncOctets,
+    pub word: u64,
     pub header: usize,
     pub stream: usize,
     pub multiframe: usize,
@@ -95,6 +117,8 @@ pub fn all_sizes() -> Sizes
     ensures frame { λ r. ⌜ (r .indices ≡ frameIndices) × (r .frame ≡ frameBits) ⌝ }
     ensures packet { λ r. ⌜ (r .crc ≡ crcBits) × (r .data ≡ dataBits) × (r .packet ≡ packetBits) ⌝ }
     ensures multiframe { λ r. ⌜ (r .pairs ≡ multiframePairs) × (r .frames ≡ multiframeFrames) × (r .header ≡ headerOctets) × (r .stream ≡ streamOctets) × (r .multiframe ≡ multiframeOctets) ⌝ }
+    ensures sync { λ r. ⌜ (r .sync ≡ syncOctets) × (r .opening .first ≡ syncFirst) × (r .opening .second ≡ syncSecond) × (r .word ≡ syncWord) ⌝ }
+    ensures inverse { λ r. ⌜ (r .inverse .first ≡ inverseFirst) × (r .inverse .second ≡ inverseSecond) ⌝ }
     ensures utterance { λ r. ⌜ (r .multiframes ≡ mostMultiframes) × (r .speech ≡ mostFrames) ⌝ }
     ensures lent { λ r. ⌜ (r .index ≡ indexOctets) × (r .report ≡ reportOctets) × (r .codebook ≡ codebookNumbers) × (r .thresholds ≡ thresholdNumbers) ⌝ }
 {
@@ -106,6 +130,16 @@ pub fn all_sizes() -> Sizes
         packet: PacketLayout::BITS,
         pairs: MultiframeLayout::PAIRS,
         frames: MultiframeLayout::FRAMES,
+        sync: MultiframeLayout::SYNC,
+        opening: SyncOctets {
+            first: MultiframeLayout::SYNC_FIRST,
+            second: MultiframeLayout::SYNC_SECOND,
+        },
+        inverse: SyncOctets {
+            first: MultiframeLayout::INVERSE_FIRST,
+            second: MultiframeLayout::INVERSE_SECOND,
+        },
+        word: MultiframeLayout::SYNC_WORD,
         header: MultiframeLayout::HEADER,
         stream: MultiframeLayout::STREAM,
         multiframe: MultiframeLayout::OCTETS,
@@ -124,20 +158,6 @@ pub struct Frame(pub usize);
 pub struct Pair(pub usize);
 
 pub struct Multiframe(pub usize);
-
-impl Frame {
-    pub fn pair(self) -> Pair
-        ensures { λ r. ⌜ r .0 ≡ pairOf (self .0) ⌝ }
-    {
-        Pair(self.0 / PacketLayout::FRAMES)
-    }
-
-    pub fn multiframe(self) -> Multiframe
-        ensures { λ r. ⌜ r .0 ≡ multiframeOfFrame (self .0) ⌝ }
-    {
-        Multiframe(self.0 / MultiframeLayout::FRAMES)
-    }
-}
 
 impl Pair {
     // A pair of a recording: far more than an utterance has, few enough that its frames' numbers fit.

@@ -5,6 +5,7 @@ use mathlib.Core.Path.{_≡_, refl}
 use mathlib.Core.List.{List, [], _∷_}
 use Prim.Native.Nat.{ℕ}
 use lib.ListN.{replicate}
+use Rattle.frames.specs.Frames.{zeroFrame}
 use Rattle.settings.specs.Settings.{settings}
 use Rattle.reader.specs.Reading.{Outcome, outcome, reading, verdict}
 use Rattle.reader.specs.declared.Refusal.the-variants.{CutShort, IndexShort, AllBad}
@@ -45,7 +46,7 @@ pub record Table : Type 0 where
   pub wide-index : dsrWrite 0 0 (64 ∷ 0 ∷ 0 ∷ 0 ∷ 0 ∷ 0 ∷ 0 ∷ []) (7 ∷ []) ≡ record { number = 4; output = 7 ∷ []; place = 1 }
 
 pub table : Table
-unfolding returning reading verdict writing W.verdict roomAnswer firstFrom
+unfolding returning reading verdict writing W.verdict roomAnswer firstFrom zeroFrame
 table = record {
   six-numbers = refl;
   refused-13 = refl;

@@ -8,8 +8,8 @@ use lib.IntN.{ℤ}
 use lib.ListN.{length, take, getD}
 use borrow.Author.Tests.{le-ltb}
 use Rattle.lists.specs.Parts.{over}
-use Rattle.layout.specs.Layout.{multiframePairs, multiframeFrames, multiframeOctets, mostMultiframes}
-use Rattle.cutting.specs.Cutting.{cutting, whole, inverseFirst, inverseSecond}
+use Rattle.layout.specs.Layout.{multiframePairs, multiframeFrames, multiframeOctets, mostMultiframes, inverseFirst, inverseSecond}
+use Rattle.cutting.specs.Cutting.{cutting, whole}
 use Rattle.reader.specs.Reading.{Outcome, reading}
 use Rattle.reader.specs.declared.Summary.{Summary}
 use Rattle.writer.specs.Image.{Utterance, multiframesOf, imageOf}

@@ -16,6 +16,7 @@ use Rattle.lists.specs.Tests.{when}
 use Rattle.lists.specs.Parts.{part, over}
 use Rattle.lists.specs.Rows.{joined, each, each-at, same-each}
 use Rattle.layout.specs.Layout.{indexOctets, reportOctets, firstPair, multiframePairs}
+use Rattle.frames.specs.Frames.{zeroFrame}
 use Rattle.settings.specs.Settings.{settings}
 use Rattle.bits.specs.Bits.{value, numbers, field, fields, total}
 use Rattle.crc.specs.Crc.{after, crc, alike, right}
@@ -37,7 +38,7 @@ use Rattle.pairs.specs.Pairs.{pairCount, pairFails, pairOdd, framesOf, allFrame
 use Rattle.pairs.specs.Laws.{length-notes, no-failed-crc}
 use Rattle.judging.specs.Judging.{noteBy, notes, badPairs}
 use Rattle.replacing.specs.Replacing.{runStart, leading, sourceBy, source, replaced}
-use Rattle.replacing.specs.Speech.{zeroFrame, lastNonzero, speechOf, endOf}
+use Rattle.replacing.specs.Speech.{lastNonzero, speechOf, endOf}
 use Rattle.reader.specs.Reading.{answerNumber, answerValues, summary, indexPart, reportPart, Outcome, outcome, finished, reading}
 use Rattle.reader.specs.ReadingLaws.{Usable, Fitting, Accepted, accepting}
 use Rattle.reader.specs.declared.Verdict.{Verdict}

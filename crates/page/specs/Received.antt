@@ -16,7 +16,8 @@ use borrow.Author.Tests.{eq-eqb, ne-eqb, lt-ltb, le-ltb}
 use Rattle.gf2.specs.Light.{ones-in}
 use Rattle.lists.specs.Parts.{part}
 use Rattle.lists.specs.Rows.{joined, each, length-each, each-at, same-each, length-joined, joined-part}
-use Rattle.layout.specs.Layout.{multiframeOctets, mostMultiframes, indexOctets, reportOctets}
+use Rattle.layout.specs.Layout.{multiframeOctets, mostMultiframes, indexOctets, reportOctets, syncFirst, syncSecond}
+use Rattle.frames.specs.Frames.{zeroFrame}
 use Rattle.settings.specs.Settings.{settings}
 use Rattle.bits.specs.Bits.{value, bits, field, fields}
 use Rattle.crc.specs.Crc.{after, crc, alike, right}
@@ -28,7 +29,7 @@ use Rattle.header.specs.Reading as H
 use Rattle.header.specs.Reading.Laws.{lost-at-three}
 use Rattle.header.specs.declared.Header.{Header}
 use Rattle.header.specs.declared.Header.the-variants.{Codeword, Lost}
-use Rattle.cutting.specs.Cutting.{syncFirst, syncSecond, syncMet, lastMet, pieceBy, pieceOf, Ending, whole, refused, Cutting, walk, cutting}
+use Rattle.cutting.specs.Cutting.{syncMet, lastMet, pieceBy, pieceOf, Ending, whole, refused, Cutting, walk, cutting}
 use Rattle.cutting.specs.declared.Piece.the-variants.{Multiframe}
 use Rattle.cutting.specs.Laws.{multiframe-met, at-place, every-length}
 use Rattle.settling.specs.Settling.{readings, firstAgreeing, onlyOne, settling}
@@ -529,7 +530,7 @@ bad-19 : Sized allBad 168 12 19 13
 bad-19 = is-19 allBad (0 ∷ []) cut-bad (λ e. omega arith) (commonBits 8) settles-bad usable-8 168 12 (lit< tt) (lit< tt)
 
 pub table : Table
-unfolding walk pieceBy syncMet lastMet cutRefusal verdict roomAnswer firstFrom
+unfolding walk pieceBy syncMet lastMet cutRefusal verdict roomAnswer firstFrom zeroFrame
 table = record {
   codebook-1279 = λ s. no-codebook s 1279 14 (λ e. omega arith);
   codebook-1281 = λ s. no-codebook s 1281 14 (λ e. omega arith);

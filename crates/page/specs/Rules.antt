@@ -9,6 +9,7 @@ use native.Mathlib.Omega.{arith}
 use lib.IntN.{ℤ, pos, negsuc}
 use lib.ListN.{replicate}
 use borrow.Author.Tests.{eq-eqb, ne-eqb}
+use Rattle.frames.specs.Frames.{zeroFrame}
 use Rattle.settings.specs.Settings.{settings as set}
 use Rattle.header.specs.Message.{message, rateOf, countOf, commonBits}
 use Rattle.header.specs.Message.Laws.{rate-back, count-back, common-rate, common-message, message-counts, message-rate-1}
@@ -19,7 +20,7 @@ use Rattle.settling.specs.declared.Settings.the-variants.{Settled, Unsettled}
 use Rattle.consistency.specs.Consistency.{exceeding, risen, flagged, flags, inconsistent}
 use Rattle.replacing.specs.Replacing.{source, sourceBy, runStart, leading}
 use Rattle.replacing.specs.Examples.{standIns}
-use Rattle.replacing.specs.Speech.{zeroFrame, lastNonzero, speechOf, endOf}
+use Rattle.replacing.specs.Speech.{lastNonzero, speechOf, endOf}
 
 -- ---- tables
 -- k, k + 1, .., n of them: the number at place p of `upTo` is p

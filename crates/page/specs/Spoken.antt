@@ -17,6 +17,7 @@ use Rattle.gf2.specs.Light.{ones-in}
 use Rattle.lists.specs.Tests.{when, true-false}
 use Rattle.lists.specs.Parts.{part}
 use Rattle.layout.specs.Layout.{packetBits, frameIndices, firstFrame, secondFrame, firstPair, multiframePairs, multiframeFrames, multiframeOctets, mostFrames}
+use Rattle.frames.specs.Frames.{zeroFrame, speaks}
 use Rattle.settings.specs.declared.Settings.{Settings}
 use Rattle.settings.specs.Settings.{settings, settingsRight}
 use Rattle.crc.specs.Damage.{flips-burst, flips-double}
@@ -26,7 +27,7 @@ use Rattle.header_code.specs.Code.{codeword, flipsTo}
 use Rattle.header_code.specs.Code.Distance.{codeword-lt}
 use Rattle.header.specs.Message.Laws.{message-lt}
 use Rattle.header.specs.Reading.Laws.{flips-of}
-use Rattle.writer.specs.Writing.{nowhere, firstFrom, isFound, frameCount, isWide, isZero, mustSpeak, endsEarly, needed, verdict, Outcome, writing}
+use Rattle.writer.specs.Writing.{nowhere, firstFrom, isFound, frameCount, isWide, mustSpeak, endsEarly, needed, verdict, Outcome, writing}
 use Rattle.writer.specs.Laws.{Sized, accepts}
 use Rattle.writer.specs.Made.{packetIn, made-word, made-packet}
 use Rattle.writer.specs.Image.{Utterance, multiframesOf, pairsOf, imageOf, image-packet, writes}
@@ -58,9 +59,8 @@ module _ (n k : ℕ) (h : k < n) where
   not-wide : isWide (ones n) k ≡ false
   not-wide = ap isFound (search-none (λ j. ltb 63 (getD (ones n) j 0)) (7 * k) 6 (λ i a b. ap (ltb 63) (one-at i (omega arith))))
 
-  not-zero : isZero (ones n) k ≡ false
-  unfolding firstFrom
-  not-zero = rw (one-at (7 * k) (omega arith))
+  not-zero : zeroFrame (ones n) k ≡ false
+  not-zero = speaks (ones n) k (record { place = 0; within = omega arith; nonzero = λ z. omega (arith, z, one-at (7 * k + 0) (omega arith)) })
 
   not-early : endsEarly (ones n) k ≡ false
   not-early = ap (λ (z : Bool). when (mustSpeak (frameCount (ones n)) k) z false) not-zero ∙ either (mustSpeak (frameCount (ones n)) k)

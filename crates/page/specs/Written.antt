@@ -8,6 +8,7 @@ use Prim.Native.Nat.{ℕ, _*_, _≤_}
 use lib.Dec.{lit≤}
 use lib.ListN.{length, replicate}
 use Rattle.layout.specs.Layout.{streamOctets, firstPair, multiframePairs}
+use Rattle.frames.specs.Frames.{zeroFrame}
 use Rattle.settings.specs.Settings.{settings}
 use Rattle.bits.specs.Bits.{numbers, value, laid, field, octets}
 use Rattle.crc.specs.Crc.{crc, after}
@@ -114,7 +115,7 @@ long : (out : List ℕ) → 36720 ≤ length out → told 0 0 (replicate 42833 1
 long out h = ap (λ (a : Answer). (numberOf a, placeOf a)) (written-ones (settings 0 0) 6119 refl (lit≤ tt) out h)
 
 pub table : Table
-unfolding writing verdict roomAnswer firstFrom
+unfolding writing verdict roomAnswer firstFrom zeroFrame
 table = record {
   rate-2 = λ out. refl;
   rate-4 = λ out. refl;

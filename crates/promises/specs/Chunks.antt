@@ -12,10 +12,10 @@ use lib.ListN.{length, take, drop, getD, length-append, length-drop, take-append
 use lib.Seq.{length-take-le, drop-at, getD-take, ext-getD}
 use borrow.Author.Tests.{eq-eqb}
 use Rattle.lists.specs.Tests.{by-test}
-use Rattle.layout.specs.Layout.{multiframeOctets, syncOctets, mostMultiframes, codebookNumbers, thresholdNumbers}
+use Rattle.layout.specs.Layout.{multiframeOctets, syncOctets, mostMultiframes, codebookNumbers, thresholdNumbers, syncFirst, syncSecond, inverseFirst, inverseSecond}
 use Rattle.cutting.specs.declared.Piece.{Piece}
 use Rattle.cutting.specs.declared.Piece.the-variants.{End, Multiframe, Inverse, Bad}
-use Rattle.cutting.specs.Cutting.{syncFirst, syncSecond, inverseFirst, inverseSecond, pieceOf, whole, refused, Cutting, prepend, step, walk, cutting}
+use Rattle.cutting.specs.Cutting.{pieceOf, whole, refused, Cutting, prepend, step, walk, cutting}
 use Rattle.cutting.specs.Laws.{multiframe-met, inverse-met, Says, says, walk-step, Ended, sound, Chunk, multiframe, inverse, octetsOf, placesOf, Proper}
 use Rattle.reader.specs.Reading.{numberOf, placeOf, cutRefusal, wholeVerdict, endVerdict, verdict, Outcome, outcome, reading}
 use Rattle.reader.specs.ReadingLaws.{refused-keeps}

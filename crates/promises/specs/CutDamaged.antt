@@ -12,6 +12,7 @@ use lib.ListN.{length, take, drop, getD}
 use Rattle.lists.specs.Tests.{true-false, not-false, when}
 use Rattle.lists.specs.Parts.{part, over}
 use Rattle.layout.specs.Layout.{dataBits, multiframePairs, multiframeOctets, indexOctets, reportOctets, frameIndices}
+use Rattle.frames.specs.Frames.{zeroFrame, allZero}
 use Rattle.crc.specs.Crc.{right}
 use Rattle.packet.specs.Packet.{packetOf}
 use Rattle.packet.specs.Laws.{packetOf-good}
@@ -21,7 +22,7 @@ use Rattle.pairs.specs.Laws.{length-notes, length-all}
 use Rattle.judging.specs.Laws.{Good}
 use Rattle.replacing.specs.Replacing.{replaced}
 use Rattle.replacing.specs.Laws.{good-kept, Run, at-the-end, frame-replaced}
-use Rattle.replacing.specs.Speech.{zeroFrame, endOf, allZero}
+use Rattle.replacing.specs.Speech.{endOf}
 use Rattle.reader.specs.Reading.{indexPart, reportPart, summary, Outcome, outcome, reading}
 use Rattle.reader.specs.declared.Summary.{Summary}
 use Rattle.reader.specs.declared.Answer.the-variants.{Read}

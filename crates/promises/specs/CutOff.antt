@@ -17,14 +17,15 @@ use lib.ListN.{length, take, drop, getD, replicate, length-drop}
 use lib.Seq.{length-take-le, take-all, take-add, ext-getD, getD-take, getD-drop}
 use Rattle.lists.specs.Parts.{part, over, length-part}
 use Rattle.lists.specs.Rows.{each-at, same-joined}
-use Rattle.layout.specs.Layout.{dataBits, multiframeFrames, multiframePairs, multiframeOctets, mostMultiframes, indexOctets, reportOctets, firstPair}
+use Rattle.layout.specs.Layout.{dataBits, multiframeFrames, multiframePairs, multiframeOctets, mostMultiframes, indexOctets, reportOctets, firstPair, sync, syncFirst, syncSecond}
+use Rattle.frames.specs.Frames.{zeroFrame}
 use Rattle.settings.specs.declared.Settings.{Settings}
 use Rattle.settings.specs.Settings.{settings}
 use Rattle.crc.specs.Crc.{right}
 use Rattle.packet.specs.Packet.{packetOf}
 use Rattle.packet.specs.Laws.{getD-row, packetOf-good}
 use Rattle.cutting.specs.declared.Piece.the-variants.{Bad}
-use Rattle.cutting.specs.Cutting.{syncFirst, syncSecond, syncMet, pieceBy, pieceOf, Cutting, cutting}
+use Rattle.cutting.specs.Cutting.{syncMet, pieceBy, pieceOf, Cutting, cutting}
 use Rattle.cutting.specs.Laws.{lone-sync, every-length, octetsOf}
 use Rattle.header.specs.Message.{settingsOf}
 use Rattle.header.specs.Message.Laws.{count-back}
@@ -36,7 +37,7 @@ use Rattle.pairs.specs.Pairs.{pairCount, pairFails, allFrames, pairNotes}
 use Rattle.pairs.specs.Laws.{length-notes, length-all, no-failed-crc}
 use Rattle.judging.specs.Judging.{badPairs}
 use Rattle.judging.specs.Laws.{Good}
-use Rattle.replacing.specs.Speech.{zeroFrame, speechOf, endOf, place-stop}
+use Rattle.replacing.specs.Speech.{speechOf, endOf, place-stop}
 use Rattle.reader.specs.Reading.{indexPart, reportPart, summary, Outcome, outcome, reading}
 use Rattle.reader.specs.ReadingLaws.{Accepted}
 use Rattle.reader.specs.declared.Summary.{Summary}
@@ -263,7 +264,7 @@ cut-inside-damaged u s d k j less some short codebook thresholds index report ta
     size : length (take j (drop (multiframeOctets * k) s)) ≡ j
     size = length-take-le j (drop (144 * k) s) (omega (arith, length-drop (144 * k) s, F.size u s d k (omega arith)))
 
-    octet : (i : ℕ) → i < j → i < 2 → getD (take j (drop (multiframeOctets * k) s)) i 0 ≡ getD (syncFirst ∷ syncSecond ∷ []) i 0
+    octet : (i : ℕ) → i < j → i < 2 → getD (take j (drop (multiframeOctets * k) s)) i 0 ≡ getD sync i 0
     octet i h l =
         getD-take j (drop (144 * k) s) i 0 h ∙ sym (getD-take 2 (drop (144 * k) s) i 0 l) ∙ ap (λ (x : List ℕ). getD x i 0) (F.syncs u s d k (omega arith) k less)
 

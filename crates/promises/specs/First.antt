@@ -13,11 +13,12 @@ use lib.ListN.{length, take, drop, getD, take-append-drop}
 use lib.Seq.{length-take-le, take-at, take-all}
 use Rattle.lists.specs.Parts.{part, over, part-left, part-right}
 use Rattle.lists.specs.Rows.{each, length-each, each-at, same-each}
-use Rattle.layout.specs.Layout.{widths, frameIndices, packetBits, multiframeFrames, multiframePairs, multiframeOctets, mostMultiframes, indexOctets, reportOctets, pairOf, firstFrame, secondFrame, packetStart}
+use Rattle.layout.specs.Layout.{widths, frameIndices, packetBits, multiframeFrames, multiframePairs, multiframeOctets, mostMultiframes, indexOctets, reportOctets, pairOf, firstFrame, secondFrame, packetStart, sync}
+use Rattle.frames.specs.Frames.{allZero, zeroFrame, all-zero-at, Nonzero}
 use Rattle.bits.specs.Bits.{value, bits}
 use Rattle.packet.specs.Packet.{apart, frameAt, packetOf}
 use Rattle.packet.specs.Laws.{length-row, getD-row, packetOf-back}
-use Rattle.cutting.specs.Cutting.{whole, cutting, syncFirst, syncSecond}
+use Rattle.cutting.specs.Cutting.{whole, cutting}
 use Rattle.cutting.specs.Laws.{every-length}
 use Rattle.header.specs.Message.{commonBits}
 use Rattle.header.specs.Reading as H
@@ -30,15 +31,14 @@ use Rattle.pairs.specs.Pairs.{packetAt, pairCount, pairFails, framesOf, allFram
 use Rattle.pairs.specs.Laws.{length-notes, length-all, frames-at}
 use Rattle.judging.specs.Judging.{noteBy, notes}
 use Rattle.judging.specs.Laws.{failed-is-1, consistent-is-good, badBefore, note-at, Good, none-good}
-use Rattle.replacing.specs.Speech.{allZero, zeroFrame}
 use Rattle.reader.specs.Reading.{indexPart, reportPart, summary, outcome, reading}
 use Rattle.reader.specs.declared.Answer.the-variants.{Read}
 use Rattle.writer.specs.Writing.{needed}
 use Rattle.writer.specs.Laws.{few-multiframes, length-image}
 use Rattle.writer.specs.Made.{syncIn, wordIn, packetIn, part-within}
-use Rattle.writer.specs.Image.{Nonzero, boundary-speaks, image-sync, Utterance, multiframesOf, imageOf, is-accepted, rate-not-2, fits-each-frame}
+use Rattle.writer.specs.Image.{boundary-speaks, image-sync, Utterance, multiframesOf, imageOf, is-accepted, rate-not-2, fits-each-frame}
 use Rattle.demands.specs.Damage.{Damage, headerFlips, sentMessage, header-read}
-use Rattle.demands.specs.Whole.{rowOf, Lent, readings-are, packet-at, cut-is, reads-as, all-zero-at}
+use Rattle.demands.specs.Whole.{rowOf, Lent, readings-are, packet-at, cut-is, reads-as}
 use Rattle.demands.specs.Headers.{sentCommon, common-sent, rate-sent, exp-sent}
 
 -- ---- headers that all have the same common bits
@@ -121,10 +121,10 @@ module _ (u : Utterance) (s : List ℕ) (d : Damage (multiframesOf u) (imageOf u
   pub few : m ≤ mostMultiframes
   few = few-multiframes (u .settings) (u .indices) (is-accepted u .sizes)
 
-  pub syncs : (i : ℕ) → i < m → syncIn s i ≡ syncFirst ∷ syncSecond ∷ []
+  pub syncs : (i : ℕ) → i < m → syncIn s i ≡ sync
   syncs i h = d .syncs i h ∙ image-sync (u .settings) (u .indices) m i h
 
-  pub syncs-first : (i : ℕ) → i < k → syncIn first i ≡ syncFirst ∷ syncSecond ∷ []
+  pub syncs-first : (i : ℕ) → i < k → syncIn first i ≡ sync
   syncs-first i h = part-first (144 * i) 2 (omega arith) ∙ syncs i (omega arith)
 
   pub cut-first : cutting first ≡ record { places = rowOf k; ending = whole }

@@ -11,9 +11,10 @@ use lib.ListN.{length}
 use Rattle.lists.specs.Tests.{when}
 use Rattle.lists.specs.Parts.{over}
 use Rattle.layout.specs.Layout.{multiframeFrames, indexOctets, reportOctets, pairOf, firstPair}
+use Rattle.frames.specs.Frames.{allZero, zeroFrame}
 use Rattle.cutting.specs.Laws.{every-length}
 use Rattle.pairs.specs.Pairs.{pairNotes}
-use Rattle.replacing.specs.Speech.{allZero, zeroFrame, lastNonzero, speechOf, endOf}
+use Rattle.replacing.specs.Speech.{lastNonzero, speechOf, endOf}
 use Rattle.reader.specs.Reading.{indexPart, summary, Outcome, outcome, reading}
 use Rattle.reader.specs.declared.Summary.{Summary}
 use Rattle.reader.specs.declared.Answer.the-variants.{Read}

@@ -11,8 +11,8 @@ use lib.IntN.{ℤ}
 use lib.ListN.{length, getD}
 use Rattle.lists.specs.Tests.{true-false}
 use Rattle.lists.specs.Parts.{over}
-use Rattle.layout.specs.Layout.{indexOctets, reportOctets}
-use Rattle.cutting.specs.Cutting.{Cutting, cutting, syncFirst, syncSecond}
+use Rattle.layout.specs.Layout.{indexOctets, reportOctets, sync}
+use Rattle.cutting.specs.Cutting.{Cutting, cutting}
 use Rattle.cutting.specs.Laws.{every-length}
 use Rattle.settling.specs.Settling.{readings, settling}
 use Rattle.settling.specs.declared.Settings.the-variants.{Settled}
@@ -44,7 +44,7 @@ module _ (u : Utterance) (s : List ℕ) (d : DamageUpTo 3 (multiframesOf u) (ima
   w : A.WasRead s codebook thresholds index report [] given
   w = A.was-read s codebook thresholds index report [] given e
 
-  syncs : (k : ℕ) → k < m → syncIn s k ≡ syncFirst ∷ syncSecond ∷ []
+  syncs : (k : ℕ) → k < m → syncIn s k ≡ sync
   syncs k h = d .syncs k h ∙ image-sync (u .settings) (u .indices) m k h
 
   cut : cutting s .places ≡ rowOf m

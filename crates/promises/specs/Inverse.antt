@@ -9,9 +9,9 @@ use lib.IntN.{ℤ}
 use lib.ListN.{length, take, drop, getD, replicate, length-append, length-drop, take-append-drop}
 use lib.Seq.{take-at, drop-length, drop-drop, getD-take}
 use Rattle.lists.specs.Parts.{part, part-right, length-part}
-use Rattle.layout.specs.Layout.{multiframeOctets, syncOctets, headerOctets, streamOctets, mostMultiframes}
+use Rattle.layout.specs.Layout.{multiframeOctets, syncOctets, headerOctets, streamOctets, mostMultiframes, sync, syncFirst, syncSecond, inverseFirst, inverseSecond}
 use Rattle.cutting.specs.declared.Piece.the-variants.{Bad}
-use Rattle.cutting.specs.Cutting.{syncFirst, syncSecond, inverseFirst, inverseSecond, pieceOf, Cutting, whole, cutting}
+use Rattle.cutting.specs.Cutting.{pieceOf, Cutting, whole, cutting}
 use Rattle.cutting.specs.Laws.{one-too-many, lone-sync, every-length, Chunk, multiframe, inverse, octetsOf, placesOf, Proper, cut-chunks, places-placed}
 use Rattle.reader.specs.Reading.{placeOf, Outcome, reading}
 use Rattle.reader.specs.declared.Summary.{Summary}
@@ -142,7 +142,7 @@ one-in-image u s d k within codebook thresholds index report =
     front : cutting (take (multiframeOctets * k) s) ≡ record { places = rowOf k; ending = whole }
     front = F.cut-first u s d k within
 
-    syncs : (i : ℕ) → i < multiframesOf u - k → syncIn (drop (multiframeOctets * k) s) i ≡ syncFirst ∷ syncSecond ∷ []
+    syncs : (i : ℕ) → i < multiframesOf u - k → syncIn (drop (multiframeOctets * k) s) i ≡ sync
     syncs i h =
         let e : 144 * k + 144 * i ≡ 144 * (k + i) = omega arith in
         ap (take 2) (drop-drop (144 * i) (144 * k) s ∙ ap (λ (j : ℕ). drop j s) e) ∙ F.syncs u s d k within (k + i) (omega arith)
@@ -232,8 +232,8 @@ module _ (g : ℕ → ℕ) (s : List ℕ) where
   spaced-count k zero = quiet-count (g k) []
   spaced-count k (suc n) = quiet-count (g k) (multiframe (part (144 * k) 144 s) ∷ spacedChunks g s (suc k) n) ∙ ap suc (spaced-count (suc k) n)
 
-  module _ (m : ℕ) (size : length s ≡ multiframeOctets * m) (syncs : (k : ℕ) → k < m → syncIn s k ≡ syncFirst ∷ syncSecond ∷ []) where
-    in-sync : (k i : ℕ) → k < m → i < 2 → getD (part (multiframeOctets * k) multiframeOctets s) i 0 ≡ getD (syncFirst ∷ syncSecond ∷ []) i 0
+  module _ (m : ℕ) (size : length s ≡ multiframeOctets * m) (syncs : (k : ℕ) → k < m → syncIn s k ≡ sync) where
+    in-sync : (k i : ℕ) → k < m → i < 2 → getD (part (multiframeOctets * k) multiframeOctets s) i 0 ≡ getD sync i 0
     in-sync k i h l =
         getD-take 144 (drop (144 * k) s) i 0 (omega arith) ∙ sym (getD-take 2 (drop (144 * k) s) i 0 l) ∙ ap (λ (x : List ℕ). getD x i 0) (syncs k h)
 
@@ -247,7 +247,7 @@ module _ (g : ℕ → ℕ) (s : List ℕ) where
 
 -- they change nothing of the reading of m multiframes, each with its sync
 pub spaced-same : (s : List ℕ) (m : ℕ) → 0 < m → m ≤ mostMultiframes → length s ≡ multiframeOctets * m
-    → ((k : ℕ) → k < m → syncIn s k ≡ syncFirst ∷ syncSecond ∷ []) → (g : ℕ → ℕ) (codebook thresholds : List ℤ) (index report : List ℕ)
+    → ((k : ℕ) → k < m → syncIn s k ≡ sync) → (g : ℕ → ℕ) (codebook thresholds : List ℤ) (index report : List ℕ)
     → reading (spaced g s m) codebook thresholds index report ≡ reading s codebook thresholds index report
 spaced-same s m some few size syncs g codebook thresholds index report =
     let z : 0 + m ≡ m = omega arith in
@@ -392,8 +392,8 @@ blanks-count (suc n) = (ap suc (blanks-count n .0), blanks-count n .1)
 
 -- so with 255 of them and a sync an inverse sync changes the outcome
 pub past-255 : (index report : List ℕ)
-    → reading (inverseFirst ∷ inverseSecond ∷ (octetsOf (blanks mostMultiframes) ++ (syncFirst ∷ syncSecond ∷ []))) zeroBook zeroThresholds index report
-    ≡ reading (octetsOf (blanks mostMultiframes) ++ (syncFirst ∷ syncSecond ∷ [])) zeroBook zeroThresholds index report → ⊥
+    → reading (inverseFirst ∷ inverseSecond ∷ (octetsOf (blanks mostMultiframes) ++ sync)) zeroBook zeroThresholds index report
+    ≡ reading (octetsOf (blanks mostMultiframes) ++ sync) zeroBook zeroThresholds index report → ⊥
 past-255 index report =
     not-past-255 zeroBook zeroThresholds index report (record { codebook-size = lent-zeros 1 .codebook-size; thresholds-size = lent-zeros 1 .thresholds-size }) (blanks mostMultiframes) []
     (blanks-proper mostMultiframes) (blanks-count mostMultiframes .0) (blanks-count mostMultiframes .1)

@@ -18,6 +18,7 @@ use Rattle.lists.specs.Tests.{when, by-test}
 use Rattle.lists.specs.Parts.{over}
 use Rattle.lists.specs.Rows.{same-joined}
 use Rattle.layout.specs.Layout.{widths, frameIndices, dataBits, packetBits, multiframePairs, indexOctets, reportOctets, firstFrame, secondFrame, firstPair}
+use Rattle.frames.specs.Frames.{zeroFrame}
 use Rattle.settings.specs.declared.Settings.{Settings}
 use Rattle.settings.specs.Settings.{settings}
 use Rattle.bits.specs.Bits.{field, laid}
@@ -60,7 +61,7 @@ use Rattle.promises.specs.Flipped.{header-at, has-common, usable, reads-
 
 -- ---- 48 frames of ones, which take three multiframes
 written-48 : verdict (settings 0 0) (replicate 336 1) (needed (replicate 336 1)) ≡ Written (needed (replicate 336 1))
-unfolding verdict roomAnswer firstFrom
+unfolding verdict roomAnswer firstFrom zeroFrame
 written-48 = refl
 
 pub says48 : Utterance
@@ -504,11 +505,11 @@ abbrev pub headed : ℕ → List ℕ
 headed x = x ∷ replicate 167 1
 
 written-one : verdict (settings 0 0) (headed 1) (needed (headed 1)) ≡ Written (needed (headed 1))
-unfolding verdict roomAnswer firstFrom
+unfolding verdict roomAnswer firstFrom zeroFrame
 written-one = refl
 
 written-two : verdict (settings 0 0) (headed 2) (needed (headed 2)) ≡ Written (needed (headed 2))
-unfolding verdict roomAnswer firstFrom
+unfolding verdict roomAnswer firstFrom zeroFrame
 written-two = refl
 
 small-headed : (x : ℕ) → x < 2 ^ 8 → Small (headed x)

@@ -20,14 +20,15 @@ use Rattle.gf2.specs.Xor.{xor-twice}
 use Rattle.lists.specs.Tests.{when, by-test, true-false}
 use Rattle.lists.specs.Parts.{part, part-left, part-right}
 use Rattle.lists.specs.Rows.{each}
-use Rattle.layout.specs.Layout.{frameIndices, dataBits, multiframeFrames, multiframePairs, multiframeOctets, syncOctets, headerOctets, streamOctets, packetBits, pairOf, firstFrame, secondFrame, firstPair}
+use Rattle.layout.specs.Layout.{frameIndices, dataBits, multiframeFrames, multiframePairs, multiframeOctets, syncOctets, headerOctets, streamOctets, packetBits, pairOf, firstFrame, secondFrame, firstPair, sync, inverseFirst, inverseSecond}
+use Rattle.frames.specs.Frames.{allZero, zeroFrame, all-zero-at, Nonzero}
 use Rattle.settings.specs.Settings.{settings}
 use Rattle.settings.specs.declared.Settings.{Settings}
 use Rattle.bits.specs.Bits.{value, bits}
 use Rattle.crc.specs.Crc.{right}
 use Rattle.packet.specs.Packet.{frameAt, packetOf}
 use Rattle.packet.specs.Laws.{getD-row, row-past, packetOf-good}
-use Rattle.cutting.specs.Cutting.{Cutting, whole, cutting, syncFirst, syncSecond, inverseFirst, inverseSecond}
+use Rattle.cutting.specs.Cutting.{Cutting, whole, cutting}
 use Rattle.cutting.specs.Laws.{every-length, multiframe, inverse, octetsOf, placesOf, Proper, cut-chunks}
 use Rattle.header_code.specs.Code.{codeword}
 use Rattle.header.specs.Message.{message}
@@ -42,7 +43,7 @@ use Rattle.judging.specs.Judging.{badPairs}
 use Rattle.judging.specs.Laws.{Good, none-good}
 use Rattle.replacing.specs.Replacing.{frameBefore, frameAfter, source}
 use Rattle.replacing.specs.Laws.{Run, at-the-end, first-half, second-half, frame-replaced}
-use Rattle.replacing.specs.Speech.{allZero, zeroFrame, lastNonzero, speechOf, endOf, place-le, zero-behind, nonzero-at, place-stop}
+use Rattle.replacing.specs.Speech.{lastNonzero, speechOf, endOf, place-le, zero-behind, nonzero-at, place-stop}
 use Rattle.reader.specs.Reading.{indexPart, summary, finished, Outcome, outcome, reading}
 use Rattle.reader.specs.ReadingLaws.{Fitting, accepting}
 use Rattle.reader.specs.declared.Verdict.{Verdict}
@@ -52,9 +53,9 @@ use Rattle.reader.specs.declared.Answer.the-variants.{Read, Refused}
 use Rattle.writer.specs.Writing.{frameCount, needed, image}
 use Rattle.writer.specs.Laws.{few-multiframes, length-image}
 use Rattle.writer.specs.Made.{syncIn, wordIn, packetIn}
-use Rattle.writer.specs.Image.{image-sync, image-word, image-packet, image-small, Nonzero, last-speaks, Utterance, multiframesOf, pairsOf, imageOf, is-accepted, whole-frames}
+use Rattle.writer.specs.Image.{image-sync, image-word, image-packet, image-small, last-speaks, Utterance, multiframesOf, pairsOf, imageOf, is-accepted, whole-frames}
 use Rattle.demands.specs.Damage.{DamageUpTo, headerBits, loosened, headerFlips, sentMessage, header-read}
-use Rattle.demands.specs.Whole.{rowOf, Lent, headerNoteIn, pairNoteIn, all-zero-at, readings-are, refuses-16}
+use Rattle.demands.specs.Whole.{rowOf, Lent, headerNoteIn, pairNoteIn, readings-are, refuses-16}
 use Rattle.demands.specs.Headers.{sentCommon, common-sent, TwoReadable, heardAs, headers-read}
 use Rattle.demands.specs.Received.{BadPair, touched-note}
 use Rattle.demands.specs.NamesTheDamage as N
@@ -729,7 +730,7 @@ module _ (u : Utterance) (twice : multiframesOf u ≡ 2) where
   front-part : (a v : ℕ) → a + v ≤ multiframeOctets → part a v cutUp ≡ part a v front
   front-part a v h = part-left front (inverses 72) a v (omega (arith, front-size))
 
-  front-octet : (i : ℕ) → i < 2 → getD front i 0 ≡ getD (syncFirst ∷ syncSecond ∷ []) i 0
+  front-octet : (i : ℕ) → i < 2 → getD front i 0 ≡ getD sync i 0
   front-octet i h = sym (getD-take 2 (drop 0 front) i 0 h) ∙ ap (λ (l : List ℕ). getD l i 0) (image-sync (u .settings) (u .indices) 1 0 (lit< tt))
 
   -- it is cut into one multiframe

@@ -12,6 +12,7 @@ use borrow.Author.Tests.{ltb-true}
 use Rattle.lists.specs.Tests.{when, true-false, all-holds}
 use Rattle.lists.specs.Rows.{joined}
 use Rattle.layout.specs.Layout.{frameIndices, indexOctets, reportOctets, thresholdNumbers, firstFrame, secondFrame}
+use Rattle.frames.specs.Frames.{zeroFrame}
 use Rattle.settings.specs.Settings.{settings}
 use Rattle.packet.specs.Packet.{row, frameAt}
 use Rattle.consistency.specs.Consistency.{flagged, flags, inconsistent}
@@ -39,7 +40,7 @@ small-octets (x ∷ l) e i = by (ltb x 256) refl e i (λ z j. small-octets l z j
 
 -- 8 kHz, type 0, 24 frames of ones, which take two multiframes
 pub written-24 : verdict (settings 0 0) (replicate 168 1) (needed (replicate 168 1)) ≡ Written (needed (replicate 168 1))
-unfolding verdict roomAnswer firstFrom
+unfolding verdict roomAnswer firstFrom zeroFrame
 written-24 = refl
 
 abbrev pub ones24 : Utterance
@@ -50,7 +51,7 @@ abbrev pub gap : List ℕ
 gap = replicate 147 1 ++ (replicate frameIndices 0 ++ replicate 14 1)
 
 pub written-gap : verdict (settings 0 0) gap (needed gap) ≡ Written (needed gap)
-unfolding verdict roomAnswer firstFrom
+unfolding verdict roomAnswer firstFrom zeroFrame
 written-gap = refl
 
 abbrev pub gap24 : Utterance
@@ -66,15 +67,15 @@ rising zero = replicate frameIndices 1
 rising (suc n) = replicate frameIndices 1 ++ (replicate frameIndices 2 ++ rising n)
 
 pub written-23 : verdict (settings 0 0) (rising 11) (needed (rising 11)) ≡ Written (needed (rising 11))
-unfolding verdict roomAnswer firstFrom
+unfolding verdict roomAnswer firstFrom zeroFrame
 written-23 = refl
 
 pub written-47 : verdict (settings 0 0) (rising 23) (needed (rising 23)) ≡ Written (needed (rising 23))
-unfolding verdict roomAnswer firstFrom
+unfolding verdict roomAnswer firstFrom zeroFrame
 written-47 = refl
 
 pub written-7 : verdict (settings 0 0) (rising 3) (needed (rising 3)) ≡ Written (needed (rising 3))
-unfolding verdict roomAnswer firstFrom
+unfolding verdict roomAnswer firstFrom zeroFrame
 written-7 = refl
 
 -- 23 frames, one multiframe; 47 frames, two; 7 frames, one multiframe of which most is padding

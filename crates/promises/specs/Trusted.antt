@@ -14,7 +14,7 @@ use lib.IntN.{ℤ}
 use lib.ListN.{length, getD, replicate}
 use Rattle.lists.specs.Parts.{over}
 use Rattle.lists.specs.Rows.{each-at}
-use Rattle.layout.specs.Layout.{multiframePairs, multiframeOctets, indexOctets, reportOctets}
+use Rattle.layout.specs.Layout.{multiframePairs, multiframeOctets, indexOctets, reportOctets, sync}
 use Rattle.settings.specs.declared.Settings.{Settings}
 use Rattle.packet.specs.Packet.{packetOf}
 use Rattle.header_code.specs.Code.{codeword, flipsTo}
@@ -25,7 +25,7 @@ use Rattle.header.specs.Reading as H
 use Rattle.header.specs.Reading.Laws.{flips-of}
 use Rattle.header.specs.declared.Header.{Header}
 use Rattle.header.specs.declared.Header.the-variants.{Lost}
-use Rattle.cutting.specs.Cutting.{Cutting, cutting, syncFirst, syncSecond}
+use Rattle.cutting.specs.Cutting.{Cutting, cutting}
 use Rattle.cutting.specs.Laws.{every-length}
 use Rattle.settling.specs.Settling.{readings, headerNote}
 use Rattle.pairs.specs.Pairs.{pairCount, pairNotes}
@@ -80,7 +80,7 @@ module _ (u : Utterance) (s : List ℕ) (p : Premises u s) (codebook thresholds 
   size : length s ≡ multiframeOctets * m
   size = d .size ∙ length-image (u .settings) (u .indices) m
 
-  syncs : (k : ℕ) → k < m → syncIn s k ≡ syncFirst ∷ syncSecond ∷ []
+  syncs : (k : ℕ) → k < m → syncIn s k ≡ sync
   syncs k h = d .syncs k h ∙ image-sync (u .settings) (u .indices) m k h
 
   cut : cutting s .places ≡ rowOf m

@@ -14,6 +14,7 @@ use Rattle.lists.specs.Tests.{when}
 use Rattle.lists.specs.Parts.{part, over, length-part, set-over, behind, over-in, drop-over, part-left}
 use Rattle.lists.specs.Rows.{joined, each-at, length-each, same-joined, joined-more}
 use Rattle.layout.specs.Layout.{frameIndices, pairFrames, multiframePairs, multiframeFrames, indexOctets, reportOctets, codebookNumbers, thresholdNumbers, firstPair}
+use Rattle.frames.specs.Frames.{allZero, zeroFrame}
 use Rattle.settings.specs.declared.Settings.{Settings as Sent}
 use Rattle.header.specs.Message.{rateOf, settingsOf, expOf}
 use Rattle.header.specs.Reading.{reading as readHeader}
@@ -32,7 +33,7 @@ use Rattle.cutting.specs.Cutting.{Ending, whole, refused, Cutting, cutting, ans
 use Rattle.cutting.specs.declared.Cut.the-variants as C
 use Rattle.replacing.specs.Replacing.{pairsOctets, replaced}
 use Rattle.replacing.specs.Laws.{same-replaced}
-use Rattle.replacing.specs.Speech.{allZero, zeroFrame, lastNonzero, speechOf, endOf}
+use Rattle.replacing.specs.Speech.{lastNonzero, speechOf, endOf}
 use Rattle.reader.specs.Reading.{answerNumber, answerValues, indexPart, reportPart, summary, cutRefusal, roomVerdict, settledVerdict, wholeVerdict, verdict, Outcome, outcome, finished, reading}
 use Rattle.reader.specs.ReadingLaws.{length-index, whole-accepted}
 use Rattle.reader.specs.declared.Refusal.the-variants.{WrongTables, Empty, Unsettled, Unfit, IndexShort, ReportShort, AllBad}

@@ -1,28 +1,14 @@
 -- Speech and end (01, "Reading", the success answer), over the index octets of a whole reading after replacing.
 -- Assumes nothing.
 use Prim.Native.Nat.{ℕ, zero, suc, _+_, _-_, _*_, _≤_, _<_}
-use mathlib.Core.Path.{_≡_, refl, ap, sym, _∙_}
-use mathlib.Core.List.{List, [], _∷_}
+use mathlib.Core.Path.{_≡_, refl, ap, _∙_}
+use mathlib.Core.List.{List}
 use mathlib.Core.Bool.{Bool, true, false}
-use lib.Dec.{eqb}
-use lib.ListN.{length, getD, drop}
-use lib.Seq.{drop-cons, drop-length, getD-take, getD-drop}
-use native.Mathlib.Numerals.{add-one}
 use native.Mathlib.Decide.{ℕ-discrete}
-use borrow.Author.Tests.{eq-eqb, ne-eqb}
 use native.Mathlib.Omega.{arith}
 use Rattle.lists.specs.Tests.{when}
-use Rattle.lists.specs.Parts.{part, length-part}
-use Rattle.layout.specs.Layout.{frameIndices, multiframeFrames}
-
--- all of a frame's indices are zero
-abbrev pub allZero : List ℕ → Bool
-allZero [] = true
-allZero (x ∷ l) = when (eqb x 0) (allZero l) false
-
--- frame i of the index octets is a zero frame
-unfoldable pub zeroFrame : List ℕ → ℕ → Bool
-zeroFrame index i = allZero (part (frameIndices * i) frameIndices index)
+use Rattle.layout.specs.Layout.{multiframeFrames}
+use Rattle.frames.specs.Frames.{zeroFrame}
 
 -- the place, from 1, of the last nonzero frame among n frames from frame i on; 0 if there is none
 unfoldable pub lastNonzero : List ℕ → ℕ → ℕ → ℕ
@@ -72,29 +58,6 @@ nonzero-at index i (suc n) k h = by (zeroFrame index (i + n)) refl h (λ a. nonz
     by false e h f = let s : k ≡ n = omega arith in ap (λ (x : ℕ). zeroFrame index (i + x)) s ∙ e
 
 -- ---- the steps of the code's loops
-
--- the frame that stands at place x
-module _ (index : List ℕ) (x : ℕ) (room : x + frameIndices ≤ length index) where
-  size : length (part x frameIndices index) ≡ frameIndices
-  size = length-part index x frameIndices room
-
-  octet : (j : ℕ) → j < frameIndices → getD (part x frameIndices index) j 0 ≡ getD index (x + j) 0
-  octet j h = getD-take frameIndices (drop x index) j 0 h ∙ getD-drop x index j 0
-
-  pub zero-on : (j : ℕ) → j < frameIndices → getD index (x + j) 0 ≡ 0 → allZero (drop j (part x frameIndices index)) ≡ allZero (drop (j + 1) (part x frameIndices index))
-  zero-on j h z =
-      let f = part x frameIndices index in
-      rw (drop-cons f j 0 (omega (arith, size)), eq-eqb (getD f j 0) 0 (octet j h ∙ z), add-one)
-
-  pub zero-stop : (j : ℕ) → j < frameIndices → (getD index (x + j) 0 ≡ 0 → ⊥) → allZero (drop j (part x frameIndices index)) ≡ false
-  zero-stop j h z =
-      let f = part x frameIndices index in
-      rw (drop-cons f j 0 (omega (arith, size)), ne-eqb (getD f j 0) 0 (λ e. z (sym (octet j h) ∙ e)))
-
-  pub zero-end : (j : ℕ) → j ≡ frameIndices → allZero (drop j (part x frameIndices index)) ≡ true
-  zero-end j e =
-      let f = part x frameIndices index in
-      ap (λ (n : ℕ). allZero (drop n f)) (e ∙ sym size) ∙ ap allZero (drop-length f)
 
 pub place-on : (index : List ℕ) (i n : ℕ) → 0 < n → zeroFrame index (i + (n - 1)) ≡ true → lastNonzero index i n ≡ lastNonzero index i (n - 1)
 unfolding lastNonzero

@@ -13,7 +13,7 @@ ghost use Rattle.layout.specs.Layout.{frameIndices, indexOctets, mostMultiframe
 ghost use Rattle.replacing.specs.Replacing.{runEnd, pairsOctets, replaced};
 ghost use Rattle.judging.specs.Laws.{Good};
 ghost use Rattle.replacing.specs.Steps.{Spread, Filled};
-ghost use Rattle.replacing.specs.Speech.{zeroFrame, speechOf, endOf};
+ghost use Rattle.replacing.specs.Speech.{speechOf, endOf};
 
 // The first good pair from q on, or the number of pairs.
 fn run_end(notes: &[u8], q: usize) -> usize
@@ -89,22 +89,6 @@ pub fn replace(notes: &[u8], index: &mut [u8])
     }
 }
 
-// is_zero_frame says whether all indices of a frame are zero. It asks that the index octets hold the frame.
-pub fn is_zero_frame(index: &[u8], frame: Frame) -> bool
-    requires { ⌜ frameIndices * (frame .0) + frameIndices ≤ length (now index) ⌝ }
-    ensures { λ r. ⌜ r ≡ zeroFrame (now (index .entry)) (frame .0) ⌝ }
-{
-    let start = FrameLayout::INDICES * frame.0;
-    let mut j = 0;
-    while j < FrameLayout::INDICES {
-        if index[start + j] != 0 {
-            return false;
-        }
-        j += 1;
-    }
-    true
-}
-
 // speech_of gives the number of frames up to the last nonzero one of m multiframes, the last alone being looked at.
 // It asks for the index octets of at least one multiframe and of no more than an utterance has.
 pub fn speech_of(index: &[u8], m: usize) -> usize
@@ -115,7 +99,7 @@ pub fn speech_of(index: &[u8], m: usize) -> usize
     let start = first.0;
     let mut n = MultiframeLayout::FRAMES;
     while 0 < n {
-        if is_zero_frame(index, Frame(start + (n - 1))) {
+        if frames::is_zero(index, Frame(start + (n - 1))) {
             n -= 1;
         } else {
             return start + n;
@@ -129,7 +113,7 @@ pub fn end_of(index: &[u8], m: usize) -> u8
     requires { ⌜ (1 ≤ m) × (m ≤ mostMultiframes) × (indexOctets * m ≤ length (now index)) ⌝ }
     ensures { λ r. ⌜ r ≡ endOf m (now (index .entry)) ⌝ }
 {
-    if is_zero_frame(index, Frame(MultiframeLayout::FRAMES * m - 1)) {
+    if frames::is_zero(index, Frame(MultiframeLayout::FRAMES * m - 1)) {
         return 1;
     }
     0

@@ -1,21 +1,22 @@
 -- What stands where in an image, what an accepted utterance has, and that its image is the image of no other (01, "Writing").
 -- Assumes nothing.
 use mathlib.Core.Path.{_≡_, refl, sym, ap, _∙_, subst}
-use mathlib.Core.Bool.{Bool, true, false, not}
-use mathlib.Core.List.{List, [], _∷_, _++_}
+use mathlib.Core.Bool.{Bool, true, false}
+use mathlib.Core.List.{List, _++_}
 use Prim.Native.Nat.{ℕ, zero, suc, _+_, _-_, _*_, _/_, _%_, _^_, _≤_, _<_}
 use native.Mathlib.Decide.{ℕ-discrete, decLt}
 use native.Mathlib.Omega.{arith}
-use lib.Dec.{eqb, ltb}
+use lib.Dec.{ltb}
 use lib.ListN.{length, getD, List·getD-eq-default}
 use lib.Pow.{pow-pos}
 use lib.Seq.{ext-getD}
-use borrow.Author.Tests.{eqb-false, ltb-false}
-use Rattle.lists.specs.Tests.{true-false, not-true}
+use borrow.Author.Tests.{ltb-false}
+use Rattle.lists.specs.Tests.{true-false}
 use Rattle.lists.specs.Parts.{part, over}
 use Rattle.settings.specs.declared.Settings.{Settings}
 use Rattle.settings.specs.Settings.{settingsRight, rate-right, kind-right, right-not-2}
-use Rattle.layout.specs.Layout.{widths, frameIndices, multiframeFrames, multiframePairs, multiframeOctets, headerOctets, streamOctets, firstFrame, secondFrame, firstPair}
+use Rattle.layout.specs.Layout.{widths, frameIndices, multiframeFrames, multiframePairs, multiframeOctets, headerOctets, streamOctets, firstFrame, secondFrame, firstPair, sync}
+use Rattle.frames.specs.Frames.{Nonzero, unzero}
 use Rattle.bits.specs.Bits.{field, octets, Fits}
 use Rattle.packet.specs.Packet.{stream, packetOf, frameAt}
 use Rattle.packet.specs.Laws.{stream-part, length-stream, fits-frame, getD-row, packetOf-same}
@@ -23,8 +24,8 @@ use Rattle.header_code.specs.Code.{codeword}
 use Rattle.header_code.specs.Code.Distance.{codeword-lt, codeword-low}
 use Rattle.header.specs.Message.{message, settingsOf}
 use Rattle.header.specs.Message.Laws.{message-lt, settings-back}
-use Rattle.writer.specs.Writing.{Search, at, nowhere, firstFrom, isFound, frameCount, isWide, isZero, endsEarly, multiframesFor, needed, verdict, multiframe, image, outcome, finished, writing}
-use Rattle.writer.specs.Laws.{first-at, first-nowhere, early-last, early-boundary, length-image, Accepted, accepted, accepts}
+use Rattle.writer.specs.Writing.{Search, at, nowhere, firstFrom, isFound, frameCount, isWide, endsEarly, multiframesFor, needed, verdict, multiframe, image, outcome, finished, writing}
+use Rattle.writer.specs.Laws.{first-nowhere, early-last, early-boundary, length-image, Accepted, accepted, accepts}
 use Rattle.writer.specs.declared.Answer.{Answer}
 use Rattle.writer.specs.declared.Refusal.{Refusal}
 use Rattle.writer.specs.declared.Answer.the-variants.{Written, Refused}
@@ -53,7 +54,7 @@ module _ (settings : Settings) (idx : List ℕ) where
 
   module _ (m k : ℕ) (h : k < m) where
     -- EACH MULTIFRAME BEGINS WITH THE SYNC
-    pub image-sync : syncIn (image settings idx m) k ≡ 0x87 ∷ 0xB2 ∷ []
+    pub image-sync : syncIn (image settings idx m) k ≡ sync
     image-sync = ap (λ (s : List ℕ). syncIn s k) (image-made m) ∙ made-sync words streams m k h
 
     -- ITS HEADER IS THE CODEWORD of the settings and the counter, 1 in the first
@@ -77,23 +78,6 @@ module _ (settings : Settings) (idx : List ℕ) where
       ∙ stream-part idx (firstPair (q / 12)) multiframePairs (q % 12) l ∙ ap (packetOf idx) e
 
 -- ---- what an accepted utterance has
--- one of the frame's seven indices is not 0
-pub record Nonzero (idx : List ℕ) (k : ℕ) : Type 0 where
-  pub place : ℕ
-  pub within : place < frameIndices
-  pub nonzero : getD idx (frameIndices * k + place) 0 ≡ 0 → ⊥
-
-unzero : (idx : List ℕ) (k : ℕ) → isZero idx k ≡ false → Nonzero idx k
-unzero idx k e = go (firstFrom (λ j. not (eqb (getD idx j 0) 0)) (frameIndices * k) frameIndices) refl e
-  where
-    go : (s : Search) → firstFrom (λ j. not (eqb (getD idx j 0) 0)) (frameIndices * k) frameIndices ≡ s → not (isFound s) ≡ false → Nonzero idx k
-    go (at j) f z =
-        let s = first-at (λ i. not (eqb (getD idx i 0) 0)) (frameIndices * k) frameIndices j f in
-        let b : eqb (getD idx j 0) 0 ≡ false = not-true (eqb (getD idx j 0) 0) (s .2) in
-        let w : 7 * k + (j - 7 * k) ≡ j = omega (arith, s .0) in
-        record { place = j - frameIndices * k; within = omega (arith, s .0, s .1); nonzero = λ n. eqb-false (getD idx j 0) 0 b (ap (λ (i : ℕ). getD idx i 0) (sym w) ∙ n) }
-    go nowhere f z = absurd (true-false z)
-
 module _ (settings : Settings) (idx : List ℕ) (out n : ℕ) (a : Accepted settings idx out n) where
   -- ITS LAST FRAME IS NOT ZERO
   pub last-speaks : (k : ℕ) → k + 1 ≡ frameCount idx → Nonzero idx k

@@ -2,7 +2,7 @@
 -- Assumes nothing.
 use mathlib.Core.Path.{_≡_, refl, sym, ap, ap₂, _∙_, subst}
 use mathlib.Core.Bool.{Bool, true, false}
-use mathlib.Core.List.{List, [], _∷_, _++_, append-assoc}
+use mathlib.Core.List.{List, _++_, append-assoc}
 use Prim.Native.Nat.{ℕ, zero, suc, _+_, _-_, _*_, _/_, _%_, _≤_, _<_}
 use native.Mathlib.Numerals.{add-one}
 use native.Mathlib.Decide.{ℕ-discrete}
@@ -14,13 +14,14 @@ use Rattle.lists.specs.Tests.{when, by-test}
 use Rattle.lists.specs.Parts.{over, over-none, behind}
 use Rattle.settings.specs.declared.Settings.{Settings}
 use Rattle.settings.specs.Settings.{settingsRight}
-use Rattle.layout.specs.Layout.{frameIndices, multiframeFrames, multiframePairs, multiframeOctets, syncOctets, headerOctets, streamOctets, mostFrames, mostMultiframes, firstPair}
+use Rattle.layout.specs.Layout.{frameIndices, multiframeFrames, multiframePairs, multiframeOctets, syncOctets, headerOctets, streamOctets, mostFrames, mostMultiframes, firstPair, sync, syncWord}
+use Rattle.frames.specs.Frames.{zeroFrame}
 use Rattle.bits.specs.Bits.{field, octets, numbers, value}
 use Rattle.bits.specs.Laws.{length-octets}
 use Rattle.packet.specs.Packet.{stream}
 use Rattle.header_code.specs.Code.{codeword}
 use Rattle.header.specs.Message.{message}
-use Rattle.writer.specs.Writing.{Search, at, nowhere, firstFrom, isFound, frameCount, isZero, endsEarly, firstWide, firstEarly, roomAnswer, earlyAnswer, wideAnswer, needed, verdict, multiframesFor, multiframe, image, outcome, writing, Outcome, numberOf, placeOf}
+use Rattle.writer.specs.Writing.{Search, at, nowhere, firstFrom, frameCount, endsEarly, firstWide, firstEarly, roomAnswer, earlyAnswer, wideAnswer, needed, verdict, multiframesFor, multiframe, image, outcome, writing, Outcome, numberOf, placeOf}
 use Rattle.writer.specs.declared.Refusal.{Refusal}
 use Rattle.writer.specs.declared.Answer.{Answer}
 use Rattle.writer.specs.declared.Refusal.the-variants.{Settings as WrongSettings, PartFrame, TooMany, WideIndex, ZeroFrame, OutputShort}
@@ -60,10 +61,10 @@ search-end f k n i p h = let e : n - i ≡ 0 = omega arith in p .1 ∙ ap (first
 
 -- ---- when a zero frame ends the utterance too early
 module _ (idx : List ℕ) (k : ℕ) where
-  pub early-last : k + 1 ≡ frameCount idx → endsEarly idx k ≡ isZero idx k
+  pub early-last : k + 1 ≡ frameCount idx → endsEarly idx k ≡ zeroFrame idx k
   early-last e = rw (eq-eqb (k + 1) (frameCount idx) e)
 
-  pub early-boundary : (k + 1 ≡ frameCount idx → ⊥) → (k + 1) % multiframeFrames ≡ 0 → endsEarly idx k ≡ isZero idx k
+  pub early-boundary : (k + 1 ≡ frameCount idx → ⊥) → (k + 1) % multiframeFrames ≡ 0 → endsEarly idx k ≡ zeroFrame idx k
   early-boundary n e = rw (ne-eqb (k + 1) (frameCount idx) n, eq-eqb ((k + 1) % multiframeFrames) 0 e)
 
   pub early-never : (k + 1 ≡ frameCount idx → ⊥) → ((k + 1) % multiframeFrames ≡ 0 → ⊥) → endsEarly idx k ≡ false
@@ -138,20 +139,19 @@ module _ (settings : Settings) (idx : List ℕ) (out : ℕ) where
   accepts s e g h = narrow s e ∙ ap (earlyAnswer out (needed idx)) g ∙ rw (le-ltb out (needed idx) h)
 
 -- ---- a multiframe laid down in three stores: sync, header, stream
-sync-octets : octets syncOctets (field 16 0xB287) ≡ 0x87 ∷ 0xB2 ∷ []
+sync-octets : octets syncOctets (field (8 * syncOctets) syncWord) ≡ sync
 unfolding field numbers value
 sync-octets = refl
 
 pub laid-multiframe : (settings : Settings) (idx : List ℕ) (k word q : ℕ) (out synced headed done : List ℕ)
     → multiframeOctets * k + multiframeOctets ≤ length out → word ≡ codeword (message settings (k + 1) 0) → q ≡ firstPair k
-    → synced ≡ over out (multiframeOctets * k) syncOctets (octets syncOctets (field 16 0xB287))
+    → synced ≡ over out (multiframeOctets * k) syncOctets (octets syncOctets (field (8 * syncOctets) syncWord))
     → headed ≡ over synced (multiframeOctets * k + 2) headerOctets (octets headerOctets (field 32 word))
     → done ≡ over headed (multiframeOctets * k + 2 + 4) streamOctets (octets streamOctets (stream idx q multiframePairs))
     → done ≡ over out (multiframeOctets * k) multiframeOctets (multiframe settings idx k)
 unfolding multiframe
 laid-multiframe settings idx k word q out synced headed done room ew eq es eh ed =
     let at = multiframeOctets * k in
-    let sync : List ℕ = 0x87 ∷ 0xB2 ∷ [] in
     let head = octets headerOctets (field 32 (codeword (message settings (k + 1) 0))) in
     let body = octets streamOctets (stream idx (firstPair k) multiframePairs) in
     let r₁ : at + 2 ≤ length out = omega arith in

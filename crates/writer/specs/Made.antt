@@ -13,7 +13,7 @@ use lib.ListN.{length, take, drop, getD, replicate, length-append, length-take, 
 use lib.Seq.{take-all, take-at, take-add, drop-at, drop-drop, getD-take, getD-drop}
 use Rattle.lists.specs.Parts.{part, part-left, length-part}
 use Rattle.lists.specs.Rows.{joined, length-joined, joined-part, same-joined}
-use Rattle.layout.specs.Layout.{packetBits, multiframePairs, multiframeOctets, syncOctets, headerOctets, streamOctets, multiframeOf, packetStart}
+use Rattle.layout.specs.Layout.{packetBits, multiframePairs, multiframeOctets, syncOctets, headerOctets, streamOctets, multiframeOf, packetStart, sync}
 use Rattle.bits.specs.Bits.{value, bits, field, octets, Fits}
 use Rattle.bits.specs.Laws.{length-octets, length-field, value-field, field-value, length-bits, bits-octets, octets-bits, fits-numbers}
 use Rattle.writer.specs.Writing.{at}
@@ -43,7 +43,7 @@ part-within l b w a v room h =
 
 -- ---- multiframes of any header words and any streams of bits, one behind the other
 abbrev pub framed : ℕ → List Bool → List ℕ
-framed w x = (0x87 ∷ 0xB2 ∷ []) ++ (octets headerOctets (field 32 w) ++ octets streamOctets x)
+framed w x = sync ++ (octets headerOctets (field 32 w) ++ octets streamOctets x)
 
 abbrev pub made : (ℕ → ℕ) → (ℕ → List Bool) → ℕ → List ℕ
 made w x m = joined (λ k. framed (w k) (x k)) m
@@ -60,7 +60,7 @@ module _ (w : ℕ) (x : List Bool) where
       (length-append (octets headerOctets (field 32 w)) (octets streamOctets x) ∙ ap₂ _+_ (length-octets 4 (field 32 w)) (length-octets 138 x))
 
   -- its sync, its header's octets and its stream's octets
-  pub framed-sync : part 0 syncOctets (framed w x) ≡ 0x87 ∷ 0xB2 ∷ []
+  pub framed-sync : part 0 syncOctets (framed w x) ≡ sync
   framed-sync = refl
 
   pub framed-header : part syncOctets headerOctets (framed w x) ≡ octets headerOctets (field 32 w)
@@ -85,7 +85,7 @@ module _ (w : ℕ → ℕ) (x : ℕ → List Bool) where
     inside a v l =
         part-within (made w x m) (multiframeOctets * k) multiframeOctets a v (omega (arith, length-made m)) l ∙ ap (part a v) (made-part m k h)
 
-    pub made-sync : syncIn (made w x m) k ≡ 0x87 ∷ 0xB2 ∷ []
+    pub made-sync : syncIn (made w x m) k ≡ sync
     made-sync =
         let z : multiframeOctets * k ≡ multiframeOctets * k + 0 = omega arith in
         ap (λ (i : ℕ). part i syncOctets (made w x m)) z ∙ inside 0 syncOctets (omega arith) ∙ framed-sync (w k) (x k)
@@ -127,7 +127,7 @@ small-fits (suc n) (x ∷ s) f (suc i) = small-fits n s (f .1) i
 small-octets : (n : ℕ) (l : List Bool) → Small (octets n l)
 small-octets n l = small-fits n (octets n l) (fits-numbers (replicate n 8) l)
 
-small-sync : Small (0x87 ∷ 0xB2 ∷ [])
+small-sync : Small sync
 small-sync zero = omega arith
 small-sync (suc zero) = omega arith
 small-sync (suc (suc i)) = omega arith
@@ -136,7 +136,7 @@ pub small-made : (w : ℕ → ℕ) (x : ℕ → List Bool) (m : ℕ) → Small (
 small-made w x zero i = omega arith
 small-made w x (suc m) i =
     small-append (made w x m) (framed (w m) (x m)) (small-made w x m)
-    (small-append (0x87 ∷ 0xB2 ∷ []) (octets headerOctets (field 32 (w m)) ++ octets streamOctets (x m)) small-sync
+    (small-append sync (octets headerOctets (field 32 (w m)) ++ octets streamOctets (x m)) small-sync
     (small-append (octets headerOctets (field 32 (w m))) (octets streamOctets (x m)) (small-octets headerOctets (field 32 (w m))) (small-octets streamOctets (x m))))
     i
 
@@ -154,7 +154,7 @@ rows {A} w (suc m) s h =
     ap (λ (l : List A). l ++ part (w * m) w s) (rows w m s (omega (arith, mul-suc w m))) ∙ sym (take-add (w * m) w s) ∙ ap (λ (n : ℕ). take n s) (sym (mul-suc w m))
 
 -- OCTETS THAT ARE CUT IN m MULTIFRAMES, each with its sync, are made of what stands in them
-module _ (s : List ℕ) (m : ℕ) (size : length s ≡ multiframeOctets * m) (small : Small s) (syncs : (k : ℕ) → k < m → syncIn s k ≡ 0x87 ∷ 0xB2 ∷ []) where
+module _ (s : List ℕ) (m : ℕ) (size : length s ≡ multiframeOctets * m) (small : Small s) (syncs : (k : ℕ) → k < m → syncIn s k ≡ sync) where
   framed-again : (k : ℕ) → k < m → framed (wordIn s k) (bits (streamIn s k)) ≡ part (multiframeOctets * k) multiframeOctets s
   framed-again k h =
       let at = multiframeOctets * k in

@@ -2,15 +2,16 @@
 -- count them from 1, as 01 does.
 -- Assumes nothing.
 use Prim.Native.Nat.{ℕ, zero, suc, _+_, _-_, _*_, _/_, _%_}
-use mathlib.Core.Bool.{Bool, true, false, not}
-use mathlib.Core.List.{List, [], _∷_, _++_}
+use mathlib.Core.Bool.{Bool, true, false}
+use mathlib.Core.List.{List, [], _++_}
 use lib.Dec.{eqb, ltb}
 use lib.ListN.{length, getD}
 use Rattle.lists.specs.Tests.{when}
 use Rattle.lists.specs.Parts.{over}
 use Rattle.settings.specs.declared.Settings.{Settings}
 use Rattle.settings.specs.Settings.{settingsRight}
-use Rattle.layout.specs.Layout.{frameIndices, multiframeFrames, multiframePairs, multiframeOctets, headerOctets, streamOctets, mostFrames, firstPair}
+use Rattle.layout.specs.Layout.{frameIndices, multiframeFrames, multiframePairs, multiframeOctets, headerOctets, streamOctets, mostFrames, firstPair, sync}
+use Rattle.frames.specs.Frames.{zeroFrame}
 use Rattle.bits.specs.Bits.{field, octets}
 use Rattle.packet.specs.Packet.{stream}
 use Rattle.header_code.specs.Code.{codeword}
@@ -65,16 +66,12 @@ multiframesFor n = n / multiframeFrames + 1
 abbrev pub isWide : List ℕ → ℕ → Bool
 isWide idx k = isFound (firstFrom (λ j. ltb 63 (getD idx j 0)) (frameIndices * k) (frameIndices - 1))
 
--- all seven indices of frame k are zero: none is found that is not
-abbrev pub isZero : List ℕ → ℕ → Bool
-isZero idx k = not (isFound (firstFrom (λ j. not (eqb (getD idx j 0) 0)) (frameIndices * k) frameIndices))
-
 -- frame k of n must not be zero: it is the last, or its number from 1 is a multiple of 24
 abbrev pub mustSpeak : ℕ → ℕ → Bool
 mustSpeak n k = when (eqb (k + 1) n) true (eqb ((k + 1) % multiframeFrames) 0)
 
 abbrev pub endsEarly : List ℕ → ℕ → Bool
-endsEarly idx k = when (mustSpeak (frameCount idx) k) (isZero idx k) false
+endsEarly idx k = when (mustSpeak (frameCount idx) k) (zeroFrame idx k) false
 
 -- ---- the first frame that 4 or 5 is about
 abbrev pub firstWide : List ℕ → Search
@@ -116,7 +113,7 @@ verdict settings idx out =
 -- the last are zeros
 unfoldable pub multiframe : Settings → List ℕ → ℕ → List ℕ
 multiframe settings idx k =
-    (0x87 ∷ 0xB2 ∷ [])
+    sync
     ++ (octets headerOctets (field 32 (codeword (message settings (k + 1) 0))) ++ octets streamOctets (stream idx (firstPair k) multiframePairs))
 
 -- m multiframes, one behind the other

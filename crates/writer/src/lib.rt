@@ -11,11 +11,8 @@ ghost use Prim.Native.Nat.{ℕ, _+_, _*_, _%_, _^_, _≤_, _<_};
 ghost use lib.ListN.{length};
 ghost use Rattle.lists.specs.Parts.{over};
 ghost use Rattle.layout.specs.Layout.{frameIndices, multiframeOctets, mostFrames, mostMultiframes};
-ghost use Rattle.writer.specs.Writing.{frameCount, isWide, isZero, endsEarly, firstWide, firstEarly, verdict, multiframe, image, outcome, writing, numberOf, placeOf};
+ghost use Rattle.writer.specs.Writing.{frameCount, isWide, endsEarly, firstWide, firstEarly, verdict, multiframe, image, outcome, writing, numberOf, placeOf};
 ghost use Rattle.writer.specs.Laws.{foundAs};
-
-// The sync, 87 B2 in sending order, as a word.
-const SYNC: u64 = 0xb287;
 
 // The largest index of six bits.
 const LARGEST: u8 = 63;
@@ -55,20 +52,6 @@ fn is_wide(indices: &[u8], frame: Frame) -> bool
     false
 }
 
-// Are all seven indices of the frame zero?
-fn is_zero(indices: &[u8], frame: Frame) -> bool
-    requires { ⌜ frameIndices * (frame .0 + 1) ≤ length (now indices) ⌝ }
-    ensures { λ r. ⌜ r ≡ isZero (now (indices .entry)) (frame .0) ⌝ }
-{
-    let from = FrameLayout::INDICES * frame.0;
-    for i in 0..FrameLayout::INDICES {
-        if indices[from + i] != 0 {
-            return false;
-        }
-    }
-    true
-}
-
 // Is it a zero frame that must not be one: the last, or one whose number from 1 is a multiple of 24?
 fn ends_early(indices: &[u8], frame: Frame) -> bool
     requires { ⌜ frameIndices * (frame .0 + 1) ≤ length (now indices) ⌝ }
@@ -76,10 +59,10 @@ fn ends_early(indices: &[u8], frame: Frame) -> bool
 {
     let number = frame.0 + 1;
     if number == indices.len() / FrameLayout::INDICES {
-        return is_zero(indices, frame);
+        return frames::is_zero(indices, frame);
     }
     if number % MultiframeLayout::FRAMES == 0 {
-        return is_zero(indices, frame);
+        return frames::is_zero(indices, frame);
     }
     false
 }
@@ -153,7 +136,7 @@ fn put_multiframe(settings: Settings, indices: &[u8], k: Multiframe, out: &mut [
         exp: 0,
     });
     let word = header::encode(message) as u64;
-    bits::store(out, at, SYNC, MultiframeLayout::SYNC);
+    bits::store(out, at, MultiframeLayout::SYNC_WORD, MultiframeLayout::SYNC);
     bits::store(
         out,
         at + MultiframeLayout::SYNC,

@@ -14,14 +14,14 @@ mul-t4 c = search needs
 sub-t5 : tie.Need-sub-t5
 sub-t5 c = search needs
 
-is-zero-frame-requires : tie.Need-is-zero-frame-requires
-is-zero-frame-requires c κs = search needs
+is-zero-requires : tie.Need-is-zero-requires
+is-zero-requires c κs = search needs
 
 returns : tie.Need-returns
-returns c = ap (λ (b : Bool). when {A = ℕ} b 1 0) (sym (c .if1 .taken) ∙ c .before .is-zero-frame .ensures)
+returns c = ap (λ (b : Bool). when {A = ℕ} b 1 0) (sym (c .if1 .taken) ∙ c .before .is-zero .ensures)
 
 returns-2 : tie.Need-returns-2
-returns-2 c = ap (λ (b : Bool). when {A = ℕ} b 1 0) (sym (c .if1 .left) ∙ c .before .is-zero-frame .ensures)
+returns-2 c = ap (λ (b : Bool). when {A = ℕ} b 1 0) (sym (c .if1 .left) ∙ c .before .is-zero .ensures)
 
 pub end-of-spec : {M : Type 1} → statement M
-end-of-spec = tie.close (tie.spec mul-t4 sub-t5 is-zero-frame-requires returns returns-2)
+end-of-spec = tie.close (tie.spec mul-t4 sub-t5 is-zero-requires returns returns-2)

@@ -30,8 +30,8 @@ sub-t10 c = search needs
 add-t11 : tie.Need-add-t11 Inv-loop μ-loop
 add-t11 c = search needs
 
-is-zero-frame-requires : tie.Need-is-zero-frame-requires Inv-loop μ-loop
-is-zero-frame-requires c κs = search needs
+is-zero-requires : tie.Need-is-zero-requires Inv-loop μ-loop
+is-zero-requires c κs = search needs
 
 sub-n : tie.Need-sub-n Inv-loop μ-loop
 sub-n c = search needs
@@ -43,7 +43,7 @@ loop-again : tie.Need-loop-again Inv-loop μ-loop
 loop-again c =
     let d = c .before .before .before in
     let i = d .loop .inv in
-    (omega arith, i .1, sym (place-on _ _ (d .loop .n) (omega arith) (sym (c .before .is-zero-frame .ensures) ∙ c .if1 .taken)) ∙ i .2)
+    (omega arith, i .1, sym (place-on _ _ (d .loop .n) (omega arith) (sym (c .before .is-zero .ensures) ∙ c .if1 .taken)) ∙ i .2)
 
 add-result : tie.Need-add-result Inv-loop μ-loop
 add-result c = search needs
@@ -52,7 +52,7 @@ returns : tie.Need-returns Inv-loop μ-loop
 returns c =
     let d = c .before .before .before in
     let i = d .loop .inv in
-    speech-is _ (d .before .before .before .args .m) _ (d .loop .n) (i .1) (sym (place-stop _ _ (d .loop .n) (omega arith) (sym (c .before .is-zero-frame .ensures) ∙ c .if1 .left)) ∙ i .2)
+    speech-is _ (d .before .before .before .args .m) _ (d .loop .n) (i .1) (sym (place-stop _ _ (d .loop .n) (omega arith) (sym (c .before .is-zero .ensures) ∙ c .if1 .left)) ∙ i .2)
 
 add-result-2 : tie.Need-add-result-2 Inv-loop μ-loop
 add-result-2 c = search needs
@@ -75,7 +75,7 @@ speech-of-spec =
     loop-holds
     sub-t10
     add-t11
-    is-zero-frame-requires
+    is-zero-requires
     sub-n
     loop-less
     loop-again

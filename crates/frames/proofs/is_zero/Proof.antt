@@ -1,4 +1,4 @@
--- `is_zero_frame` meets its contract: the octets passed are zero, so what is left says what the frame is.
+-- `is_zero` meets its contract: the octets passed are zero, so what is left says what the frame is.
 -- Assumes nothing.
 use native.Mathlib.Omega.{arith}
 use Prim.Native.Nat.{_+_, _-_, _≤_}
@@ -6,10 +6,10 @@ use mathlib.Core.Path.{_≡_, refl, sym, _∙_}
 use lib.ListN.{length, drop}
 use Rattle.lists.specs.Parts.{part}
 use Rattle.layout.specs.Layout.{frameIndices}
-use Rattle.replacing.specs.Speech.{allZero, zeroFrame, zero-on, zero-stop, zero-end}
+use Rattle.frames.specs.Frames.{allZero, zeroFrame, zero-on, zero-stop, zero-end}
 use borrow.Author.Needs.{needs}
-use Rattle.replacing.proofs.is_zero_frame.Statement.{statement}
-use Rattle.replacing.proofs.is_zero_frame.Tie as tie
+use Rattle.frames.proofs.is_zero.Statement.{statement}
+use Rattle.frames.proofs.is_zero.Tie as tie
 
 abbrev Inv-loop : tie.InvT-loop
 Inv-loop index start j₀ j =
@@ -57,8 +57,8 @@ returns-2 c =
     let e : c .before .loop .j ≡ frameIndices = omega arith in
     sym (zero-end _ _ (i .0) (c .before .loop .j) e) ∙ i .2
 
-pub is-zero-frame-spec : {M : Type 1} → statement M
-is-zero-frame-spec =
+pub is-zero-spec : {M : Type 1} → statement M
+is-zero-spec =
     tie.close
     (tie.spec
     Inv-loop
