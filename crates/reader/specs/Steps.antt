@@ -15,15 +15,15 @@ use Rattle.lists.specs.Parts.{part, over, length-part, set-over, behind, over-i
 use Rattle.lists.specs.Rows.{joined, each-at, length-each, same-joined, joined-more}
 use Rattle.layout.specs.Layout.{frameIndices, pairFrames, multiframePairs, multiframeFrames, indexOctets, reportOctets, codebookNumbers, thresholdNumbers, firstPair}
 use Rattle.frames.specs.Frames.{allZero, zeroFrame}
-use Rattle.settings.specs.declared.Settings.{Settings as Sent}
+use Rattle.settings.specs.declared.Settings.{Settings}
 use Rattle.header.specs.Message.{rateOf, settingsOf, expOf}
 use Rattle.header.specs.Reading.{reading as readHeader}
 use Rattle.header.specs.declared.Header.{Header}
 use Rattle.header.specs.declared.Header.the-variants.{Lost}
 use Rattle.settling.specs.Settling.{headerWord, readings, settling, headerNote}
-use Rattle.settling.specs.declared.Settings.{Settings}
+use Rattle.settling.specs.declared.Settlement.{Settlement}
 use Rattle.settling.specs.Stored.{opened, openAll, packAll, packed, Mended, mended, opened-packed, stored-back}
-use Rattle.settling.specs.declared.Settings.the-variants as S
+use Rattle.settling.specs.declared.Settlement.the-variants as S
 use Rattle.pairs.specs.Pairs.{pairCount, allFrames, pairNotes}
 use Rattle.pairs.specs.Laws.{length-all, length-notes, over-all}
 use borrow.Author.Tests.{eq-eqb, ne-eqb}
@@ -222,7 +222,7 @@ module _ (octets : List ℕ) (codebook thresholds : List ℤ) (index report : �
   decided-empty z = rw (eq-eqb (length places) 0 z)
 
   -- what the stored headers settle decides the rest
-  module _ (some : length places ≡ 0 → ⊥) (headers : List ℕ) (eh : headers ≡ packAll octets places (length places)) (s : Settings) (es : s ≡ settling (openAll headers)) where
+  module _ (some : length places ≡ 0 → ⊥) (headers : List ℕ) (eh : headers ≡ packAll octets places (length places)) (s : Settlement) (es : s ≡ settling (openAll headers)) where
     settles : settling (readings octets places) ≡ s
     settles = sym (es ∙ ap (λ (l : List ℕ). settling (openAll l)) eh ∙ ap settling (stored-back octets places))
 
@@ -246,7 +246,7 @@ kept l m (Refuse r) e = tt
 kept l m (Accept c) e = e
 
 -- ---- the summary of what was written
-pub summary-is : (octets places ns : List ℕ) (c : ℕ) (settings : Sent) (speech bad end : ℕ) (l n : List ℕ) → 1 ≤ length places → length ns ≡ pairCount places
+pub summary-is : (octets places ns : List ℕ) (c : ℕ) (settings : Settings) (speech bad end : ℕ) (l n : List ℕ) → 1 ≤ length places → length ns ≡ pairCount places
     → n ≡ over l 0 (indexOctets * length places) (indexPart octets places ns)
     → settings ≡ settingsOf c → speech ≡ speechOf (length places) n → bad ≡ badPairs ns → end ≡ endOf (length places) n
     → record { settings = settings; multiframes = length places; speech = speech; bad = bad; end = end } ≡ summary octets places ns c
