@@ -9,8 +9,9 @@ use native.Mathlib.Numerals.{add-one}
 use native.Mathlib.Omega.{arith}
 use Rattle.lists.specs.Parts.{over-none}
 use Rattle.layout.specs.Layout.{multiframeOctets, syncOctets, mostMultiframes}
+use Rattle.refusals.specs.declared.Reading.the-variants as R
 use Rattle.cutting.specs.declared.Piece.{Piece}
-use Rattle.cutting.specs.declared.Piece.the-variants.{End, Multiframe, Inverse, Bad}
+use Rattle.cutting.specs.declared.Piece.the-variants.{End, Multiframe, Inverse, Unknown, CutShort, TooMany}
 use Rattle.cutting.specs.declared.Cut.{Cut}
 use Rattle.cutting.specs.declared.Cut.the-variants as C
 use Rattle.cutting.specs.Cutting.{pieceOf, Ending, whole, refused, Cutting, step, walk, cutting, answeredBy, answered, laid}
@@ -52,7 +53,9 @@ abbrev pub Next : (s b₀ b : List ℕ) (p m : ℕ) → Piece → Type 0
 Next s b₀ b p m End = Done s b₀ b (C.Whole m)
 Next s b₀ b p m Multiframe = (p + multiframeOctets ≤ length s) × (m < mostMultiframes) × Going s b₀ (set b m p) (p + multiframeOctets) (m + 1)
 Next s b₀ b p m Inverse = (p + syncOctets ≤ length s) × Going s b₀ b (p + syncOctets) m
-Next s b₀ b p m (Bad n) = Done s b₀ b (C.Refused n p)
+Next s b₀ b p m Unknown = Done s b₀ b (C.Refused (R.Unknown p))
+Next s b₀ b p m CutShort = Done s b₀ b (C.Refused (R.CutShort p))
+Next s b₀ b p m TooMany = Done s b₀ b (C.Refused (R.TooMany p))
 
 module _ (s b₀ b : List ℕ) (p m : ℕ) (g : Going s b₀ b p m) where
   ended-here : (e : Ending) → walk 0 (drop p s) p m ≡ record { places = []; ending = e } → Done s b₀ b (answeredBy m e)
@@ -64,7 +67,9 @@ module _ (s b₀ b : List ℕ) (p m : ℕ) (g : Going s b₀ b p m) where
       → walk 0 (drop p s) p m ≡ step q p (walk 0 (drop (p + multiframeOctets) s) (p + multiframeOctets) (m + 1)) (walk 0 (drop (p + syncOctets) s) (p + syncOctets) m)
       → Next s b₀ b p m q
   going End a w = ended-here whole w
-  going (Bad n) a w = ended-here (refused n p) w
+  going Unknown a w = ended-here (refused (R.Unknown p)) w
+  going CutShort a w = ended-here (refused (R.CutShort p)) w
+  going TooMany a w = ended-here (refused (R.TooMany p)) w
   going Inverse a w =
       let n = length-drop p s in (
         omega (arith, n, a .0, g .within),

@@ -10,31 +10,34 @@ use lib.Seq.{drop-drop, drop-at, drop-length, getD-drop}
 use native.Mathlib.Numerals.{add-one}
 use lib.Dec.{ltb, eqb}
 use native.Mathlib.Omega.{arith}
-use borrow.Author.Tests.{le-ltb, ne-eqb, ltb-false, eqb-true, eqb-false}
-use Rattle.lists.specs.Tests.{by-test}
+use native.Mathlib.Decide.{ℕ-discrete}
+use borrow.Author.Tests.{lt-ltb, le-ltb, eq-eqb, ne-eqb, ltb-true, ltb-false, eqb-true, eqb-false}
+use Rattle.lists.specs.Tests.{when, by-test}
 use Rattle.layout.specs.Layout.{multiframeOctets, syncOctets, mostMultiframes, syncFirst, syncSecond, inverseFirst, inverseSecond}
+use Rattle.refusals.specs.declared.Reading.{Reading}
+use Rattle.refusals.specs.declared.Reading.the-variants as R
 use Rattle.cutting.specs.declared.Piece.{Piece}
-use Rattle.cutting.specs.declared.Piece.the-variants.{End, Multiframe, Inverse, Bad}
+use Rattle.cutting.specs.declared.Piece.the-variants.{End, Multiframe, Inverse, Unknown, CutShort, TooMany}
 use Rattle.cutting.specs.Cutting.{syncMet, lastMet, pieceBy, pieceOf, Ending, whole, refused, Cutting, prepend, step, walk, cutting}
 
 -- ---- the pieces
 
 -- a sync after 255 multiframes is 15, however few octets follow
-pub one-too-many : (n : ℕ) → 2 ≤ n → pieceBy n syncFirst syncSecond mostMultiframes ≡ Bad 15
+pub one-too-many : (n : ℕ) → 2 ≤ n → pieceBy n syncFirst syncSecond mostMultiframes ≡ TooMany
 unfolding pieceBy lastMet syncMet
 one-too-many n h = rw (ne-eqb n 0 (λ e. omega arith), ne-eqb n 1 (λ e. omega arith))
 
 -- a lone last 87 or 78 is 13, wherever it stands
-pub lone-sync : (b m : ℕ) → pieceBy 1 syncFirst b m ≡ Bad 13
+pub lone-sync : (b m : ℕ) → pieceBy 1 syncFirst b m ≡ CutShort
 unfolding pieceBy lastMet
 lone-sync b m = refl
 
-pub lone-inverse : (b m : ℕ) → pieceBy 1 inverseFirst b m ≡ Bad 13
+pub lone-inverse : (b m : ℕ) → pieceBy 1 inverseFirst b m ≡ CutShort
 unfolding pieceBy lastMet
 lone-inverse b m = refl
 
 -- 87 and something else than B2 begins nothing known
-pub half-sync : (n b m : ℕ) → 2 ≤ n → (b ≡ syncSecond → ⊥) → pieceBy n syncFirst b m ≡ Bad 12
+pub half-sync : (n b m : ℕ) → 2 ≤ n → (b ≡ syncSecond → ⊥) → pieceBy n syncFirst b m ≡ Unknown
 unfolding pieceBy lastMet
 half-sync n b m h k = rw (ne-eqb n 0 (λ e. omega arith), ne-eqb n 1 (λ e. omega arith), ne-eqb b syncSecond k)
 
@@ -53,7 +56,14 @@ abbrev pub Says : ℕ → ℕ → ℕ → ℕ → Piece → Type 0
 Says n a b m End = n ≡ 0
 Says n a b m Multiframe = (multiframeOctets ≤ n) × (m ≡ mostMultiframes → ⊥) × (a ≡ syncFirst) × (b ≡ syncSecond)
 Says n a b m Inverse = (syncOctets ≤ n) × (a ≡ inverseFirst) × (b ≡ inverseSecond)
-Says n a b m (Bad k) = (0 < n) × ((k ≡ 12) ⊎ ((k ≡ 13) ⊎ (k ≡ 15)))
+-- 12, "octets at p begin nothing known": neither a sync nor its inverse, and no lone first octet of one
+Says n a b m Unknown = (0 < n) × (a ≡ syncFirst → (2 ≤ n) × (b ≡ syncSecond → ⊥)) × (a ≡ inverseFirst → (2 ≤ n) × (b ≡ inverseSecond → ⊥))
+-- 13, "sync with too few octets, or a lone last 87 or 78"
+Says n a b m CutShort =
+    (0 < n) × (((n ≡ 1) × ((a ≡ syncFirst) ⊎ (a ≡ inverseFirst)))
+    ⊎ ((2 ≤ n) × (n < multiframeOctets) × (m ≡ mostMultiframes → ⊥) × (a ≡ syncFirst) × (b ≡ syncSecond)))
+-- 15, "a sync after 255 multiframes, even a cut one"
+Says n a b m TooMany = (0 < n) × (2 ≤ n) × (m ≡ mostMultiframes) × (a ≡ syncFirst) × (b ≡ syncSecond)
 
 pub says : (n a b m : ℕ) → Says n a b m (pieceBy n a b m)
 unfolding pieceBy lastMet syncMet
@@ -61,24 +71,80 @@ says n a b m =
     let P = Says n a b m in
     by-test P (eqb n 0) (λ h. eqb-true n 0 h) (λ n0.
     let some : 0 < n = more n (eqb-false n 0 n0) in
-    let unknown : (0 < n) × ((12 ≡ 12) ⊎ ((12 ≡ 13) ⊎ (12 ≡ 15))) = (some, inl refl) in
-    let short : (0 < n) × ((13 ≡ 12) ⊎ ((13 ≡ 13) ⊎ (13 ≡ 15))) = (some, inr (inl refl)) in
-    by-test P (eqb n 1) (λ h. by-test P (eqb a syncFirst) (λ h. short) (λ h. by-test P (eqb a inverseFirst) (λ h. short) (λ h. unknown))) (λ n1.
+    by-test P (eqb n 1)
+    (λ n1.
+    let lone = eqb-true n 1 n1 in
+    by-test P (eqb a syncFirst) (λ h. (some, inl (lone, inl (eqb-true a syncFirst h))))
+    (λ h. by-test P (eqb a inverseFirst) (λ k. (some, inl (lone, inr (eqb-true a inverseFirst k))))
+    (λ k. (some, λ e. absurd (eqb-false a syncFirst h e), λ e. absurd (eqb-false a inverseFirst k e)))))
+    (λ n1.
+    let more = two n (eqb-false n 0 n0) (eqb-false n 1 n1) in
     by-test P (eqb a syncFirst)
-    (λ ha. by-test P (eqb b syncSecond)
-    (λ hb. by-test P (eqb m mostMultiframes) (λ h. (some, inr (inr refl)))
-    (λ few. by-test P (ltb n multiframeOctets) (λ h. short)
-    (λ h. (ltb-false n multiframeOctets h, eqb-false m mostMultiframes few, eqb-true a syncFirst ha, eqb-true b syncSecond hb))))
-    (λ h. unknown))
-    (λ h. by-test P (eqb a inverseFirst)
-    (λ ha. by-test P (eqb b inverseSecond)
-    (λ hb. (two n (eqb-false n 0 n0) (eqb-false n 1 n1), eqb-true a inverseFirst ha, eqb-true b inverseSecond hb)) (λ h. unknown)) (λ h. unknown))))
+    (λ ha.
+    let first = eqb-true a syncFirst ha in
+    by-test P (eqb b syncSecond)
+    (λ hb.
+    let second = eqb-true b syncSecond hb in
+    by-test P (eqb m mostMultiframes) (λ h. (some, more, eqb-true m mostMultiframes h, first, second))
+    (λ few.
+    by-test P (ltb n multiframeOctets) (λ h. (some, inr (more, ltb-true n multiframeOctets h, eqb-false m mostMultiframes few, first, second)))
+    (λ h. (ltb-false n multiframeOctets h, eqb-false m mostMultiframes few, first, second))))
+    (λ h. (some, λ e. (more, eqb-false b syncSecond h), λ e. absurd (apart (sym first ∙ e)))))
+    (λ h.
+    by-test P (eqb a inverseFirst)
+    (λ ha.
+    by-test P (eqb b inverseSecond) (λ hb. (more, eqb-true a inverseFirst ha, eqb-true b inverseSecond hb))
+    (λ hb. (some, λ e. absurd (eqb-false a syncFirst h e), λ e. (more, eqb-false b inverseSecond hb))))
+    (λ k. (some, λ e. absurd (eqb-false a syncFirst h e), λ e. absurd (eqb-false a inverseFirst k e))))))
   where
     more : (n : ℕ) → (n ≡ 0 → ⊥) → 0 < n
     more n h = omega arith
 
     two : (n : ℕ) → (n ≡ 0 → ⊥) → (n ≡ 1 → ⊥) → 2 ≤ n
     two n h k = omega arith
+
+    apart : syncFirst ≡ inverseFirst → ⊥
+    apart e = omega arith
+
+-- and says of no other: what it says is met is met
+module _ (n a b m : ℕ) where
+  many : 2 ≤ n → pieceBy n a b m ≡ when (eqb a syncFirst) (when (eqb b syncSecond) (syncMet n m) Unknown) (when (eqb a inverseFirst) (when (eqb b inverseSecond) Inverse Unknown) Unknown)
+  unfolding pieceBy
+  many h = rw (ne-eqb n 0 (λ e. omega arith), ne-eqb n 1 (λ e. omega arith))
+
+  sync-there : 2 ≤ n → a ≡ syncFirst → b ≡ syncSecond → pieceBy n a b m ≡ syncMet n m
+  sync-there h ea eb = many h ∙ rw (eq-eqb a syncFirst ea, eq-eqb b syncSecond eb)
+
+  nothing-known : 2 ≤ n → (a ≡ syncFirst → (2 ≤ n) × (b ≡ syncSecond → ⊥)) → (a ≡ inverseFirst → (2 ≤ n) × (b ≡ inverseSecond → ⊥)) → pieceBy n a b m ≡ Unknown
+  nothing-known h f g =
+      let P : Piece → Type 0 = λ q. q ≡ Unknown in
+      many h ∙ by-test P (eqb a syncFirst) (λ e. rw (ne-eqb b syncSecond (f (eqb-true a syncFirst e) .1)))
+      (λ e. by-test P (eqb a inverseFirst) (λ k. rw (ne-eqb b inverseSecond (g (eqb-true a inverseFirst k) .1))) (λ k. refl))
+
+  lone-unknown : n ≡ 1 → (a ≡ syncFirst → ⊥) → (a ≡ inverseFirst → ⊥) → pieceBy n a b m ≡ Unknown
+  unfolding pieceBy lastMet
+  lone-unknown e f g = rw (e, ne-eqb a syncFirst f, ne-eqb a inverseFirst g)
+
+  lone-cut : n ≡ 1 → (a ≡ syncFirst) ⊎ (a ≡ inverseFirst) → pieceBy n a b m ≡ CutShort
+  lone-cut e (inl h) = ap₂ (λ (k c : ℕ). pieceBy k c b m) e h ∙ lone-sync b m
+  lone-cut e (inr h) = ap₂ (λ (k c : ℕ). pieceBy k c b m) e h ∙ lone-inverse b m
+
+  pub said : (q : Piece) → Says n a b m q → pieceBy n a b m ≡ q
+  unfolding pieceBy syncMet
+  said End h = rw h
+  said Multiframe h = sync-there (omega (arith, h .0)) (h .2) (h .3) ∙ rw (ne-eqb m mostMultiframes (h .1), le-ltb n multiframeOctets (h .0))
+  said Inverse h = many (h .0) ∙ rw (h .1, h .2)
+  said TooMany h = sync-there (h .1) (h .3) (h .4) ∙ rw (eq-eqb m mostMultiframes (h .2))
+  said CutShort h = cut (h .1)
+    where
+      cut : ((n ≡ 1) × ((a ≡ syncFirst) ⊎ (a ≡ inverseFirst))) ⊎ ((2 ≤ n) × (n < multiframeOctets) × (m ≡ mostMultiframes → ⊥) × (a ≡ syncFirst) × (b ≡ syncSecond)) → pieceBy n a b m ≡ CutShort
+      cut (inl l) = lone-cut (l .0) (l .1)
+      cut (inr s) = sync-there (s .0) (s .3) (s .4) ∙ rw (ne-eqb m mostMultiframes (s .2), lt-ltb n multiframeOctets (s .1))
+  said Unknown h =
+      elim (ℕ-discrete n 1) [
+        | yes e ↦ lone-unknown e (λ f. omega (arith, h .1 f .0)) (λ f. omega (arith, h .2 f .0))
+        | no d ↦ nothing-known (omega (arith, h .0)) (h .1) (h .2)
+      ]
 
 -- ---- the recursion as 01 has it: 144 octets on, and 2 octets on
 pub walk-skip : (k : ℕ) (l : List ℕ) (p m : ℕ) → walk k l p m ≡ walk 0 (drop k l) (p + k) m
@@ -113,7 +179,9 @@ few-next Multiframe n a b m p v w h s f g = let k = f (next m h (s .1)) in omega
     next : (m : ℕ) → m ≤ 255 → (m ≡ 255 → ⊥) → m + 1 ≤ 255
     next m h k = omega arith
 few-next Inverse n a b m p v w h s f g = g
-few-next (Bad k) n a b m p v w h s f g = omega arith
+few-next Unknown n a b m p v w h s f g = omega arith
+few-next CutShort n a b m p v w h s f g = omega arith
+few-next TooMany n a b m p v w h s f g = omega arith
 
 few : (k : ℕ) (l : List ℕ) (p m : ℕ) → m ≤ mostMultiframes → m + length (walk k l p m .places) ≤ mostMultiframes
 unfolding walk
@@ -138,10 +206,26 @@ earlier : (s : List ℕ) (q r : ℕ) (ps : List ℕ) → q ≤ r → Stand s r p
 earlier s q r [] h a = tt
 earlier s q r (p ∷ ps) h a = (omega arith, a .1, a .2, a .3, a .4)
 
--- a refusal's number is 12, 13 or 15, and its place is that of an octet
+-- the piece stands at octet p, behind some number of multiframes
+abbrev pub StandsAt : List ℕ → ℕ → Piece → Type 0
+StandsAt s p q = (p < length s) × ((m : ℕ) × Says (length (drop p s)) (getD (drop p s) 0 0) (getD (drop p s) 1 0) m q)
+
+-- a refusal is 12, 13 or 15, and what it is about stands at its place
+abbrev pub Met : List ℕ → Reading → Type 0
+Met s R.WrongTables = ⊥
+Met s (R.Unknown p) = StandsAt s p Unknown
+Met s (R.CutShort p) = StandsAt s p CutShort
+Met s (R.Empty n) = ⊥
+Met s (R.TooMany p) = StandsAt s p TooMany
+Met s R.Unsettled = ⊥
+Met s R.Unfit = ⊥
+Met s (R.IndexShort n) = ⊥
+Met s (R.ReportShort n) = ⊥
+Met s R.AllBad = ⊥
+
 abbrev pub Ended : List ℕ → Ending → Type 0
 Ended s whole = Unit
-Ended s (refused n p) = (p < length s) × ((n ≡ 12) ⊎ ((n ≡ 13) ⊎ (n ≡ 15)))
+Ended s (refused r) = Met s r
 
 pub record Sound (s : List ℕ) (q : ℕ) (w : Cutting) : Type 0 where
   pub stand : Stand s q (w .places)
@@ -154,6 +238,9 @@ module _ (s l : List ℕ) (p : ℕ) (within : p ≤ length s) (left : drop p s �
   left-at : (i : ℕ) → getD s (p + i) 0 ≡ getD l i 0
   left-at i = sym (getD-drop p s i 0) ∙ ap (λ (x : List ℕ). getD x i 0) left
 
+  stands : (q : Piece) (m : ℕ) → 0 < length l → Says (length l) (getD l 0 0) (getD l 1 0) m q → StandsAt s p q
+  stands q m some h = (omega (arith, some, left-length), (m, subst (λ (x : List ℕ). Says (length x) (getD x 0 0) (getD x 1 0) m q) (sym left) h))
+
   sound-next : (q : Piece) (m : ℕ) (v w : Cutting) → Says (length l) (getD l 0 0) (getD l 1 0) m q
       → Sound s (p + multiframeOctets) v → Sound s (p + syncOctets) w → Sound s p (step q p v w)
   sound-next End m v w h f g = record { stand = tt; close = tt }
@@ -164,7 +251,9 @@ module _ (s l : List ℕ) (p : ℕ) (within : p ≤ length s) (left : drop p s �
         close = f .close;
       }
   sound-next Inverse m v w h f g = record { stand = earlier s p (p + 2) (w .places) (omega arith) (g .stand); close = g .close }
-  sound-next (Bad n) m v w h f g = record { stand = tt; close = (omega (arith, h .0, left-length), h .1) }
+  sound-next Unknown m v w h f g = record { stand = tt; close = stands Unknown m (h .0) h }
+  sound-next CutShort m v w h f g = record { stand = tt; close = stands CutShort m (h .0) h }
+  sound-next TooMany m v w h f g = record { stand = tt; close = stands TooMany m (h .0) h }
 
 sound-walk : (s : List ℕ) (k : ℕ) (l : List ℕ) (p m : ℕ) → p ≤ length s → drop p s ≡ l → Sound s (p + k) (walk k l p m)
 unfolding walk

@@ -1,30 +1,26 @@
 // Cutting received octets up into multiframes: where each begins, or the refusal 12, 13 or 15 that cutting meets.
 use layout::MultiframeLayout;
 use layout::UtteranceLayout;
+use refusals::Reading;
 ghost use mathlib.Core.Path.{_≡_};
 ghost use lib.ListN.{length};
 ghost use Rattle.layout.specs.Layout.{mostMultiframes};
 ghost use Rattle.cutting.specs.Cutting.{pieceOf, syncMet, cutting, answered, laid};
 
-// 01's numbers for what cutting meets.
-const UNKNOWN: u8 = 12;
-
-const CUT_SHORT: u8 = 13;
-
-const TOO_MANY: u8 = 15;
-
-// What stands at the front of the octets that are left.
+// What stands at the front of the octets that are left: one of three that cutting goes on with or ends at, or what 12, 13 or 15 is about.
 pub enum Piece {
     End,
     Multiframe,
     Inverse,
-    Bad { number: u8 },
+    Unknown,
+    CutShort,
+    TooMany,
 }
 
 // How cutting ended: with so many multiframes, or refused.
 pub enum Cut {
     Whole { count: usize },
-    Refused { number: u8, place: usize },
+    Refused(Reading),
 }
 
 // piece_of names what the octets begin, after so many multiframes.
@@ -37,26 +33,26 @@ pub fn piece_of(rest: &[u8], count: usize) -> Piece
     let a = rest[0];
     if rest.len() == 1 {
         if a == MultiframeLayout::SYNC_FIRST {
-            return Piece::Bad { number: CUT_SHORT };
+            return Piece::CutShort;
         }
         if a == MultiframeLayout::INVERSE_FIRST {
-            return Piece::Bad { number: CUT_SHORT };
+            return Piece::CutShort;
         }
-        return Piece::Bad { number: UNKNOWN };
+        return Piece::Unknown;
     }
     let b = rest[1];
     if a == MultiframeLayout::SYNC_FIRST {
         if b == MultiframeLayout::SYNC_SECOND {
             return sync_met(rest.len(), count);
         }
-        return Piece::Bad { number: UNKNOWN };
+        return Piece::Unknown;
     }
     if a == MultiframeLayout::INVERSE_FIRST {
         if b == MultiframeLayout::INVERSE_SECOND {
             return Piece::Inverse;
         }
     }
-    Piece::Bad { number: UNKNOWN }
+    Piece::Unknown
 }
 
 // A sync with so many octets from it on: one too many even if it is cut.
@@ -64,10 +60,10 @@ fn sync_met(octets: usize, count: usize) -> Piece
     ensures { λ r. ⌜ r ≡ syncMet octets count ⌝ }
 {
     if count == UtteranceLayout::MULTIFRAMES {
-        return Piece::Bad { number: TOO_MANY };
+        return Piece::TooMany;
     }
     if octets < MultiframeLayout::OCTETS {
-        return Piece::Bad { number: CUT_SHORT };
+        return Piece::CutShort;
     }
     Piece::Multiframe
 }
@@ -92,7 +88,9 @@ pub fn cut_into(s: &[u8], places: &mut [usize]) -> Cut
                 p += MultiframeLayout::SYNC;
             }
             Piece::End => return Cut::Whole { count: m },
-            Piece::Bad { number } => return Cut::Refused { number, place: p },
+            Piece::Unknown => return Cut::Refused(Reading::Unknown { place: p }),
+            Piece::CutShort => return Cut::Refused(Reading::CutShort { place: p }),
+            Piece::TooMany => return Cut::Refused(Reading::TooMany { place: p }),
         }
     }
 }

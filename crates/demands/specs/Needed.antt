@@ -48,7 +48,7 @@ use Rattle.pairs.specs.Laws.{length-notes}
 use Rattle.cutting.specs.Laws.{every-length}
 use Rattle.judging.specs.Judging.{bad, badPairs}
 use Rattle.reader.specs.Reading.{outcome, reading}
-use Rattle.reader.specs.declared.Refusal.the-variants.{Unsettled, AllBad}
+use Rattle.refusals.specs.declared.Reading.the-variants.{Unsettled, AllBad}
 use Rattle.reader.specs.declared.Answer.the-variants.{Read, Refused}
 use Rattle.writer.specs.Writing.{verdict, roomAnswer, firstFrom, needed, image, writing}
 use Rattle.writer.specs.Laws.{few-multiframes, length-image}

@@ -27,7 +27,7 @@ use Rattle.judging.specs.Judging.{badPairs}
 use Rattle.reader.specs.Reading.{indexPart, reportPart, summary, roomVerdict, settledVerdict, wholeVerdict, endVerdict, verdict, finished, outcome, reading}
 use Rattle.reader.specs.ReadingLaws.{Usable, Fitting, Accepted, accepting, length-report, report-at}
 use Rattle.reader.specs.declared.Verdict.{Verdict}
-use Rattle.reader.specs.declared.Refusal.the-variants.{Unsettled, AllBad}
+use Rattle.refusals.specs.declared.Reading.the-variants.{Unsettled, AllBad}
 use Rattle.reader.specs.declared.Answer.the-variants.{Read, Refused}
 use Rattle.writer.specs.Made.{syncIn, wordIn, packetIn, streamIn}
 

@@ -34,7 +34,7 @@ use Rattle.replacing.specs.Speech.{speechOf, endOf}
 use Rattle.reader.specs.Reading.{indexPart, reportPart, summary, verdict, finished, Outcome, outcome, reading}
 use Rattle.reader.specs.ReadingLaws.{Accepted, accepted}
 use Rattle.reader.specs.declared.Summary.{Summary}
-use Rattle.reader.specs.declared.Refusal.{Refusal}
+use Rattle.refusals.specs.declared.Reading.{Reading as Refusal}
 use Rattle.reader.specs.declared.Verdict.{Verdict}
 use Rattle.reader.specs.declared.Verdict.the-variants.{Refuse, Accept}
 use Rattle.reader.specs.declared.Answer.{Answer}

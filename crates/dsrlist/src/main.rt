@@ -85,8 +85,8 @@ fn list(octets: &[u8]) {
             print_total(s);
         }
         Answer::Refused(r) => {
-            print_field(b"refused ", reader::number_of(r) as usize);
-            print_field(b" ", reader::place_of(r));
+            print_field(b"refused ", refusals::reading_number(r) as usize);
+            print_field(b" ", refusals::reading_place(r));
             io::write_all(STDOUT_FILENO, b"\n");
         }
     }

@@ -71,8 +71,8 @@ fn show_reading(name: &[u8], octets: &[u8]) {
     match reader::read(octets, &codebook, &thresholds, &mut index, &mut report) {
         Answer::Read(s) => print_numbers(0, s.speech as u64),
         Answer::Refused(r) => print_numbers(
-            reader::number_of(r) as u64,
-            reader::place_of(r) as u64,
+            refusals::reading_number(r) as u64,
+            refusals::reading_place(r) as u64,
         ),
     }
 }

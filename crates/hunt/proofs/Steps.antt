@@ -23,7 +23,7 @@ use Rattle.hunt.specs.Hunt.{syncBits, multiframeBits, sync, fewestMatche
 use Rattle.hunt.specs.Laws.{searched-le, misses-none, misses-hit, misses-on}
 use Rattle.hunt.specs.declared.Hunted.{Hunted}
 use Rattle.hunt.specs.declared.Hunted.the-variants.{Found, Refused}
-use Rattle.hunt.specs.declared.Refusal.the-variants.{MatchRange, Nowhere}
+use Rattle.refusals.specs.declared.Hunt.the-variants.{MatchRange, Nowhere}
 
 -- ---- how many matching bits may be asked for
 pub below-range : (least : ℕ) → least < fewestMatches → false ≡ inRange least

@@ -15,8 +15,9 @@ use Rattle.header_code.specs.Code.Distance.{itself-near}
 use Rattle.header_code.specs.Code.Examples.{of-octets, count-1, three-from-zero}
 use Rattle.header.specs.Reading.{reading}
 use Rattle.header.specs.Reading.Laws.{near, lost-at-three}
-use Rattle.hunt.specs.Hunt.{syncBits, headerBits, multiframeBits, sync, inRange, matches, readable, passes, numberOf, placeOf, testedOf}
-use Rattle.hunt.specs.declared.Refusal.the-variants.{MatchRange, Nowhere}
+use Rattle.hunt.specs.Hunt.{syncBits, headerBits, multiframeBits, sync, inRange, matches, readable, passes}
+use Rattle.refusals.specs.Refusals.{huntNumber, huntPlace, huntTested}
+use Rattle.refusals.specs.declared.Hunt.the-variants.{MatchRange, Nowhere}
 
 -- a sync and the header 8 kHz, type 0, count 1 of 01's examples; and the same from bit 3 on, behind three bits that are 0
 abbrev pub opening : List ℕ
@@ -53,12 +54,12 @@ pub record Table : Type 0 where
   pub four-off-13 : passes 13 (bits fourOff) 0 ≡ false
   pub lost : passes 12 (bits lostOpening) 0 ≡ false
   -- "21, T outside 12 to 16, place T; 22, no place found by the first hunt, place the first bit searched"
-  pub number-21 : numberOf (MatchRange 17) ≡ 21
-  pub place-21 : placeOf (MatchRange 17) ≡ 17
-  pub number-22 : numberOf (Nowhere 5 9) ≡ 22
-  pub place-22 : placeOf (Nowhere 5 9) ≡ 5
-  pub tested-22 : testedOf (Nowhere 5 9) ≡ 9
-  pub tested-21 : testedOf (MatchRange 17) ≡ 0
+  pub number-21 : huntNumber (MatchRange 17) ≡ 21
+  pub place-21 : huntPlace (MatchRange 17) ≡ 17
+  pub number-22 : huntNumber (Nowhere 5 9) ≡ 22
+  pub place-22 : huntPlace (Nowhere 5 9) ≡ 5
+  pub tested-22 : huntTested (Nowhere 5 9) ≡ 9
+  pub tested-21 : huntTested (MatchRange 17) ≡ 0
 
 -- ---- the two headers
 header-word : codeword 8 ≡ 0xEE0E0008

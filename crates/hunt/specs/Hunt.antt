@@ -12,8 +12,7 @@ use Rattle.bits.specs.Bits.{field, value, bits}
 use Rattle.header.specs.Reading.{reading}
 use Rattle.header.specs.declared.Header.{Header}
 use Rattle.header.specs.declared.Header.the-variants.{Codeword, Lost}
-use Rattle.hunt.specs.declared.Refusal.{Refusal}
-use Rattle.hunt.specs.declared.Refusal.the-variants.{MatchRange, Nowhere}
+use Rattle.refusals.specs.declared.Hunt.the-variants.{MatchRange, Nowhere}
 use Rattle.hunt.specs.declared.Hunted.{Hunted}
 use Rattle.hunt.specs.declared.Hunted.the-variants.{Found, Refused}
 
@@ -89,20 +88,6 @@ huntedFrom l from least = found from (placesLeft l from) (misses (passes least l
 unfoldable pub hunted : List ℕ → ℕ → ℕ → Hunted
 hunted octets from least = when (inRange least) (huntedFrom (bits octets) from least) (Refused (MatchRange least))
 
--- ---- 02's number and place of each refusal
-abbrev pub numberOf : Refusal → ℕ
-numberOf (MatchRange least) = 21
-numberOf (Nowhere from n) = 22
-
-abbrev pub placeOf : Refusal → ℕ
-placeOf (MatchRange least) = least
-placeOf (Nowhere from n) = from
-
 -- ---- how the code tests a place: by the numbers of the sixteen bits and of the 32 behind them
 unfoldable pub headPasses : ℕ → ℕ → ℕ → Bool
 headPasses least a b = both (leb least (matches (field syncBits a) sync)) (readable (reading b))
-
--- how many places were tested before a refusal
-abbrev pub testedOf : Refusal → ℕ
-testedOf (MatchRange least) = 0
-testedOf (Nowhere from n) = n

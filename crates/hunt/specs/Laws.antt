@@ -17,7 +17,7 @@ use Rattle.lists.specs.Tests.{when, both, by-test, true-false}
 use Rattle.hunt.specs.Hunt.{multiframeBits, inRange, passes, placesLeft, searched, misses, found, huntedFrom, hunted}
 use Rattle.hunt.specs.declared.Hunted.{Hunted}
 use Rattle.hunt.specs.declared.Hunted.the-variants.{Found, Refused}
-use Rattle.hunt.specs.declared.Refusal.the-variants.{MatchRange, Nowhere}
+use Rattle.refusals.specs.declared.Hunt.the-variants.{MatchRange, Nowhere}
 
 -- T may be what 02 says: 12 to 16
 pub range-says : (least : ℕ) → inRange least ≡ true → (12 ≤ least) × (least ≤ 16)

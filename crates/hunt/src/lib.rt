@@ -7,7 +7,7 @@ ghost use Prim.Native.Nat.{_+_, _*_, _/_, _%_, _^_, _≤_, _<_};
 ghost use lib.ListN.{length};
 ghost use Rattle.bits.specs.Bits.{field, bits};
 ghost use Rattle.header.specs.Reading.{reading};
-ghost use Rattle.hunt.specs.Hunt.{syncBits, headerBits, sync, inRange, matches, readable, headPasses, searched, placesLeft, huntedFrom, hunted, numberOf, placeOf, testedOf};
+ghost use Rattle.hunt.specs.Hunt.{syncBits, headerBits, sync, inRange, matches, readable, headPasses, searched, placesLeft, huntedFrom, hunted};
 
 // The sync's sixteen bits as a number, first sent least significant, and how many they are.
 const SYNC: u32 = MultiframeLayout::SYNC_WORD as u32;
@@ -22,16 +22,10 @@ const FEWEST: usize = 12;
 // The number of bits has to fit 64 bits: octets beyond these are not searched.
 const MOST: usize = 0x1fffffffffffffff;
 
-// Why a hunt is refused; `numberOf` and `placeOf` give 02's numbers and places.
-pub enum Refusal {
-    MatchRange { least: usize },
-    Nowhere { from: usize, tested: usize },
-}
-
 // The place found and how many places were tested, it among them; or refused.
 pub enum Hunted {
     Found { place: usize, tested: usize },
-    Refused(Refusal),
+    Refused(refusals::Hunt),
 }
 
 // Whether a header is readable.
@@ -99,7 +93,7 @@ pub fn seek(octets: &[u8], from: usize, least: usize) -> Hunted
         }
         t += 1;
     }
-    Hunted::Refused(Refusal::Nowhere {
+    Hunted::Refused(refusals::Hunt::Nowhere {
         from,
         tested: t - from,
     })
@@ -123,35 +117,5 @@ pub fn hunt(octets: &[u8], from: usize, least: usize) -> Hunted
     if in_range(least) {
         return seek(octets, from, least);
     }
-    Hunted::Refused(Refusal::MatchRange { least })
-}
-
-// number_of gives 02's number of a refusal.
-pub fn number_of(r: Refusal) -> u32
-    ensures { λ n. ⌜ n ≡ numberOf r ⌝ }
-{
-    match r {
-        Refusal::MatchRange { least: _ } => 21,
-        Refusal::Nowhere { from: _, tested: _ } => 22,
-    }
-}
-
-// place_of gives 02's place of a refusal.
-pub fn place_of(r: Refusal) -> usize
-    ensures { λ n. ⌜ n ≡ placeOf r ⌝ }
-{
-    match r {
-        Refusal::MatchRange { least } => least,
-        Refusal::Nowhere { from, tested: _ } => from,
-    }
-}
-
-// tested_of gives how many places were tested before a refusal.
-pub fn tested_of(r: Refusal) -> usize
-    ensures { λ n. ⌜ n ≡ testedOf r ⌝ }
-{
-    match r {
-        Refusal::MatchRange { least: _ } => 0,
-        Refusal::Nowhere { from: _, tested } => tested,
-    }
+    Hunted::Refused(refusals::Hunt::MatchRange { least })
 }

@@ -13,11 +13,11 @@ use Rattle.bits.specs.Bits.{bits}
 use Rattle.hunt.specs.Hunt.{multiframeBits, inRange, searched}
 use Rattle.reader.specs.Reading as R
 use Rattle.reader.specs.declared.Answer.{Answer as OctetAnswer}
-use Rattle.reader.specs.declared.Refusal.the-variants.{WrongTables}
+use Rattle.refusals.specs.declared.Reading.the-variants.{WrongTables}
 use Rattle.hunting.specs.Hunting.{Ending, whole, tooMany, Gathering, gathering, outsideOf, imageOf, answeredBy, answered, LaidBy, Laid, Outcome, outcome, withCounts, counted, readingBy, readingFound, huntingReading}
 use Rattle.hunting.specs.Laws.{room-for, at-most, apart}
 use Rattle.hunting.specs.declared.Gathered.the-variants as G
-use Rattle.hunting.specs.declared.Refusal.the-variants.{Octets, MatchRange, Nowhere, TooMany}
+use Rattle.refusals.specs.declared.Hunting.the-variants.{Octets, MatchRange, Nowhere, TooMany}
 use Rattle.hunting.specs.declared.Answer.the-variants.{Refused}
 
 -- ---- the octet reader's answer

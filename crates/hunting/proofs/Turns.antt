@@ -9,12 +9,13 @@ use lib.ListN.{length, take, length-append}
 use Rattle.lists.specs.Parts.{over, length-over, take-over}
 use Rattle.layout.specs.Layout.{multiframeOctets, mostMultiframes}
 use Rattle.bits.specs.Bits.{bits}
-use Rattle.hunt.specs.Hunt.{multiframeBits, searched, huntedFrom, testedOf}
+use Rattle.hunt.specs.Hunt.{multiframeBits, searched, huntedFrom}
+use Rattle.refusals.specs.Refusals.{huntTested}
 use Rattle.hunt.specs.Laws.{Says, says}
 use Rattle.hunt.specs.declared.Hunted.{Hunted}
 use Rattle.hunt.specs.declared.Hunted.the-variants as H
-use Rattle.hunt.specs.declared.Refusal.{Refusal}
-use Rattle.hunt.specs.declared.Refusal.the-variants as HR
+use Rattle.refusals.specs.declared.Hunt.{Hunt as Refusal}
+use Rattle.refusals.specs.declared.Hunt.the-variants as HR
 use Rattle.hunting.specs.Hunting.{Ending, whole, tooMany, Gathering, ended, prepend, step, last, gathering, aligned, imageOf, answeredBy, answered, LaidBy, Laid}
 use Rattle.hunting.specs.Laws.{length-aligned, image-more}
 use Rattle.hunting.specs.declared.Gathered.{Gathered}
@@ -33,7 +34,7 @@ module _ (l : List Bool) (least at : ℕ) where
   unfolding gathering
   gathering-full p n e = ap last (sym e)
 
-  gathering-done : (k : ℕ) (r : Refusal) → H.Refused r ≡ huntedFrom l at least → gathering l least k at ≡ ended whole (testedOf r)
+  gathering-done : (k : ℕ) (r : Refusal) → H.Refused r ≡ huntedFrom l at least → gathering l least k at ≡ ended whole (huntTested r)
   unfolding gathering
   gathering-done zero r e = ap last (sym e)
   gathering-done (suc k) r e = ap (λ (x : Hunted). step x (λ p. gathering l least k (p + multiframeBits))) (sym e)
@@ -114,7 +115,7 @@ module _ (s : List ℕ) (from least : ℕ) where
 
     -- no more
     module _ (r : Refusal) (e : H.Refused r ≡ huntedFrom (bits s) at least) where
-      nothing-left : left m at ≡ ended whole (testedOf r)
+      nothing-left : left m at ≡ ended whole (huntTested r)
       nothing-left = gathering-done (bits s) least at (255 - m) r e
 
       all-places : all .places ≡ g .ps
@@ -123,14 +124,14 @@ module _ (s : List ℕ) (from least : ℕ) where
       all-ended : all .ending ≡ whole
       all-ended = g .ending ∙ ap (λ (v : Gathering). v .ending) nothing-left
 
-      pub few-tested-last : tested + testedOf r ≤ searched (bits s) + 1
+      pub few-tested-last : tested + huntTested r ≤ searched (bits s) + 1
       few-tested-last = by r (subst (Says least (bits s) at) (sym e) (says least (bits s) at))
         where
-          by : (q : Refusal) → Says least (bits s) at (H.Refused q) → tested + testedOf q ≤ searched (bits s) + 1
+          by : (q : Refusal) → Says least (bits s) at (H.Refused q) → tested + huntTested q ≤ searched (bits s) + 1
           by (HR.MatchRange t) h = absurd h
           by (HR.Nowhere f n) h = omega (arith, h .2, g .spent, g .countable)
 
-      pub finished : (n : ℕ) → n ≡ testedOf r → (G.Whole m (tested + n) ≡ answered all) × Laid s all image
+      pub finished : (n : ℕ) → n ≡ huntTested r → (G.Whole m (tested + n) ≡ answered all) × Laid s all image
       finished n en =
           let c : length (all .places) ≡ m = ap length all-places ∙ g .count in
           let t : all .tested ≡ tested + n = g .total ∙ ap (λ (v : Gathering). tested + v .tested) nothing-left ∙ ap (λ (k : ℕ). tested + k) (sym en) in (

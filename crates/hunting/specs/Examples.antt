@@ -10,9 +10,10 @@ use Rattle.bits.specs.Bits.{bits, fields}
 use Rattle.bits.specs.Laws.{length-bits}
 use Rattle.hunt.specs.Hunt.{inRange, found, misses}
 use Rattle.hunt.specs.Laws.{searched-all}
-use Rattle.reader.specs.declared.Refusal.the-variants as RR
-use Rattle.hunting.specs.Hunting.{gathering, outsideOf, outcome, readingFound, huntingReading, numberOf, placeOf}
-use Rattle.hunting.specs.declared.Refusal.the-variants.{Octets, MatchRange, Nowhere, TooMany}
+use Rattle.refusals.specs.declared.Reading.the-variants as RR
+use Rattle.hunting.specs.Hunting.{gathering, outsideOf, outcome, readingFound, huntingReading}
+use Rattle.refusals.specs.Refusals.{huntingNumber, huntingPlace}
+use Rattle.refusals.specs.declared.Hunting.the-variants.{Octets, MatchRange, Nowhere, TooMany}
 use Rattle.hunting.specs.declared.Answer.the-variants.{Refused}
 
 -- tables of zeros
@@ -23,21 +24,21 @@ abbrev pub limits : List ℤ
 limits = replicate 14 (pos 0)
 
 pub record Table : Type 0 where
-  pub number-11 : numberOf (Octets RR.WrongTables) ≡ 11
-  pub place-11 : placeOf (Octets RR.WrongTables) ≡ 0
-  pub number-15 : numberOf (TooMany 293763) ≡ 15
-  pub place-15 : placeOf (TooMany 293763) ≡ 293763
-  pub number-16 : numberOf (Octets RR.Unsettled) ≡ 16
-  pub number-17 : numberOf (Octets RR.Unfit) ≡ 17
-  pub number-18 : numberOf (Octets (RR.IndexShort 336)) ≡ 18
-  pub place-18 : placeOf (Octets (RR.IndexShort 336)) ≡ 336
-  pub number-19 : numberOf (Octets (RR.ReportShort 26)) ≡ 19
-  pub place-19 : placeOf (Octets (RR.ReportShort 26)) ≡ 26
-  pub number-20 : numberOf (Octets RR.AllBad) ≡ 20
-  pub number-21 : numberOf (MatchRange 17) ≡ 21
-  pub place-21 : placeOf (MatchRange 17) ≡ 17
-  pub number-22 : numberOf (Nowhere 5 9) ≡ 22
-  pub place-22 : placeOf (Nowhere 5 9) ≡ 5
+  pub number-11 : huntingNumber (Octets RR.WrongTables) ≡ 11
+  pub place-11 : huntingPlace (Octets RR.WrongTables) ≡ 0
+  pub number-15 : huntingNumber (TooMany 293763) ≡ 15
+  pub place-15 : huntingPlace (TooMany 293763) ≡ 293763
+  pub number-16 : huntingNumber (Octets RR.Unsettled) ≡ 16
+  pub number-17 : huntingNumber (Octets RR.Unfit) ≡ 17
+  pub number-18 : huntingNumber (Octets (RR.IndexShort 336)) ≡ 18
+  pub place-18 : huntingPlace (Octets (RR.IndexShort 336)) ≡ 336
+  pub number-19 : huntingNumber (Octets (RR.ReportShort 26)) ≡ 19
+  pub place-19 : huntingPlace (Octets (RR.ReportShort 26)) ≡ 26
+  pub number-20 : huntingNumber (Octets RR.AllBad) ≡ 20
+  pub number-21 : huntingNumber (MatchRange 17) ≡ 21
+  pub place-21 : huntingPlace (MatchRange 17) ≡ 17
+  pub number-22 : huntingNumber (Nowhere 5 9) ≡ 22
+  pub place-22 : huntingPlace (Nowhere 5 9) ≡ 5
   -- "11 still comes first", then 21, then 22: nothing received, searched from bit 5 on
   pub first-11 : huntingReading [] 5 17 book [] [] [] ≡ outcome (Refused (Octets RR.WrongTables)) [] []
   pub first-11-too : huntingReading [] 5 17 [] limits [] [] ≡ outcome (Refused (Octets RR.WrongTables)) [] []

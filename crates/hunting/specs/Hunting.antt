@@ -11,17 +11,18 @@ use Rattle.lists.specs.Tests.{when}
 use Rattle.lists.specs.Parts.{part}
 use Rattle.layout.specs.Layout.{syncOctets, multiframeOctets, mostMultiframes, codebookNumbers, thresholdNumbers, syncFirst, syncSecond}
 use Rattle.bits.specs.Bits.{bits, octets}
-use Rattle.hunt.specs.Hunt.{syncBits, multiframeBits, inRange, searched, huntedFrom, testedOf}
+use Rattle.hunt.specs.Hunt.{syncBits, multiframeBits, inRange, searched, huntedFrom}
 use Rattle.hunt.specs.declared.Hunted.{Hunted}
 use Rattle.hunt.specs.declared.Hunted.the-variants as H
 use Rattle.reader.specs.Reading as R
 use Rattle.reader.specs.declared.Answer.the-variants as RA
 use Rattle.reader.specs.declared.Answer.{Answer as OctetAnswer}
-use Rattle.reader.specs.declared.Refusal.the-variants.{WrongTables}
+use Rattle.refusals.specs.declared.Reading.the-variants.{WrongTables}
 use Rattle.hunting.specs.declared.Gathered.{Gathered}
 use Rattle.hunting.specs.declared.Gathered.the-variants as G
-use Rattle.hunting.specs.declared.Refusal.{Refusal}
-use Rattle.hunting.specs.declared.Refusal.the-variants.{Octets, MatchRange, Nowhere, TooMany}
+use Rattle.refusals.specs.Refusals.{huntTested}
+use Rattle.refusals.specs.declared.Hunting.{Hunting as Refusal}
+use Rattle.refusals.specs.declared.Hunting.the-variants.{Octets, MatchRange, Nowhere, TooMany}
 use Rattle.hunting.specs.declared.Answer.{Answer}
 use Rattle.hunting.specs.declared.Answer.the-variants.{Read, Refused}
 
@@ -47,11 +48,11 @@ prepend p n w = record { places = p ∷ w .places; ending = w .ending; tested = 
 -- how it goes on after a hunt: at the multiframe found, if one more may be taken
 abbrev pub step : Hunted → (ℕ → Gathering) → Gathering
 step (H.Found p n) on = prepend p n (on p)
-step (H.Refused r) on = ended whole (testedOf r)
+step (H.Refused r) on = ended whole (huntTested r)
 
 abbrev pub last : Hunted → Gathering
 last (H.Found p n) = ended (tooMany p) n
-last (H.Refused r) = ended whole (testedOf r)
+last (H.Refused r) = ended whole (huntTested r)
 
 -- from bit `at` on, where k multiframes more may be taken: behind a multiframe the next place is tested, and from there the hunt goes on
 unfoldable pub gathering : List Bool → ℕ → ℕ → ℕ → Gathering
@@ -128,16 +129,3 @@ module _ (s : List ℕ) (from least : ℕ) (codebook thresholds : List ℤ) (ind
       when (eqb (length codebook) codebookNumbers)
       (when (eqb (length thresholds) thresholdNumbers) (when (inRange least) readingFound (refuse (MatchRange least))) (refuse (Octets WrongTables)))
       (refuse (Octets WrongTables))
-
--- ---- the number and place of each refusal: 01's, and 02's for those of the hunt
-abbrev pub numberOf : Refusal → ℕ
-numberOf (Octets r) = R.numberOf r
-numberOf (MatchRange least) = 21
-numberOf (Nowhere from n) = 22
-numberOf (TooMany p) = 15
-
-abbrev pub placeOf : Refusal → ℕ
-placeOf (Octets r) = R.placeOf r
-placeOf (MatchRange least) = least
-placeOf (Nowhere from n) = from
-placeOf (TooMany p) = p

@@ -15,7 +15,7 @@ use Rattle.hunt.specs.Hunt.{multiframeBits, searched, passes, huntedFrom}
 use Rattle.hunt.specs.Laws.{Says, says}
 use Rattle.hunt.specs.declared.Hunted.{Hunted}
 use Rattle.hunt.specs.declared.Hunted.the-variants as H
-use Rattle.hunt.specs.declared.Refusal.the-variants as HR
+use Rattle.refusals.specs.declared.Hunt.the-variants as HR
 use Rattle.hunting.specs.Hunting.{Ending, whole, tooMany, Gathering, step, last, gathering, aligned, imageOf}
 
 -- some place of the list is t

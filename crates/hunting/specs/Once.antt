@@ -15,12 +15,12 @@ use Rattle.lists.specs.Tests.{true-false}
 use Rattle.layout.specs.Layout.{mostMultiframes, codebookNumbers, thresholdNumbers}
 use Rattle.bits.specs.Bits.{bits}
 use Rattle.hunt.specs.Hunt.{multiframeBits, inRange, searched, passes}
-use Rattle.reader.specs.declared.Refusal.the-variants as RR
+use Rattle.refusals.specs.declared.Reading.the-variants as RR
 use Rattle.hunting.specs.Hunting.{gathering, Outcome, outcome, huntingReading}
 use Rattle.hunting.specs.Laws.{Among, Overlapped, Apart}
 use Rattle.hunting.specs.Says.{Success, Tested, Beyond}
 use Rattle.hunting.specs.declared.Counted.{Counted}
-use Rattle.hunting.specs.declared.Refusal.the-variants.{Octets, MatchRange}
+use Rattle.refusals.specs.declared.Hunting.the-variants.{Octets, MatchRange}
 use Rattle.hunting.specs.declared.Answer.the-variants.{Refused}
 
 module _ (l : List Bool) (least : ℕ) where

@@ -24,21 +24,23 @@ use Rattle.hunt.specs.Hunt.{multiframeBits, inRange, searched, passes, placesLe
 use Rattle.hunt.specs.Laws as Hunt
 use Rattle.hunt.specs.declared.Hunted.{Hunted}
 use Rattle.hunt.specs.declared.Hunted.the-variants as H
-use Rattle.hunt.specs.declared.Refusal.the-variants as HR
+use Rattle.refusals.specs.declared.Hunt.the-variants as HR
 use Rattle.reader.specs.Reading as R
 use Rattle.reader.specs.Reading.{roomVerdict, settledVerdict, wholeVerdict}
 use Rattle.reader.specs.declared.Verdict.{Verdict}
 use Rattle.reader.specs.declared.Verdict.the-variants.{Refuse, Accept}
-use Rattle.reader.specs.declared.Refusal.{Refusal as OctetRefusal}
-use Rattle.reader.specs.declared.Refusal.the-variants as RR
+use Rattle.refusals.specs.declared.Reading.{Reading as OctetRefusal}
+use Rattle.refusals.specs.declared.Reading.the-variants as RR
 use Rattle.reader.specs.declared.Summary.{Summary}
 use Rattle.reader.specs.declared.Answer.{Answer as OctetAnswer}
 use Rattle.reader.specs.declared.Answer.the-variants as RA
-use Rattle.hunting.specs.Hunting.{Ending, whole, tooMany, Gathering, ended, step, last, gathering, outsideOf, aligned, imageOf, withCounts, counted, Outcome, outcome, readingBy, readingFound, huntingReading, numberOf}
+use Rattle.hunting.specs.Hunting.{Ending, whole, tooMany, Gathering, ended, step, last, gathering, outsideOf, aligned, imageOf, withCounts, counted, Outcome, outcome, readingBy, readingFound, huntingReading}
+use Rattle.refusals.specs.Refusals.{readingNumber, huntingNumber, huntingPlace}
+use Rattle.refusals.specs.Laws.{huntingTested, huntingOf, hunting-one-case}
 use Rattle.hunting.specs.Laws.{Among, Overlapped, Apart, Ends, taken, apart, at-most, room-for, length-aligned, length-image}
 use Rattle.hunting.specs.declared.Counted.{Counted}
-use Rattle.hunting.specs.declared.Refusal.{Refusal}
-use Rattle.hunting.specs.declared.Refusal.the-variants.{Octets, MatchRange, Nowhere, TooMany}
+use Rattle.refusals.specs.declared.Hunting.{Hunting as Refusal}
+use Rattle.refusals.specs.declared.Hunting.the-variants.{Octets, MatchRange, Nowhere, TooMany}
 use Rattle.hunting.specs.declared.Answer.{Answer}
 use Rattle.hunting.specs.declared.Answer.the-variants.{Read, Refused}
 
@@ -368,14 +370,14 @@ module _ (s : List ℕ) (from least : ℕ) (codebook thresholds : List ℤ) (ind
           subst Comes (g .1 .1)
           (inr (image-late s (found .places) n (at-most (bits s) least mostMultiframes from) codebook thresholds index report (t .0) (t .1) (g .0) (g .1 .0)))
 
-  number-comes : (r : Refusal) → Comes r → (numberOf r ≡ 12 → ⊥) × (numberOf r ≡ 13 → ⊥) × (numberOf r ≡ 14 → ⊥)
+  number-comes : (r : Refusal) → Comes r → (huntingNumber r ≡ 12 → ⊥) × (huntingNumber r ≡ 13 → ⊥) × (huntingNumber r ≡ 14 → ⊥)
   number-comes (MatchRange k) l = (λ e. omega arith, λ e. omega arith, λ e. omega arith)
   number-comes (Nowhere f n) l = (λ e. omega arith, λ e. omega arith, λ e. omega arith)
   number-comes (TooMany p) l = (λ e. omega arith, λ e. omega arith, λ e. omega arith)
-  number-comes (Octets q) (inl e) = let z : numberOf (Octets q) ≡ 11 = ap (λ (x : OctetRefusal). numberOf (Octets x)) e in (λ e. omega arith, λ e. omega arith, λ e. omega arith)
+  number-comes (Octets q) (inl e) = let z : huntingNumber (Octets q) ≡ 11 = ap (λ (x : OctetRefusal). huntingNumber (Octets x)) e in (λ e. omega arith, λ e. omega arith, λ e. omega arith)
   number-comes (Octets q) (inr l) = of-late q l
     where
-      of-late : (q : OctetRefusal) → Late q → (R.numberOf q ≡ 12 → ⊥) × (R.numberOf q ≡ 13 → ⊥) × (R.numberOf q ≡ 14 → ⊥)
+      of-late : (q : OctetRefusal) → Late q → (readingNumber q ≡ 12 → ⊥) × (readingNumber q ≡ 13 → ⊥) × (readingNumber q ≡ 14 → ⊥)
       of-late RR.WrongTables l = absurd l
       of-late (RR.Unknown p) l = absurd l
       of-late (RR.CutShort p) l = absurd l
@@ -387,5 +389,16 @@ module _ (s : List ℕ) (from least : ℕ) (codebook thresholds : List ℤ) (ind
       of-late (RR.ReportShort n) l = (λ e. omega arith, λ e. omega arith, λ e. omega arith)
       of-late RR.AllBad l = (λ e. omega arith, λ e. omega arith, λ e. omega arith)
 
-  pub never-12-to-14 : (r : Refusal) → result .answer ≡ Refused r → (numberOf r ≡ 12 → ⊥) × (numberOf r ≡ 13 → ⊥) × (numberOf r ≡ 14 → ⊥)
+  pub never-12-to-14 : (r : Refusal) → result .answer ≡ Refused r → (huntingNumber r ≡ 12 → ⊥) × (huntingNumber r ≡ 13 → ⊥) × (huntingNumber r ≡ 14 → ⊥)
   never-12-to-14 r f = number-comes r (comes r f)
+
+  -- and the octet reader's 15 never comes, so that no number of an answer stands for two cases
+  pub never-octet-15 : (r : Refusal) → result .answer ≡ Refused r → (p : ℕ) → r ≡ Octets (RR.TooMany p) → ⊥
+  never-octet-15 r f p e = never (subst Comes e (comes r f))
+    where
+      never : Comes (Octets (RR.TooMany p)) → ⊥
+      never (inl e) = let z = ap readingNumber e in omega (arith, z)
+      never (inr l) = l
+
+  pub one-case : (r q : Refusal) → result .answer ≡ Refused r → huntingNumber r ≡ huntingNumber q → huntingOf (huntingNumber q) (huntingPlace r) (huntingTested r) ≡ r
+  one-case r q f e = hunting-one-case r q (never-octet-15 r f) e

@@ -6,6 +6,8 @@ use layout::MultiframeLayout;
 use layout::ReadingLayout;
 use layout::UtteranceLayout;
 use reader::Summary;
+use refusals::Hunting;
+use refusals::Reading;
 ghost use mathlib.Core.Path.{_≡_};
 ghost use Prim.Native.Nat.{_+_, _*_, _≤_, _<_};
 ghost use lib.ListN.{length, take};
@@ -14,7 +16,7 @@ ghost use Rattle.layout.specs.Layout.{multiframeOctets, mostMultiframes};
 ghost use Rattle.bits.specs.Bits.{bits};
 ghost use Rattle.hunt.specs.Hunt.{syncBits, multiframeBits, searched};
 ghost use Rattle.reader.specs.Reading.{reading};
-ghost use Rattle.hunting.specs.Hunting.{aligned, gathering, answered, Laid, outsideOf, counted, outcome, readingFound, huntingReading, numberOf, placeOf};
+ghost use Rattle.hunting.specs.Hunting.{aligned, gathering, answered, Laid, outsideOf, counted, outcome, readingFound, huntingReading};
 
 // A sync and a multiframe in bits, and what stands behind the sync in octets.
 const SYNC_BITS: usize = 8 * MultiframeLayout::SYNC;
@@ -26,15 +28,6 @@ const BEHIND: usize = MultiframeLayout::OCTETS - MultiframeLayout::SYNC;
 // Room for as many multiframes as an utterance may have.
 const IMAGE: usize = MultiframeLayout::OCTETS * UtteranceLayout::MULTIFRAMES;
 
-// Why a hunting reading is refused: as the octet reader refuses what was found, or one of the hunt's reasons; `numberOf` and `placeOf` give
-// the numbers and places of 01 and 02.
-pub enum Refusal {
-    Octets(reader::Refusal),
-    MatchRange { least: usize },
-    Nowhere { from: usize, tested: usize },
-    TooMany { place: usize },
-}
-
 // What the octet reader answers of the multiframes found, the bits outside them, and how many places were tested.
 pub struct Counted {
     pub summary: Summary,
@@ -44,7 +37,7 @@ pub struct Counted {
 
 pub enum Answer {
     Read(Counted),
-    Refused(Refusal),
+    Refused(Hunting),
 }
 
 // How finding the multiframes ended.
@@ -96,7 +89,7 @@ fn gather(octets: &[u8], from: usize, least: usize, image: &mut [u8]) -> Gathere
             Hunted::Refused(r) => {
                 return Gathered::Whole {
                     count: m,
-                    tested: tested + hunt::tested_of(r),
+                    tested: tested + refusals::hunt_tested(r),
                 }
             }
         }
@@ -132,7 +125,7 @@ fn read_front(
             outside,
             tested,
         }),
-        reader::Answer::Refused(r) => Answer::Refused(Refusal::Octets(r)),
+        reader::Answer::Refused(r) => Answer::Refused(Hunting::Octets(r)),
     }
 }
 
@@ -152,10 +145,10 @@ fn read_found(
 {
     let mut image = [0u8; IMAGE];
     match gather(octets, from, least, &mut image) {
-        Gathered::TooMany { place } => Answer::Refused(Refusal::TooMany { place }),
+        Gathered::TooMany { place } => Answer::Refused(Hunting::TooMany { place }),
         Gathered::Whole { count, tested } => {
             if count == 0 {
-                return Answer::Refused(Refusal::Nowhere { from, tested });
+                return Answer::Refused(Hunting::Nowhere { from, tested });
             }
             read_front(
                 &image,
@@ -185,37 +178,13 @@ pub fn read(
     ensures { λ r. ⌜ outcome r (now (index .exit)) (now (report .exit)) ≡ huntingReading (now (octets .entry)) from least (now (codebook .entry)) (now (thresholds .entry)) (now (index .entry)) (now (report .entry)) ⌝ }
 {
     if codebook.len() != ReadingLayout::CODEBOOK {
-        return Answer::Refused(Refusal::Octets(reader::Refusal::WrongTables));
+        return Answer::Refused(Hunting::Octets(Reading::WrongTables));
     }
     if thresholds.len() != ReadingLayout::THRESHOLDS {
-        return Answer::Refused(Refusal::Octets(reader::Refusal::WrongTables));
+        return Answer::Refused(Hunting::Octets(Reading::WrongTables));
     }
     if hunt::in_range(least) {
         return read_found(octets, from, least, codebook, thresholds, index, report);
     }
-    Answer::Refused(Refusal::MatchRange { least })
-}
-
-// number_of gives the number of a refusal: 01's, or 02's for those of the hunt.
-pub fn number_of(r: Refusal) -> u32
-    ensures { λ n. ⌜ n ≡ numberOf r ⌝ }
-{
-    match r {
-        Refusal::Octets(q) => reader::number_of(q),
-        Refusal::MatchRange { least: _ } => 21,
-        Refusal::Nowhere { from: _, tested: _ } => 22,
-        Refusal::TooMany { place: _ } => 15,
-    }
-}
-
-// place_of gives the place of a refusal.
-pub fn place_of(r: Refusal) -> usize
-    ensures { λ n. ⌜ n ≡ placeOf r ⌝ }
-{
-    match r {
-        Refusal::Octets(q) => reader::place_of(q),
-        Refusal::MatchRange { least } => least,
-        Refusal::Nowhere { from, tested: _ } => from,
-        Refusal::TooMany { place } => place,
-    }
+    Answer::Refused(Hunting::MatchRange { least })
 }

@@ -43,7 +43,7 @@ use Rattle.hunt.specs.Hunt.{syncBits, multiframeBits, fewestMatches, sync, matc
 use Rattle.hunt.specs.Laws.{searched-all}
 use Rattle.reader.specs.Reading as R
 use Rattle.reader.specs.declared.Answer.the-variants as RA
-use Rattle.reader.specs.declared.Refusal.the-variants.{Unsettled}
+use Rattle.refusals.specs.declared.Reading.the-variants.{Unsettled}
 use Rattle.hunting.specs.Hunting.{outsideOf, counted, outcome, huntingReading}
 use Rattle.hunting.specs.declared.Answer.the-variants.{Read}
 use Rattle.writer.specs.Writing.{verdict, roomAnswer, firstFrom, frameCount, needed}

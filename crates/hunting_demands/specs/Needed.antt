@@ -44,11 +44,11 @@ use Rattle.hunt.specs.Laws.{searched-all}
 use Rattle.reader.specs.Reading as R
 use Rattle.reader.specs.ReadingLaws.{Usable}
 use Rattle.reader.specs.declared.Answer.the-variants as RA
-use Rattle.reader.specs.declared.Refusal.the-variants.{Unsettled, IndexShort}
+use Rattle.refusals.specs.declared.Reading.the-variants.{Unsettled, IndexShort}
 use Rattle.hunting.specs.Hunting.{imageOf as foundImage, outsideOf, counted, Outcome, outcome, huntingReading}
 use Rattle.hunting.specs.declared.Answer.the-variants.{Refused}
-use Rattle.hunting.specs.declared.Refusal.{Refusal}
-use Rattle.hunting.specs.declared.Refusal.the-variants.{Octets, MatchRange, Nowhere}
+use Rattle.refusals.specs.declared.Hunting.{Hunting as Refusal}
+use Rattle.refusals.specs.declared.Hunting.the-variants.{Octets, MatchRange, Nowhere}
 use Rattle.writer.specs.Laws.{few-multiframes}
 use Rattle.writer.specs.Made.{syncIn, wordIn, streamIn, packetIn, made-packet}
 use Rattle.writer.specs.Image.{image-packet, Utterance, multiframesOf, imageOf, is-accepted, rate-not-2}

@@ -24,12 +24,12 @@ use Rattle.hunt.specs.Hunt.{fewestMatches, syncBits, headerBits, multiframeBits
 use Rattle.hunt.specs.Laws.{in-range, searched-le, says, once}
 use Rattle.hunt.specs.declared.Hunted.{Hunted}
 use Rattle.hunt.specs.declared.Hunted.the-variants as H
-use Rattle.hunt.specs.declared.Refusal.the-variants as HR
+use Rattle.refusals.specs.declared.Hunt.the-variants as HR
 use Rattle.reader.specs.Reading as R
 use Rattle.hunting.specs.Hunting.{Ending, whole, ended, prepend, step, last, gathering, outsideOf, aligned, imageOf, outcome, counted, readingBy, readingFound, huntingReading}
 use Rattle.hunting.specs.Laws.{image-more}
 use Rattle.hunting.specs.declared.Answer.the-variants.{Refused}
-use Rattle.hunting.specs.declared.Refusal.the-variants.{Nowhere}
+use Rattle.refusals.specs.declared.Hunting.the-variants.{Nowhere}
 use Rattle.writer.specs.Made.{Small, syncIn, wordIn, streamIn, framed, made, length-made, small-made, made-sync, made-word, made-stream}
 
 -- ---- places

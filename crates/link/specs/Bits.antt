@@ -14,11 +14,12 @@ use Rattle.lists.specs.Parts.{over, behind, set-over, length-over}
 use Rattle.hunt.specs.Hunt as H
 use Rattle.hunt.specs.declared.Hunted.{Hunted}
 use Rattle.hunt.specs.declared.Hunted.the-variants as HA
-use Rattle.hunt.specs.declared.Refusal.{Refusal as HuntRefusal}
-use Rattle.hunting.specs.Hunting.{Outcome, outcome, huntingReading, numberOf, placeOf}
+use Rattle.refusals.specs.Refusals.{success, noRoom, huntNumber, huntPlace, huntTested, huntingNumber, huntingPlace}
+use Rattle.refusals.specs.declared.Hunt.{Hunt as HuntRefusal}
+use Rattle.hunting.specs.Hunting.{Outcome, outcome, huntingReading}
 use Rattle.hunting.specs.Says.{never-12-to-14}
 use Rattle.hunting.specs.declared.Counted.{Counted}
-use Rattle.hunting.specs.declared.Refusal.{Refusal}
+use Rattle.refusals.specs.declared.Hunting.{Hunting as Refusal}
 use Rattle.hunting.specs.declared.Answer.{Answer}
 use Rattle.hunting.specs.declared.Answer.the-variants.{Read, Refused}
 use Rattle.link.specs.Link.{answerNumbers, summaryNumbers}
@@ -35,8 +36,8 @@ huntReturned n f t p = record { number = n; found = f; tested = t; place = p }
 
 -- success gives 0, the place found and how many were tested; a refusal its number, how many were tested, and its place. f and p came
 abbrev pub huntReturning : ℕ → ℕ → Hunted → HuntReturned
-huntReturning f p (HA.Found q n) = huntReturned 0 q n p
-huntReturning f p (HA.Refused r) = huntReturned (H.numberOf r) f (H.testedOf r) (H.placeOf r)
+huntReturning f p (HA.Found q n) = huntReturned success q n p
+huntReturning f p (HA.Refused r) = huntReturned (huntNumber r) f (huntTested r) (huntPlace r)
 
 -- ---- the hunting reading: eight numbers, those of the octet reader and then the bits outside and the places tested
 abbrev pub countedNumbers : ℕ
@@ -57,12 +58,12 @@ bitsReturned n i r a p = record { number = n; index = i; report = r; answer = a;
 
 -- success gives 0 and eight numbers, a refusal its number and its place
 abbrev pub bitsAnswered : List ℕ → ℕ → List ℕ → List ℕ → Answer → BitsReturned
-bitsAnswered a p i r (Read c) = bitsReturned 0 i r (over a 0 countedNumbers (numbersOf c)) p
-bitsAnswered a p i r (Refused x) = bitsReturned (numberOf x) i r a (placeOf x)
+bitsAnswered a p i r (Read c) = bitsReturned success i r (over a 0 countedNumbers (numbersOf c)) p
+bitsAnswered a p i r (Refused x) = bitsReturned (huntingNumber x) i r a (huntingPlace x)
 
 -- with no room for eight numbers nothing is read, and all stays
 unfoldable pub bitsReturning : List ℕ → ℕ → List ℕ → List ℕ → Outcome → BitsReturned
-bitsReturning a p i r o = when (ltb (length a) countedNumbers) (bitsReturned 99 i r a p) (bitsAnswered a p (o .index) (o .report) (o .answer))
+bitsReturning a p i r o = when (ltb (length a) countedNumbers) (bitsReturned noRoom i r a p) (bitsAnswered a p (o .index) (o .report) (o .answer))
 
 -- ---- what the entries give, for every input: their contracts are equations with these
 -- dsr_hunt: its number and the three lent numbers; found and place as they came
@@ -75,10 +76,10 @@ dsrReadBits octets from least codebook thresholds index report answer place =
     bitsReturning answer place index report (huntingReading octets from least codebook thresholds index report)
 
 -- ---- the entries' ends
-pub hunt-found : (f p q n : ℕ) (h : Hunted) → HA.Found q n ≡ h → huntReturned 0 q n p ≡ huntReturning f p h
+pub hunt-found : (f p q n : ℕ) (h : Hunted) → HA.Found q n ≡ h → huntReturned success q n p ≡ huntReturning f p h
 hunt-found f p q n h e = ap (huntReturning f p) e
 
-pub hunt-refused : (f p n t q : ℕ) (r : HuntRefusal) (h : Hunted) → HA.Refused r ≡ h → n ≡ H.numberOf r → t ≡ H.testedOf r → q ≡ H.placeOf r
+pub hunt-refused : (f p n t q : ℕ) (r : HuntRefusal) (h : Hunted) → HA.Refused r ≡ h → n ≡ huntNumber r → t ≡ huntTested r → q ≡ huntPlace r
     → huntReturned n f t q ≡ huntReturning f p h
 hunt-refused f p n t q r h e en et eq = rw (en, et, eq) (ap (huntReturning f p) e)
 
@@ -94,7 +95,7 @@ eight-stored a b c room e =
     behind a 0 7 1 (six ++ (c .outside ∷ [])) (c .tested ∷ []) (omega arith) refl (behind a 0 6 1 six (c .outside ∷ []) (omega arith) refl e one) two
 
 module _ (a : List ℕ) (p : ℕ) (i r : List ℕ) (o : Outcome) where
-  pub bits-no-room : length a < countedNumbers → bitsReturned 99 i r a p ≡ bitsReturning a p i r o
+  pub bits-no-room : length a < countedNumbers → bitsReturned noRoom i r a p ≡ bitsReturning a p i r o
   unfolding bitsReturning
   bits-no-room h = rw (lt-ltb (length a) countedNumbers h)
 
@@ -103,11 +104,11 @@ module _ (a : List ℕ) (p : ℕ) (i r : List ℕ) (o : Outcome) where
   answer h x i′ r′ e = rw (le-ltb (length a) countedNumbers h) (ap (λ (q : Outcome). bitsAnswered a p (q .index) (q .report) (q .answer)) e)
 
   pub bits-read : countedNumbers ≤ length a → (x : Answer) (c : Counted) (i′ r′ a′ : List ℕ) → outcome x i′ r′ ≡ o → x ≡ Read c
-      → a′ ≡ over a 0 countedNumbers (numbersOf c) → bitsReturned 0 i′ r′ a′ p ≡ bitsReturning a p i r o
-  bits-read h x c i′ r′ a′ e ex ea = ap (λ (l : List ℕ). bitsReturned 0 i′ r′ l p) ea ∙ ap (bitsAnswered a p i′ r′) (sym ex) ∙ answer h x i′ r′ e
+      → a′ ≡ over a 0 countedNumbers (numbersOf c) → bitsReturned success i′ r′ a′ p ≡ bitsReturning a p i r o
+  bits-read h x c i′ r′ a′ e ex ea = ap (λ (l : List ℕ). bitsReturned success i′ r′ l p) ea ∙ ap (bitsAnswered a p i′ r′) (sym ex) ∙ answer h x i′ r′ e
 
   pub bits-refused : countedNumbers ≤ length a → (x : Answer) (q : Refusal) (i′ r′ : List ℕ) (n k : ℕ) → outcome x i′ r′ ≡ o → x ≡ Refused q
-      → n ≡ numberOf q → k ≡ placeOf q → bitsReturned n i′ r′ a k ≡ bitsReturning a p i r o
+      → n ≡ huntingNumber q → k ≡ huntingPlace q → bitsReturned n i′ r′ a k ≡ bitsReturning a p i r o
   bits-refused h x q i′ r′ n k e ex en ek =
       ap₂ (λ (m j : ℕ). bitsReturned m i′ r′ a j) en ek ∙ ap (bitsAnswered a p i′ r′) (sym ex) ∙ answer h x i′ r′ e
 

@@ -7,10 +7,10 @@ use Prim.Native.Nat.{ℕ}
 use lib.ListN.{replicate}
 use Rattle.settings.specs.Settings.{settings}
 use Rattle.hunt.specs.declared.Hunted.the-variants as HA
-use Rattle.hunt.specs.declared.Refusal.the-variants as HR
-use Rattle.reader.specs.declared.Refusal.the-variants as RR
+use Rattle.refusals.specs.declared.Hunt.the-variants as HR
+use Rattle.refusals.specs.declared.Reading.the-variants as RR
 use Rattle.hunting.specs.Hunting.{Outcome, outcome}
-use Rattle.hunting.specs.declared.Refusal.the-variants.{Octets, MatchRange, Nowhere, TooMany}
+use Rattle.refusals.specs.declared.Hunting.the-variants.{Octets, MatchRange, Nowhere, TooMany}
 use Rattle.hunting.specs.declared.Answer.the-variants.{Read, Refused}
 use Rattle.link.specs.Bits.{huntReturning, bitsReturning}
 

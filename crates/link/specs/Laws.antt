@@ -15,9 +15,10 @@ use Rattle.layout.specs.Layout.{widths, packetBits, packetStart, streamOctets, 
 use Rattle.bits.specs.Bits.{bits, octets, total}
 use Rattle.packet.specs.Packet.{stream, apart, indices}
 use Rattle.bits.specs.Laws.{length-numbers}
-use Rattle.reader.specs.Reading.{Outcome, outcome, numberOf, placeOf}
+use Rattle.refusals.specs.Refusals.{success, noRoom, readingNumber, readingPlace}
+use Rattle.reader.specs.Reading.{Outcome, outcome}
 use Rattle.reader.specs.declared.Summary.{Summary}
-use Rattle.reader.specs.declared.Refusal.{Refusal}
+use Rattle.refusals.specs.declared.Reading.{Reading as Refusal}
 use Rattle.reader.specs.declared.Answer.{Answer}
 use Rattle.reader.specs.declared.Answer.the-variants.{Read, Refused}
 use Rattle.writer.specs.Writing.{Search, at, nowhere, firstWide}
@@ -123,7 +124,7 @@ six-stored (a ∷ b ∷ c ∷ d ∷ e ∷ []) u v w x y z h = absurd (omega arit
 six-stored (a ∷ b ∷ c ∷ d ∷ e ∷ f ∷ l) u v w x y z h = refl
 
 module _ (a i r : List ℕ) (o : Outcome) where
-  pub returns-no-room : length a < answerNumbers → returned 99 i r a ≡ returning a i r o
+  pub returns-no-room : length a < answerNumbers → returned noRoom i r a ≡ returning a i r o
   unfolding returning
   returns-no-room h = rw (lt-ltb (length a) answerNumbers h)
 
@@ -132,13 +133,13 @@ module _ (a i r : List ℕ) (o : Outcome) where
   answer h x i′ r′ e = rw (le-ltb (length a) answerNumbers h) (ap (λ (q : Outcome). answered a (q .index) (q .report) (q .answer)) e)
 
   pub returns-read : answerNumbers ≤ length a → (x : Answer) (s : Summary) (i′ r′ a′ : List ℕ) → outcome x i′ r′ ≡ o → x ≡ Read s
-      → a′ ≡ over a 0 answerNumbers (summaryNumbers s) → returned 0 i′ r′ a′ ≡ returning a i r o
-  returns-read h x s i′ r′ a′ e ex ea = ap (returned 0 i′ r′) ea ∙ ap (answered a i′ r′) (sym ex) ∙ answer h x i′ r′ e
+      → a′ ≡ over a 0 answerNumbers (summaryNumbers s) → returned success i′ r′ a′ ≡ returning a i r o
+  returns-read h x s i′ r′ a′ e ex ea = ap (returned success i′ r′) ea ∙ ap (answered a i′ r′) (sym ex) ∙ answer h x i′ r′ e
 
   pub returns-refusal : answerNumbers ≤ length a → (x : Answer) (q : Refusal) (i′ r′ : List ℕ) (n p : ℕ) → outcome x i′ r′ ≡ o → x ≡ Refused q
-      → n ≡ numberOf q → p ≡ placeOf q → returned n i′ r′ (set a 0 p) ≡ returning a i r o
+      → n ≡ readingNumber q → p ≡ readingPlace q → returned n i′ r′ (set a 0 p) ≡ returning a i r o
   returns-refusal h x q i′ r′ n p e ex en ep =
-      ap₂ (λ (m k : ℕ). returned m i′ r′ (set a 0 k)) en ep ∙ ap (returned (numberOf q) i′ r′) (set-over a 0 (placeOf q) (omega arith))
+      ap₂ (λ (m k : ℕ). returned m i′ r′ (set a 0 k)) en ep ∙ ap (returned (readingNumber q) i′ r′) (set-over a 0 (readingPlace q) (omega arith))
       ∙ ap (answered a i′ r′) (sym ex) ∙ answer h x i′ r′ e
 
 -- ---- dsr_write's three, put together

@@ -16,7 +16,8 @@ use Rattle.crc.specs.Crc.{right}
 use Rattle.packet.specs.Packet.{apart, stream}
 use Rattle.header.specs.declared.Header.{Header}
 use Rattle.header.specs.declared.Header.the-variants.{Codeword, Lost}
-use Rattle.reader.specs.Reading.{Outcome, numberOf, placeOf, reading}
+use Rattle.refusals.specs.Refusals.{success, noRoom, readingNumber, readingPlace}
+use Rattle.reader.specs.Reading.{Outcome, reading}
 use Rattle.reader.specs.declared.Summary.{Summary}
 use Rattle.reader.specs.declared.Answer.{Answer}
 use Rattle.reader.specs.declared.Answer.the-variants.{Read, Refused}
@@ -99,12 +100,12 @@ returned n i r a = record { number = n; index = i; report = r; answer = a }
 
 -- success gives 0 and six numbers, a refusal its number and its place
 abbrev pub answered : List ℕ → List ℕ → List ℕ → Answer → Returned
-answered a i r (Read s) = returned 0 i r (over a 0 answerNumbers (summaryNumbers s))
-answered a i r (Refused x) = returned (numberOf x) i r (over a 0 1 (placeOf x ∷ []))
+answered a i r (Read s) = returned success i r (over a 0 answerNumbers (summaryNumbers s))
+answered a i r (Refused x) = returned (readingNumber x) i r (over a 0 1 (readingPlace x ∷ []))
 
 -- with no room for six numbers nothing is read, and all stays
 unfoldable pub returning : List ℕ → List ℕ → List ℕ → Outcome → Returned
-returning a i r o = when (ltb (length a) answerNumbers) (returned 99 i r a) (answered a (o .index) (o .report) (o .answer))
+returning a i r o = when (ltb (length a) answerNumbers) (returned noRoom i r a) (answered a (o .index) (o .report) (o .answer))
 
 -- ---- what the entries give, for every input: their contracts are equations with these
 -- dsr_write: its number, the output and the place

@@ -22,12 +22,10 @@ ghost use Rattle.header.specs.Reading.{reading};
 ghost use Rattle.link.specs.Bits.{huntReturned, dsrHunt, countedNumbers, numbersOf, bitsReturned, dsrReadBits};
 ghost use Rattle.link.specs.Link.{answerNumbers, summaryNumbers, writeReturned, dsrWrite, returned, dsrRead, headerRead, packed, packing, unpacked, unpacking, framesOf, noteOf, markOf};
 
-// The numbers of a reading's answer, those of a hunting reading's, and what is answered if there is no room for them.
+// The numbers of a reading's answer, and those of a hunting reading's.
 const ANSWER: usize = 6;
 
 const COUNTED: usize = 8;
-
-const NO_ROOM: u32 = 99;
 
 // dsr_header_encode gives the codeword of a 16-bit message.
 #[no_mangle]
@@ -163,16 +161,16 @@ pub extern "C" fn dsr_read(
     ensures { λ r. ⌜ returned r (now (index .exit)) (now (report .exit)) (now (answer .exit)) ≡ dsrRead (now (octets .entry)) (now (codebook .entry)) (now (thresholds .entry)) (now (index .entry)) (now (report .entry)) (now (answer .entry)) ⌝ }
 {
     if answer.len() < ANSWER {
-        return NO_ROOM;
+        return refusals::NO_ROOM;
     }
     match reader::read(octets, codebook, thresholds, index, report) {
         Answer::Read(s) => {
             put_summary(s, answer);
-            0
+            refusals::SUCCESS
         }
         Answer::Refused(r) => {
-            answer[0] = reader::place_of(r) as u64;
-            reader::number_of(r)
+            answer[0] = refusals::reading_place(r) as u64;
+            refusals::reading_number(r)
         }
     }
 }
@@ -197,12 +195,12 @@ pub extern "C" fn dsr_hunt(
         } => {
             *found = at as u64;
             *tested = n as u64;
-            0
+            refusals::SUCCESS
         }
         Hunted::Refused(r) => {
-            *tested = hunt::tested_of(r) as u64;
-            *place = hunt::place_of(r) as u64;
-            hunt::number_of(r)
+            *tested = refusals::hunt_tested(r) as u64;
+            *place = refusals::hunt_place(r) as u64;
+            refusals::hunt_number(r)
         }
     }
 }
@@ -237,7 +235,7 @@ pub extern "C" fn dsr_read_bits(
     ensures { λ r. ⌜ bitsReturned r (now (index .exit)) (now (report .exit)) (now (answer .exit)) (now (place .exit)) ≡ dsrReadBits (now (octets .entry)) from least (now (codebook .entry)) (now (thresholds .entry)) (now (index .entry)) (now (report .entry)) (now (answer .entry)) (now (place .entry)) ⌝ }
 {
     if answer.len() < COUNTED {
-        return NO_ROOM;
+        return refusals::NO_ROOM;
     }
     match hunting::read(
         octets,
@@ -250,11 +248,11 @@ pub extern "C" fn dsr_read_bits(
     ) {
         hunting::Answer::Read(c) => {
             put_counted(c, answer);
-            0
+            refusals::SUCCESS
         }
         hunting::Answer::Refused(r) => {
-            *place = hunting::place_of(r) as u64;
-            hunting::number_of(r)
+            *place = refusals::hunting_place(r) as u64;
+            refusals::hunting_number(r)
         }
     }
 }

@@ -8,7 +8,7 @@ use lib.ListN.{replicate}
 use Rattle.frames.specs.Frames.{zeroFrame}
 use Rattle.settings.specs.Settings.{settings}
 use Rattle.reader.specs.Reading.{Outcome, outcome, reading, verdict}
-use Rattle.reader.specs.declared.Refusal.the-variants.{CutShort, IndexShort, AllBad}
+use Rattle.refusals.specs.declared.Reading.the-variants.{CutShort, IndexShort, AllBad}
 use Rattle.reader.specs.declared.Answer.the-variants.{Read, Refused}
 use Rattle.writer.specs.Writing as W
 use Rattle.writer.specs.Writing.{firstFrom, roomAnswer, writing}

@@ -18,13 +18,12 @@ use Rattle.writer.specs.Writing.{writing}
 use Rattle.writer.specs.declared.Answer as WA
 use Rattle.writer.specs.declared.Answer.the-variants.{Written}
 use Rattle.writer.specs.declared.Answer.the-variants as WV
-use Rattle.writer.specs.declared.Refusal.{Refusal as WriterRefusal}
-use Rattle.writer.specs.declared.Refusal.the-variants as WR
+use Rattle.refusals.specs.Refusals.{noRoom, readingNumber, readingPlace, huntingNumber, huntingPlace}
+use Rattle.refusals.specs.Laws.{writing-no-success, reading-no-success, hunting-no-success}
 use Rattle.reader.specs.Reading as R
 use Rattle.reader.specs.Reading.{reading}
 use Rattle.reader.specs.declared.Summary.{Summary}
-use Rattle.reader.specs.declared.Refusal.{Refusal}
-use Rattle.reader.specs.declared.Refusal.the-variants.{WrongTables, Unknown, CutShort, Empty, TooMany, Unsettled, Unfit, IndexShort, ReportShort, AllBad}
+use Rattle.refusals.specs.declared.Reading.{Reading as Refusal}
 use Rattle.reader.specs.ReadingLaws.{refusal-keeps}
 use Rattle.reader.specs.declared.Answer.{Answer}
 use Rattle.reader.specs.declared.Answer.the-variants.{Read, Refused}
@@ -32,8 +31,7 @@ use Rattle.hunting.specs.Hunting as G
 use Rattle.hunting.specs.Hunting.{huntingReading}
 use Rattle.hunting.specs.Says as F
 use Rattle.hunting.specs.declared.Counted.{Counted}
-use Rattle.hunting.specs.declared.Refusal as GR
-use Rattle.hunting.specs.declared.Refusal.the-variants as GV
+use Rattle.refusals.specs.declared.Hunting as GR
 use Rattle.hunting.specs.declared.Answer as GA
 use Rattle.hunting.specs.declared.Answer.the-variants as GW
 use Rattle.link.specs.Link.{answerNumbers, summaryNumbers, returned, answered, returning, dsrWrite, dsrRead}
@@ -45,21 +43,13 @@ beyond l f w room size = drop-over l f 0 w (omega arith) size w (omega arith)
 
 -- ---- dsr_write
 module _ (rate kind : ℕ) (indices out : List ℕ) where
-  refusal-numbered : (r : WriterRefusal) → W.numberOf (WV.Refused r) ≡ 0 → ⊥
-  refusal-numbered WR.Settings e = omega arith
-  refusal-numbered (WR.PartFrame n) e = omega arith
-  refusal-numbered (WR.TooMany n) e = omega arith
-  refusal-numbered (WR.WideIndex n) e = omega arith
-  refusal-numbered (WR.ZeroFrame n) e = omega arith
-  refusal-numbered (WR.OutputShort n) e = omega arith
-
   -- 0 is success: the place is the octets written
   pub write-zero : dsrWrite rate kind indices out .number ≡ 0 → writing (settings rate kind) indices out .answer ≡ Written (dsrWrite rate kind indices out .place)
   write-zero e = by (writing (settings rate kind) indices out .answer) e
     where
       by : (a : WA.Answer) → W.numberOf a ≡ 0 → a ≡ Written (W.placeOf a)
       by (Written n) e = refl
-      by (WV.Refused r) e = absurd (refusal-numbered r e)
+      by (WV.Refused r) e = absurd (writing-no-success r e)
 
   -- any other number leaves the output as it came
   pub write-keeps : (dsrWrite rate kind indices out .number ≡ 0 → ⊥) → dsrWrite rate kind indices out .output ≡ out
@@ -71,18 +61,6 @@ module _ (rate kind : ℕ) (indices out : List ℕ) where
       by (WV.Refused r) n = refl
 
 -- ---- dsr_read
-not-zero : (r : Refusal) → R.numberOf r ≡ 0 → ⊥
-not-zero WrongTables e = omega arith
-not-zero (Unknown p) e = omega arith
-not-zero (CutShort p) e = omega arith
-not-zero (Empty p) e = omega arith
-not-zero (TooMany p) e = omega arith
-not-zero Unsettled e = omega arith
-not-zero Unfit e = omega arith
-not-zero (IndexShort p) e = omega arith
-not-zero (ReportShort p) e = omega arith
-not-zero AllBad e = omega arith
-
 module _ (a i r : List ℕ) (o : R.Outcome) where
   -- a reading that succeeds, with room for six numbers, is 0, both buffers and the six numbers; numbers beyond stay
   pub read-success : answerNumbers ≤ length a → (g : Summary) → o .answer ≡ Read g → returning a i r o ≡ returned 0 (o .index) (o .report) (over a 0 answerNumbers (summaryNumbers g))
@@ -94,11 +72,11 @@ module _ (a i r : List ℕ) (o : R.Outcome) where
   unfolding returning
   read-zero e = by (ltb (length a) answerNumbers) (o .answer) refl refl e
     where
-      by : (t : Bool) (x : Answer) → ltb (length a) answerNumbers ≡ t → o .answer ≡ x → when t (returned 99 i r a) (answered a (o .index) (o .report) x) .number ≡ 0
+      by : (t : Bool) (x : Answer) → ltb (length a) answerNumbers ≡ t → o .answer ≡ x → when t (returned noRoom i r a) (answered a (o .index) (o .report) x) .number ≡ 0
           → (answerNumbers ≤ length a) × ((g : Summary) × (o .answer ≡ Read g))
       by true x s q e = absurd (omega arith)
       by false (Read g) s q e = (ltb-false (length a) answerNumbers s, (g, q))
-      by false (Refused x) s q e = absurd (not-zero x e)
+      by false (Refused x) s q e = absurd (reading-no-success x e)
 
   -- where a refusal leaves both buffers, any other number does, and all numbers of the answer but the first
   keeps : ((x : Refusal) → o .answer ≡ Refused x → (o .index ≡ i) × (o .report ≡ r)) → (returning a i r o .number ≡ 0 → ⊥)
@@ -106,9 +84,9 @@ module _ (a i r : List ℕ) (o : R.Outcome) where
   unfolding returning
   keeps stays n = by (ltb (length a) answerNumbers) (o .answer) refl n
     where
-      by : (t : Bool) (x : Answer) → o .answer ≡ x → (when t (returned 99 i r a) (answered a (o .index) (o .report) x) .number ≡ 0 → ⊥)
-          → (when t (returned 99 i r a) (answered a (o .index) (o .report) x) .index ≡ i)
-          × ((when t (returned 99 i r a) (answered a (o .index) (o .report) x) .report ≡ r) × (drop 1 (when t (returned 99 i r a) (answered a (o .index) (o .report) x) .answer) ≡ drop 1 a))
+      by : (t : Bool) (x : Answer) → o .answer ≡ x → (when t (returned noRoom i r a) (answered a (o .index) (o .report) x) .number ≡ 0 → ⊥)
+          → (when t (returned noRoom i r a) (answered a (o .index) (o .report) x) .index ≡ i)
+          × ((when t (returned noRoom i r a) (answered a (o .index) (o .report) x) .report ≡ r) × (drop 1 (when t (returned noRoom i r a) (answered a (o .index) (o .report) x) .answer) ≡ drop 1 a))
       by true x q n = (refl, (refl, refl))
       by false (Read g) q n = absurd (n refl)
       by false (Refused x) q n = (stays x q .0, (stays x q .1, refl))
@@ -131,24 +109,18 @@ read-keeps octets codebook thresholds index report answer =
 -- a refusal gives 01's number, and its place in the answer's first number; with no room for six numbers it is 99, and all stays
 pub read-refused : (octets : List ℕ) (codebook thresholds : List ℤ) (index report answer : List ℕ) (x : Refusal) → answerNumbers ≤ length answer
     → reading octets codebook thresholds index report .answer ≡ Refused x
-    → dsrRead octets codebook thresholds index report answer ≡ returned (R.numberOf x) index report (over answer 0 1 (R.placeOf x ∷ []))
+    → dsrRead octets codebook thresholds index report answer ≡ returned (readingNumber x) index report (over answer 0 1 (readingPlace x ∷ []))
 unfolding returning
 read-refused octets codebook thresholds index report answer x room e =
     rw (le-ltb (length answer) answerNumbers room)
     (ap (λ (o : R.Outcome). answered answer (o .index) (o .report) (o .answer)) (refusal-keeps octets codebook thresholds index report x e))
 
 pub read-no-room : (octets : List ℕ) (codebook thresholds : List ℤ) (index report answer : List ℕ) → length answer < answerNumbers
-    → dsrRead octets codebook thresholds index report answer ≡ returned 99 index report answer
+    → dsrRead octets codebook thresholds index report answer ≡ returned noRoom index report answer
 unfolding returning
 read-no-room octets codebook thresholds index report answer h = rw (lt-ltb (length answer) answerNumbers h)
 
 -- ---- dsr_read_bits
-not-zero-bits : (r : GR.Refusal) → G.numberOf r ≡ 0 → ⊥
-not-zero-bits (GV.Octets r) e = not-zero r e
-not-zero-bits (GV.MatchRange n) e = omega arith
-not-zero-bits (GV.Nowhere n t) e = omega arith
-not-zero-bits (GV.TooMany p) e = omega arith
-
 module _ (a : List ℕ) (p : ℕ) (i r : List ℕ) (o : G.Outcome) where
   pub bits-success : countedNumbers ≤ length a → (c : Counted) → o .answer ≡ GW.Read c
       → bitsReturning a p i r o ≡ bitsReturned 0 (o .index) (o .report) (over a 0 countedNumbers (numbersOf c)) p
@@ -160,20 +132,20 @@ module _ (a : List ℕ) (p : ℕ) (i r : List ℕ) (o : G.Outcome) where
   bits-zero e = by (ltb (length a) countedNumbers) (o .answer) refl refl e
     where
       by : (t : Bool) (x : GA.Answer) → ltb (length a) countedNumbers ≡ t → o .answer ≡ x
-          → when t (bitsReturned 99 i r a p) (bitsAnswered a p (o .index) (o .report) x) .number ≡ 0 → (countedNumbers ≤ length a) × ((c : Counted) × (o .answer ≡ GW.Read c))
+          → when t (bitsReturned noRoom i r a p) (bitsAnswered a p (o .index) (o .report) x) .number ≡ 0 → (countedNumbers ≤ length a) × ((c : Counted) × (o .answer ≡ GW.Read c))
       by true x s q e = absurd (omega arith)
       by false (GW.Read c) s q e = (ltb-false (length a) countedNumbers s, (c, q))
-      by false (GW.Refused x) s q e = absurd (not-zero-bits x e)
+      by false (GW.Refused x) s q e = absurd (hunting-no-success x e)
 
-  bits-keep : ((x : GR.Refusal) → o .answer ≡ GW.Refused x → (o .index ≡ i) × (o .report ≡ r)) → (bitsReturning a p i r o .number ≡ 0 → ⊥)
+  bits-keep : ((x : GR.Hunting) → o .answer ≡ GW.Refused x → (o .index ≡ i) × (o .report ≡ r)) → (bitsReturning a p i r o .number ≡ 0 → ⊥)
       → (bitsReturning a p i r o .index ≡ i) × ((bitsReturning a p i r o .report ≡ r) × (bitsReturning a p i r o .answer ≡ a))
   unfolding bitsReturning
   bits-keep stays n = by (ltb (length a) countedNumbers) (o .answer) refl n
     where
-      by : (t : Bool) (x : GA.Answer) → o .answer ≡ x → (when t (bitsReturned 99 i r a p) (bitsAnswered a p (o .index) (o .report) x) .number ≡ 0 → ⊥)
-          → (when t (bitsReturned 99 i r a p) (bitsAnswered a p (o .index) (o .report) x) .index ≡ i)
-          × ((when t (bitsReturned 99 i r a p) (bitsAnswered a p (o .index) (o .report) x) .report ≡ r)
-          × (when t (bitsReturned 99 i r a p) (bitsAnswered a p (o .index) (o .report) x) .answer ≡ a))
+      by : (t : Bool) (x : GA.Answer) → o .answer ≡ x → (when t (bitsReturned noRoom i r a p) (bitsAnswered a p (o .index) (o .report) x) .number ≡ 0 → ⊥)
+          → (when t (bitsReturned noRoom i r a p) (bitsAnswered a p (o .index) (o .report) x) .index ≡ i)
+          × ((when t (bitsReturned noRoom i r a p) (bitsAnswered a p (o .index) (o .report) x) .report ≡ r)
+          × (when t (bitsReturned noRoom i r a p) (bitsAnswered a p (o .index) (o .report) x) .answer ≡ a))
       by true x q n = (refl, (refl, refl))
       by false (GW.Read c) q n = absurd (n refl)
       by false (GW.Refused x) q n = (stays x q .0, (stays x q .1, refl))
@@ -183,10 +155,10 @@ module _ (s : List ℕ) (from least : ℕ) (codebook thresholds : List ℤ) (ind
   abbrev found : G.Outcome
   found = huntingReading s from least codebook thresholds index report
 
-  bits-stay : (x : GR.Refusal) → found .answer ≡ GW.Refused x → (found .index ≡ index) × (found .report ≡ report)
+  bits-stay : (x : GR.Hunting) → found .answer ≡ GW.Refused x → (found .index ≡ index) × (found .report ≡ report)
   bits-stay x e = by (F.fate s from least codebook thresholds index report)
     where
-      kept : (y : GR.Refusal) → found ≡ G.outcome (GW.Refused y) index report → (found .index ≡ index) × (found .report ≡ report)
+      kept : (y : GR.Hunting) → found ≡ G.outcome (GW.Refused y) index report → (found .index ≡ index) × (found .report ≡ report)
       kept y q = (ap (λ (o : G.Outcome). o .index) q, ap (λ (o : G.Outcome). o .report) q)
 
       counted-stays : (o : R.Outcome) (n t : ℕ) → ((y : Refusal) → o .answer ≡ Refused y → (o .index ≡ index) × (o .report ≡ report)) → found ≡ G.counted o n t
@@ -214,15 +186,15 @@ module _ (s : List ℕ) (from least : ℕ) (codebook thresholds : List ℤ) (ind
   bits-kept answer place = bits-keep answer place index report found bits-stay
 
   -- a refusal gives its number and its place; with no room for eight numbers it is 99, and all stays
-  pub bits-refused : (answer : List ℕ) (place : ℕ) (x : GR.Refusal) → countedNumbers ≤ length answer → found .answer ≡ GW.Refused x
-      → dsrReadBits s from least codebook thresholds index report answer place ≡ bitsReturned (G.numberOf x) index report answer (G.placeOf x)
+  pub bits-refused : (answer : List ℕ) (place : ℕ) (x : GR.Hunting) → countedNumbers ≤ length answer → found .answer ≡ GW.Refused x
+      → dsrReadBits s from least codebook thresholds index report answer place ≡ bitsReturned (huntingNumber x) index report answer (huntingPlace x)
   unfolding bitsReturning
   bits-refused answer place x room e =
       let k = bits-stay x e in
       rw (le-ltb (length answer) countedNumbers room)
-      (ap (bitsAnswered answer place (found .index) (found .report)) e ∙ ap₂ (λ (i r : List ℕ). bitsReturned (G.numberOf x) i r answer (G.placeOf x)) (k .0) (k .1))
+      (ap (bitsAnswered answer place (found .index) (found .report)) e ∙ ap₂ (λ (i r : List ℕ). bitsReturned (huntingNumber x) i r answer (huntingPlace x)) (k .0) (k .1))
 
   pub bits-no-room : (answer : List ℕ) (place : ℕ) → length answer < countedNumbers
-      → dsrReadBits s from least codebook thresholds index report answer place ≡ bitsReturned 99 index report answer place
+      → dsrReadBits s from least codebook thresholds index report answer place ≡ bitsReturned noRoom index report answer place
   unfolding bitsReturning
   bits-no-room answer place h = rw (lt-ltb (length answer) countedNumbers h)

@@ -11,7 +11,7 @@ use Rattle.hunt.specs.Hunt.{multiframeBits, inRange, passes, searched, placesLe
 use Rattle.hunt.specs.Laws.{range-says, in-range, Says, says, range-exactly, hunts}
 use Rattle.hunt.specs.declared.Hunted.{Hunted}
 use Rattle.hunt.specs.declared.Hunted.the-variants.{Found, Refused}
-use Rattle.hunt.specs.declared.Refusal.the-variants.{MatchRange, Nowhere}
+use Rattle.refusals.specs.declared.Hunt.the-variants.{MatchRange, Nowhere}
 use Rattle.link.specs.Bits.{HuntReturned, huntReturning, dsrHunt}
 
 module _ (s : List ℕ) (from least found place : ℕ) where

@@ -38,11 +38,12 @@ use Rattle.settling.specs.declared.Settlement.{Settlement}
 use Rattle.settling.specs.declared.Settlement.the-variants as S
 use Rattle.pairs.specs.Pairs.{pairCount, pairFails, pairOdd, pairNotes}
 use Rattle.judging.specs.Judging.{noteBy, notes, badPairs}
-use Rattle.reader.specs.Reading.{numberOf, placeOf, answerNumber, answerValues, cutRefusal, roomVerdict, settledVerdict, wholeVerdict, Outcome, outcome, finished, reading}
+use Rattle.reader.specs.Reading.{answerNumber, answerValues, roomVerdict, settledVerdict, wholeVerdict, Outcome, outcome, finished, reading}
 use Rattle.reader.specs.ReadingLaws.{Usable}
 use Rattle.reader.specs.Steps.{wrong-codebook, wrong-thresholds, not-cut, whole-reading}
-use Rattle.reader.specs.declared.Refusal.{Refusal}
-use Rattle.reader.specs.declared.Refusal.the-variants.{WrongTables, Empty, Unsettled, Unfit, IndexShort, ReportShort, AllBad}
+use Rattle.refusals.specs.Refusals.{readingNumber, readingPlace}
+use Rattle.refusals.specs.declared.Reading.{Reading as Refusal}
+use Rattle.refusals.specs.declared.Reading.the-variants.{WrongTables, Empty, Unsettled, Unfit, IndexShort, ReportShort, AllBad}
 use Rattle.reader.specs.declared.Answer.the-variants.{Refused}
 use Rattle.writer.specs.Writing.{firstFrom, roomAnswer, verdict, needed}
 use Rattle.writer.specs.Made.{wordIn, part-within}
@@ -56,7 +57,7 @@ use Rattle.page.specs.Headers as Headers
 use Rattle.page.specs.Images.{spokenBehind, spoken-image}
 
 -- ---- what a line of the table says
--- the reading is refused with this number and this place, which `numberOf` and `placeOf` give of its refusal, and both buffers are as they came
+-- the reading is refused with this number and this place, which `readingNumber` and `readingPlace` give of its refusal, and both buffers are as they came
 pub record Refuses (octets : List ℕ) (codebook thresholds : List ℤ) (index report : List ℕ) (number place : ℕ) : Type 0 where
   pub number-is : answerNumber (reading octets codebook thresholds index report .answer) ≡ number
   pub place-is : answerValues (reading octets codebook thresholds index report .answer) ≡ place ∷ []
@@ -203,7 +204,7 @@ pub record Table : Type 0 where
 
 -- ---- from an outcome to a line
 refuses : (s : List ℕ) (codebook thresholds : List ℤ) (index report : List ℕ) (r : Refusal) → reading s codebook thresholds index report ≡ outcome (Refused r) index report
-    → Refuses s codebook thresholds index report (numberOf r) (placeOf r)
+    → Refuses s codebook thresholds index report (readingNumber r) (readingPlace r)
 refuses s codebook thresholds index report r e =
     record {
       number-is = ap (λ (o : Outcome). answerNumber (o .answer)) e;
@@ -229,12 +230,12 @@ module _ (s : List ℕ) where
 -- ---- 12, 13 and 15: as cutting ends
 abbrev Cut : List ℕ → Ending → Type 0
 Cut s whole = Unit
-Cut s (refused n p) = Always s (numberOf (cutRefusal n p)) (placeOf (cutRefusal n p))
+Cut s (refused r) = Always s (readingNumber r) (readingPlace r)
 
 is-cut : (s : List ℕ) (e : Ending) → cutting s .ending ≡ e → Cut s e
 is-cut s whole h = tt
-is-cut s (refused n p) h = λ codebook thresholds sc st index report.
-    refuses s codebook thresholds index report (cutRefusal n p) (sym (not-cut s codebook thresholds index report sc st n p (cutRefusal n p) h refl))
+is-cut s (refused r) h = λ codebook thresholds sc st index report.
+    refuses s codebook thresholds index report r (sym (not-cut s codebook thresholds index report sc st r h))
 
 -- ---- 14 and 16 to 20, of octets that are cut into multiframes at places
 module _ (s ps : List ℕ) (cut : cutting s ≡ record { places = ps; ending = whole }) where
@@ -530,7 +531,7 @@ bad-19 : Sized allBad 168 12 19 13
 bad-19 = is-19 allBad (0 ∷ []) cut-bad (λ e. omega arith) (commonBits 8) settles-bad usable-8 168 12 (lit< tt) (lit< tt)
 
 pub table : Table
-unfolding walk pieceBy syncMet lastMet cutRefusal verdict roomAnswer firstFrom zeroFrame
+unfolding walk pieceBy syncMet lastMet verdict roomAnswer firstFrom zeroFrame
 table = record {
   codebook-1279 = λ s. no-codebook s 1279 14 (λ e. omega arith);
   codebook-1281 = λ s. no-codebook s 1281 14 (λ e. omega arith);

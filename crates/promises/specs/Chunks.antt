@@ -1,26 +1,24 @@
 -- Whole multiframes and inverse syncs in any order, as cutting's laws call them chunks: what is cut behind them, that octets which are cut to
 -- their end are chunks, and how a reading refuses what cutting refuses.
 -- Assumes nothing.
-use mathlib.Core.Path.{_≡_, refl, sym, ap, ap₂, _∙_, subst}
+use mathlib.Core.Path.{_≡_, refl, sym, ap, ap₂, _∙_}
 use mathlib.Core.List.{List, [], _∷_, _++_, append-assoc}
-use mathlib.Core.Logic.{_⊎_, inl, inr}
 use Prim.Native.Nat.{ℕ, zero, suc, _+_, _*_, _≤_, _<_}
 use native.Mathlib.Omega.{arith}
-use lib.Dec.{eqb}
 use lib.IntN.{ℤ}
 use lib.ListN.{length, take, drop, getD, length-append, length-drop, take-append-drop, List·getD-append}
 use lib.Seq.{length-take-le, drop-at, getD-take, ext-getD}
 use borrow.Author.Tests.{eq-eqb}
-use Rattle.lists.specs.Tests.{by-test}
 use Rattle.layout.specs.Layout.{multiframeOctets, syncOctets, mostMultiframes, codebookNumbers, thresholdNumbers, syncFirst, syncSecond, inverseFirst, inverseSecond}
 use Rattle.cutting.specs.declared.Piece.{Piece}
-use Rattle.cutting.specs.declared.Piece.the-variants.{End, Multiframe, Inverse, Bad}
+use Rattle.cutting.specs.declared.Piece.the-variants.{End, Multiframe, Inverse, Unknown, CutShort, TooMany}
 use Rattle.cutting.specs.Cutting.{pieceOf, whole, refused, Cutting, prepend, step, walk, cutting}
-use Rattle.cutting.specs.Laws.{multiframe-met, inverse-met, Says, says, walk-step, Ended, sound, Chunk, multiframe, inverse, octetsOf, placesOf, Proper}
-use Rattle.reader.specs.Reading.{numberOf, placeOf, cutRefusal, wholeVerdict, endVerdict, verdict, Outcome, outcome, reading}
+use Rattle.cutting.specs.Laws.{multiframe-met, inverse-met, Says, says, walk-step, Chunk, multiframe, inverse, octetsOf, placesOf, Proper}
+use Rattle.reader.specs.Reading.{wholeVerdict, endVerdict, verdict, Outcome, outcome, reading}
 use Rattle.reader.specs.ReadingLaws.{refused-keeps}
-use Rattle.reader.specs.declared.Refusal.{Refusal}
-use Rattle.reader.specs.declared.Refusal.the-variants.{Empty}
+use Rattle.refusals.specs.Refusals.{readingNumber, readingPlace}
+use Rattle.refusals.specs.declared.Reading.{Reading as Refusal}
+use Rattle.refusals.specs.declared.Reading.the-variants as RR
 use Rattle.reader.specs.declared.Answer.the-variants.{Refused}
 
 -- ---- chunks
@@ -75,12 +73,12 @@ cut-behind (inverse ∷ cs) r p m ok few =
     ap (λ (x : Cutting). x .ending) w ∙ cut-behind cs r (p + 2) m ok few ∙ ap (λ (i : ℕ). walk 0 r i (m + multiframeCount cs) .ending) i
 
 -- so is what cutting refuses: at the place behind them
-pub refused-behind : (cs : List Chunk) (r : List ℕ) (n : ℕ) → Proper cs → multiframeCount cs ≤ mostMultiframes → pieceOf r (multiframeCount cs) ≡ Bad n
-    → cutting (octetsOf cs ++ r) .ending ≡ refused n (length (octetsOf cs))
-refused-behind cs r n ok few bad =
+pub refused-behind : (cs : List Chunk) (r : List ℕ) (q : Piece) (x : Refusal) → Proper cs → multiframeCount cs ≤ mostMultiframes → pieceOf r (multiframeCount cs) ≡ q
+    → ((v w : Cutting) → step q (length (octetsOf cs)) v w .ending ≡ refused x) → cutting (octetsOf cs ++ r) .ending ≡ refused x
+refused-behind cs r q x ok few met refuses =
     let z : (k : ℕ) → 0 + k ≡ k = λ k. omega arith in
     cut-behind cs r 0 0 ok (omega arith) ∙ ap₂ (λ (i k : ℕ). walk 0 r i k .ending) (z (length (octetsOf cs))) (z (multiframeCount cs))
-    ∙ ap (λ (x : Cutting). x .ending) (walk-step r (length (octetsOf cs)) (multiframeCount cs)) ∙ rw bad
+    ∙ ap (λ (x : Cutting). x .ending) (walk-step r (length (octetsOf cs)) (multiframeCount cs)) ∙ rw met (refuses _ _)
 
 -- ---- octets that are cut to their end are chunks
 pub record Chunked (s : List ℕ) (count : ℕ) : Type 0 where
@@ -89,8 +87,8 @@ pub record Chunked (s : List ℕ) (count : ℕ) : Type 0 where
   pub octets : octetsOf chunks ≡ s
   pub counted : multiframeCount chunks ≡ count
 
-not-whole : (n p : ℕ) → refused n p ≡ whole → ⊥
-not-whole n p e = let z : _≡_ {A = ℕ} 0 1 = cc in omega arith
+not-whole : (x : Refusal) → refused x ≡ whole → ⊥
+not-whole x e = let z : _≡_ {A = ℕ} 0 1 = cc in omega arith
 
 chunked-on : (n : ℕ) (s : List ℕ) (p m : ℕ) → length s ≤ suc n → walk 0 s p m .ending ≡ whole
     → ((r : List ℕ) (i k : ℕ) → length r ≤ n → walk 0 r i k .ending ≡ whole → Chunked r (length (walk 0 r i k .places))) → Chunked s (length (walk 0 s p m .places))
@@ -104,7 +102,9 @@ chunked-on n (x ∷ l) p m h e rest =
         → step q p (walk 0 (drop 144 (x ∷ l)) (p + 144) (m + 1)) (walk 0 (drop 2 (x ∷ l)) (p + 2) m) .ending ≡ whole
         → Chunked (x ∷ l) (length (step q p (walk 0 (drop 144 (x ∷ l)) (p + 144) (m + 1)) (walk 0 (drop 2 (x ∷ l)) (p + 2) m) .places))
     by End z e = absurd (omega arith)
-    by (Bad k) z e = absurd (not-whole k p e)
+    by Unknown z e = absurd (not-whole (RR.Unknown p) e)
+    by CutShort z e = absurd (not-whole (RR.CutShort p) e)
+    by TooMany z e = absurd (not-whole (RR.TooMany p) e)
     by Multiframe z e =
         let s = x ∷ l in
         let c = rest (drop 144 s) (p + 144) (m + 1) (omega (arith, length-drop 144 s)) e in
@@ -145,24 +145,13 @@ chunked s e = chunked-from (length s) s 0 0 (omega arith) e
 pub record Refuses (o : Outcome) (index report : List ℕ) (number place : ℕ) : Type 0 where
   pub refusal : Refusal
   pub is-refused : o ≡ outcome (Refused refusal) index report
-  pub number-is : numberOf refusal ≡ number
-  pub place-is : placeOf refusal ≡ place
+  pub number-is : readingNumber refusal ≡ number
+  pub place-is : readingPlace refusal ≡ place
 
 -- 01's tables: any codebook of 1,280 numbers and any 14 thresholds
 pub record Tables (codebook thresholds : List ℤ) : Type 0 where
   pub codebook-size : length codebook ≡ codebookNumbers
   pub thresholds-size : length thresholds ≡ thresholdNumbers
-
--- 12, 13 and 15 have their numbers, and the place that cutting gives
-number-of : (n p : ℕ) → (n ≡ 12) ⊎ ((n ≡ 13) ⊎ (n ≡ 15)) → numberOf (cutRefusal n p) ≡ n
-unfolding cutRefusal
-number-of n p (inl e) = ap (λ (k : ℕ). numberOf (cutRefusal k p)) e ∙ sym e
-number-of n p (inr (inl e)) = ap (λ (k : ℕ). numberOf (cutRefusal k p)) e ∙ sym e
-number-of n p (inr (inr e)) = ap (λ (k : ℕ). numberOf (cutRefusal k p)) e ∙ sym e
-
-place-of : (n p : ℕ) → placeOf (cutRefusal n p) ≡ p
-unfolding cutRefusal
-place-of n p = by-test (λ (r : Refusal). placeOf r ≡ p) (eqb n 12) (λ e. refl) (λ e. by-test (λ (r : Refusal). placeOf r ≡ p) (eqb n 13) (λ e. refl) (λ e. refl))
 
 module _ (s : List ℕ) (codebook thresholds : List ℤ) (index report : List ℕ) (tables : Tables codebook thresholds) where
   -- with the tables right, cutting decides
@@ -171,21 +160,21 @@ module _ (s : List ℕ) (codebook thresholds : List ℤ) (index report : List �
   cutting-decides = rw (eq-eqb (length codebook) codebookNumbers (tables .codebook-size), eq-eqb (length thresholds) thresholdNumbers (tables .thresholds-size))
 
   -- what cutting refuses is refused, with its number and place
-  pub cut-refuses : (n p : ℕ) → cutting s .ending ≡ refused n p → Refuses (reading s codebook thresholds index report) index report n p
-  cut-refuses n p e = record {
-    refusal = cutRefusal n p;
-    is-refused = refused-keeps s codebook thresholds index report (cutRefusal n p)
+  pub cut-refuses : (x : Refusal) → cutting s .ending ≡ refused x → Refuses (reading s codebook thresholds index report) index report (readingNumber x) (readingPlace x)
+  cut-refuses x e = record {
+    refusal = x;
+    is-refused = refused-keeps s codebook thresholds index report x
         (cutting-decides ∙ ap (endVerdict s codebook thresholds (length index) (length report) (cutting s .places)) e);
-    number-is = number-of n p (subst (Ended s) e (sound s .close) .1);
-    place-is = place-of n p;
+    number-is = refl;
+    place-is = refl;
   }
 
   -- and chunks without a multiframe are 14, at the number of octets
   pub none-refuses : cutting s ≡ record { places = []; ending = whole } → Refuses (reading s codebook thresholds index report) index report 14 (length s)
   unfolding wholeVerdict
   none-refuses e = record {
-    refusal = Empty (length s);
-    is-refused = refused-keeps s codebook thresholds index report (Empty (length s))
+    refusal = RR.Empty (length s);
+    is-refused = refused-keeps s codebook thresholds index report (RR.Empty (length s))
         (cutting-decides ∙ ap (λ (w : Cutting). endVerdict s codebook thresholds (length index) (length report) (w .places) (w .ending)) e);
     number-is = refl;
     place-is = refl;

@@ -24,7 +24,8 @@ use Rattle.settings.specs.Settings.{settings}
 use Rattle.crc.specs.Crc.{right}
 use Rattle.packet.specs.Packet.{packetOf}
 use Rattle.packet.specs.Laws.{getD-row, packetOf-good}
-use Rattle.cutting.specs.declared.Piece.the-variants.{Bad}
+use Rattle.cutting.specs.declared.Piece.the-variants.{CutShort}
+use Rattle.refusals.specs.declared.Reading.the-variants as RR
 use Rattle.cutting.specs.Cutting.{syncMet, pieceBy, pieceOf, Cutting, cutting}
 use Rattle.cutting.specs.Laws.{lone-sync, every-length, octetsOf}
 use Rattle.header.specs.Message.{settingsOf}
@@ -231,7 +232,7 @@ whole-ends u codebook thresholds index report lent =
 
 -- ---- A CUT INSIDE A MULTIFRAME IS REFUSAL 13, at the place of that multiframe
 -- a sync, or its first octet alone, with too few octets
-cut-sync : (n a b m : ℕ) → 0 < n → n < multiframeOctets → m < mostMultiframes → a ≡ syncFirst → (2 ≤ n → b ≡ syncSecond) → pieceBy n a b m ≡ Bad 13
+cut-sync : (n a b m : ℕ) → 0 < n → n < multiframeOctets → m < mostMultiframes → a ≡ syncFirst → (2 ≤ n → b ≡ syncSecond) → pieceBy n a b m ≡ CutShort
 unfolding pieceBy syncMet
 cut-sync n a b m some less few ea eb =
     elim (ℕ-discrete n 1) [
@@ -246,9 +247,9 @@ pub cut-inside-damaged : (u : Utterance) (s : List ℕ) → Damage (multiframesO
     → Refuses (reading (take (multiframeOctets * k + j) s) codebook thresholds index report) index report 13 (multiframeOctets * k)
 cut-inside-damaged u s d k j less some short codebook thresholds index report tables =
     subst (Refuses (reading (take (multiframeOctets * k + j) s) codebook thresholds index report) index report 13) place
-    (cut-refuses (take (multiframeOctets * k + j) s) codebook thresholds index report tables 13 (length (octetsOf (c .chunks)))
+    (cut-refuses (take (multiframeOctets * k + j) s) codebook thresholds index report tables (RR.CutShort (length (octetsOf (c .chunks))))
     (ap (λ (l : List ℕ). cutting l .ending) (take-add (144 * k) j s ∙ ap (λ (l : List ℕ). l ++ r) (sym (c .octets)))
-    ∙ refused-behind (c .chunks) r 13 (c .proper) (omega (arith, count, F.few u s d k (omega arith))) bad))
+    ∙ refused-behind (c .chunks) r CutShort (RR.CutShort (length (octetsOf (c .chunks)))) (c .proper) (omega (arith, count, F.few u s d k (omega arith))) bad (λ v w. refl)))
   where
     r : List ℕ
     r = take j (drop (multiframeOctets * k) s)
@@ -269,7 +270,7 @@ cut-inside-damaged u s d k j less some short codebook thresholds index report ta
     octet i h l =
         getD-take j (drop (144 * k) s) i 0 h ∙ sym (getD-take 2 (drop (144 * k) s) i 0 l) ∙ ap (λ (x : List ℕ). getD x i 0) (F.syncs u s d k (omega arith) k less)
 
-    bad : pieceOf (take j (drop (multiframeOctets * k) s)) (multiframeCount (c .chunks)) ≡ Bad 13
+    bad : pieceOf (take j (drop (multiframeOctets * k) s)) (multiframeCount (c .chunks)) ≡ CutShort
     bad =
         cut-sync (length r) (getD r 0 0) (getD r 1 0) (multiframeCount (c .chunks)) (omega (arith, size)) (omega (arith, size)) (omega (arith, count, F.few u s d k (omega arith)))
         (octet 0 some (omega arith)) (λ h. octet 1 (omega (arith, size)) (omega arith))

@@ -10,10 +10,12 @@ use lib.ListN.{length, take, drop, getD, replicate, length-append, length-drop, 
 use lib.Seq.{take-at, drop-length, drop-drop, getD-take}
 use Rattle.lists.specs.Parts.{part, part-right, length-part}
 use Rattle.layout.specs.Layout.{multiframeOctets, syncOctets, headerOctets, streamOctets, mostMultiframes, sync, syncFirst, syncSecond, inverseFirst, inverseSecond}
-use Rattle.cutting.specs.declared.Piece.the-variants.{Bad}
+use Rattle.cutting.specs.declared.Piece.the-variants.{CutShort, TooMany}
 use Rattle.cutting.specs.Cutting.{pieceOf, Cutting, whole, cutting}
 use Rattle.cutting.specs.Laws.{one-too-many, lone-sync, every-length, Chunk, multiframe, inverse, octetsOf, placesOf, Proper, cut-chunks, places-placed}
-use Rattle.reader.specs.Reading.{placeOf, Outcome, reading}
+use Rattle.refusals.specs.Refusals.{readingPlace}
+use Rattle.refusals.specs.declared.Reading.the-variants as RR
+use Rattle.reader.specs.Reading.{Outcome, reading}
 use Rattle.reader.specs.declared.Summary.{Summary}
 use Rattle.reader.specs.declared.Answer.the-variants.{Read, Refused}
 use Rattle.writer.specs.Laws.{few-multiframes, length-image}
@@ -313,7 +315,7 @@ moved : (o₁ o₂ : Outcome) (index report : List ℕ) (n p q : ℕ) → Refuse
 moved o₁ o₂ index report n p q x y d e =
     let r : Refused (x .refusal) ≡ Refused (y .refusal) = ap (λ (o : Outcome). o .answer) (sym (x .is-refused) ∙ e ∙ y .is-refused) in
     let f : x .refusal ≡ y .refusal = cc in
-    d (sym (x .place-is) ∙ ap placeOf f ∙ y .place-is)
+    d (sym (x .place-is) ∙ ap readingPlace f ∙ y .place-is)
 
 module _ (codebook thresholds : List ℤ) (index report : List ℕ) (tables : Tables codebook thresholds) where
   abbrev pub read : List ℕ → Outcome
@@ -344,9 +346,10 @@ module _ (codebook thresholds : List ℤ) (index report : List ℕ) (tables : Ta
   too-many cs r ok all =
       let s = octetsOf cs ++ (syncFirst ∷ syncSecond ∷ r) in
       let n : length (octetsOf cs) ≡ 36720 + 2 * inverseCount cs = chunk-octets cs ok ∙ omega arith in
-      let bad : pieceOf (syncFirst ∷ syncSecond ∷ r) (multiframeCount cs) ≡ Bad 15 = rw all (one-too-many (length (syncFirst ∷ syncSecond ∷ r)) (omega arith)) in
+      let bad : pieceOf (syncFirst ∷ syncSecond ∷ r) (multiframeCount cs) ≡ TooMany = rw all (one-too-many (length (syncFirst ∷ syncSecond ∷ r)) (omega arith)) in
       subst (Refuses (read s) index report 15) n
-      (cut-refuses s codebook thresholds index report tables 15 (length (octetsOf cs)) (refused-behind cs (syncFirst ∷ syncSecond ∷ r) 15 ok (omega arith) bad))
+      (cut-refuses s codebook thresholds index report tables (RR.TooMany (length (octetsOf cs)))
+      (refused-behind cs (syncFirst ∷ syncSecond ∷ r) TooMany (RR.TooMany (length (octetsOf cs))) ok (omega arith) bad (λ v w. refl)))
 
   -- of 255 multiframes and a sync it is 36,720, with one inverse sync in front 36,722, and these outcomes differ
   pub place-36720 : (cs : List Chunk) (r : List ℕ) → Proper cs → multiframeCount cs ≡ mostMultiframes → inverseCount cs ≡ 0
@@ -370,7 +373,8 @@ module _ (codebook thresholds : List ℤ) (index report : List ℕ) (tables : Ta
   lone-moves cs ok few =
       let s = octetsOf cs ++ (syncFirst ∷ []) in
       subst (Refuses (read s) index report 13) (chunk-octets cs ok)
-      (cut-refuses s codebook thresholds index report tables 13 (length (octetsOf cs)) (refused-behind cs (syncFirst ∷ []) 13 ok few (lone-sync 0 (multiframeCount cs))))
+      (cut-refuses s codebook thresholds index report tables (RR.CutShort (length (octetsOf cs)))
+      (refused-behind cs (syncFirst ∷ []) CutShort (RR.CutShort (length (octetsOf cs))) ok few (lone-sync 0 (multiframeCount cs)) (λ v w. refl)))
 
   -- 78 4D 87 is refused at place 2, and 87 at place 0
   pub not-cut : read (0x78 ∷ 0x4D ∷ 0x87 ∷ []) ≡ read (0x87 ∷ []) → ⊥

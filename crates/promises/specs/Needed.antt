@@ -50,7 +50,7 @@ use Rattle.reader.specs.Reading.{indexPart, summary, finished, Outcome, outcome
 use Rattle.reader.specs.ReadingLaws.{Fitting, accepting}
 use Rattle.reader.specs.declared.Verdict.{Verdict}
 use Rattle.reader.specs.declared.Summary.{Summary}
-use Rattle.reader.specs.declared.Refusal.the-variants.{Unsettled}
+use Rattle.refusals.specs.declared.Reading.the-variants.{Unsettled}
 use Rattle.reader.specs.declared.Answer.the-variants.{Read, Refused}
 use Rattle.writer.specs.Writing.{frameCount, needed, image}
 use Rattle.writer.specs.Laws.{few-multiframes, length-image}

@@ -13,7 +13,7 @@ use Rattle.lists.specs.Tests.{true-false}
 use Rattle.judging.specs.Judging.{bad}
 use Rattle.reader.specs.Reading.{outcome, reading}
 use Rattle.reader.specs.declared.Summary.{Summary}
-use Rattle.reader.specs.declared.Refusal.the-variants.{AllBad}
+use Rattle.refusals.specs.declared.Reading.the-variants.{AllBad}
 use Rattle.reader.specs.declared.Answer.the-variants.{Read, Refused}
 use Rattle.writer.specs.Image.{Utterance, multiframesOf, pairsOf, imageOf}
 use Rattle.demands.specs.Damage.{Touched}

@@ -10,6 +10,8 @@ use Rattle.lists.specs.Tests.{when}
 use Rattle.lists.specs.Parts.{part, over}
 use Rattle.lists.specs.Rows.{joined}
 use Rattle.layout.specs.Layout.{multiframePairs, indexOctets, reportOctets, codebookNumbers, thresholdNumbers, firstPair}
+use Rattle.refusals.specs.Refusals.{success, readingNumber, readingPlace}
+use Rattle.refusals.specs.declared.Reading.the-variants.{WrongTables, Empty, Unsettled, Unfit, IndexShort, ReportShort, AllBad}
 use Rattle.cutting.specs.Cutting.{Ending, whole, refused, cutting}
 use Rattle.header.specs.Message.{rateOf, settingsOf, expOf}
 use Rattle.header.specs.declared.Header.the-variants.{Lost}
@@ -21,46 +23,19 @@ use Rattle.judging.specs.Judging.{badPairs}
 use Rattle.replacing.specs.Replacing.{replaced}
 use Rattle.replacing.specs.Speech.{speechOf, endOf}
 use Rattle.reader.specs.declared.Summary.{Summary}
-use Rattle.reader.specs.declared.Refusal.{Refusal}
-use Rattle.reader.specs.declared.Refusal.the-variants.{WrongTables, Unknown, CutShort, Empty, TooMany, Unsettled, Unfit, IndexShort, ReportShort, AllBad}
 use Rattle.reader.specs.declared.Verdict.{Verdict}
 use Rattle.reader.specs.declared.Verdict.the-variants.{Refuse, Accept}
 use Rattle.reader.specs.declared.Answer.{Answer}
 use Rattle.reader.specs.declared.Answer.the-variants.{Read, Refused}
 
--- ---- 01's number and place of each refusal
-abbrev pub numberOf : Refusal → ℕ
-numberOf WrongTables = 11
-numberOf (Unknown p) = 12
-numberOf (CutShort p) = 13
-numberOf (Empty n) = 14
-numberOf (TooMany p) = 15
-numberOf Unsettled = 16
-numberOf Unfit = 17
-numberOf (IndexShort n) = 18
-numberOf (ReportShort n) = 19
-numberOf AllBad = 20
-
-abbrev pub placeOf : Refusal → ℕ
-placeOf WrongTables = 0
-placeOf (Unknown p) = p
-placeOf (CutShort p) = p
-placeOf (Empty n) = n
-placeOf (TooMany p) = p
-placeOf Unsettled = 0
-placeOf Unfit = 0
-placeOf (IndexShort n) = n
-placeOf (ReportShort n) = n
-placeOf AllBad = 0
-
--- ---- and of each answer: success is 0 and gives settings, m, speech, the number of bad pairs and end; a refusal gives its place
+-- ---- 01's number and values of each answer: success gives settings, m, speech, the number of bad pairs and end; a refusal gives its place
 abbrev pub answerNumber : Answer → ℕ
-answerNumber (Read s) = 0
-answerNumber (Refused r) = numberOf r
+answerNumber (Read s) = success
+answerNumber (Refused r) = readingNumber r
 
 abbrev pub answerValues : Answer → List ℕ
 answerValues (Read s) = s .settings .rate ∷ s .settings .kind ∷ s .multiframes ∷ s .speech ∷ s .bad ∷ s .end ∷ []
-answerValues (Refused r) = placeOf r ∷ []
+answerValues (Refused r) = readingPlace r ∷ []
 
 -- ---- what a reading gives, of multiframes at places of the octets; ns are the notes of all pairs
 
@@ -85,10 +60,6 @@ summary octets places ns c =
     }
 
 -- ---- every refusal, in 01's order
--- 12, 13 and 15, as cutting meets them
-unfoldable pub cutRefusal : ℕ → ℕ → Refusal
-cutRefusal n p = when (eqb n 12) (Unknown p) (when (eqb n 13) (CutShort p) (TooMany p))
-
 -- 18: index buffer under 168m. 19: report buffer under 13m. 20: every pair bad
 unfoldable pub roomVerdict : (m bad pairs index report c : ℕ) → Verdict
 roomVerdict m bad pairs index report c =
@@ -110,9 +81,10 @@ module _ (octets : List ℕ) (codebook thresholds : List ℤ) (index report : �
       (settledVerdict (length places) (badPairs (pairNotes octets places codebook thresholds)) (pairCount places) index report
       (settling (readings octets places)))
 
+  -- 12, 13 and 15, as cutting meets them
   abbrev pub endVerdict : List ℕ → Ending → Verdict
   endVerdict places whole = wholeVerdict places
-  endVerdict places (refused n p) = Refuse (cutRefusal n p)
+  endVerdict places (refused r) = Refuse r
 
   -- 11: codebook not 1,280 or thresholds not 14. It comes first
   unfoldable pub verdict : Verdict

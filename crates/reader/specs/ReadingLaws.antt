@@ -23,7 +23,7 @@ use Rattle.judging.specs.Judging.{badPairs}
 use Rattle.replacing.specs.Replacing.{pairsOctets}
 use Rattle.replacing.specs.Laws.{replaced-length}
 use Rattle.reader.specs.Reading.{indexPart, reportPart, summary, roomVerdict, settledVerdict, wholeVerdict, endVerdict, verdict, finished, outcome, reading}
-use Rattle.reader.specs.declared.Refusal.{Refusal}
+use Rattle.refusals.specs.declared.Reading.{Reading as Refusal}
 use Rattle.reader.specs.declared.Summary.{Summary}
 use Rattle.reader.specs.declared.Answer.{Answer}
 use Rattle.reader.specs.declared.Answer.the-variants.{Read, Refused}
@@ -133,7 +133,7 @@ module _ (octets : List ℕ) (codebook thresholds : List ℤ) (index report : �
 
       ended : (e : Ending) → cutting octets .ending ≡ e → length codebook ≡ codebookNumbers → length thresholds ≡ thresholdNumbers
           → AcceptedBy (endVerdict octets codebook thresholds index report places e)
-      ended (refused n p) e a b = tt
+      ended (refused r) e a b = tt
       ended whole e a b = fit (wholeVerdict octets codebook thresholds index report places) a b e (whole-says places)
 
   -- what acceptance says

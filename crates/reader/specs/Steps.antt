@@ -34,12 +34,12 @@ use Rattle.cutting.specs.declared.Cut.the-variants as C
 use Rattle.replacing.specs.Replacing.{pairsOctets, replaced}
 use Rattle.replacing.specs.Laws.{same-replaced}
 use Rattle.replacing.specs.Speech.{lastNonzero, speechOf, endOf}
-use Rattle.reader.specs.Reading.{answerNumber, answerValues, indexPart, reportPart, summary, cutRefusal, roomVerdict, settledVerdict, wholeVerdict, verdict, Outcome, outcome, finished, reading}
+use Rattle.reader.specs.Reading.{answerNumber, answerValues, indexPart, reportPart, summary, roomVerdict, settledVerdict, wholeVerdict, verdict, Outcome, outcome, finished, reading}
 use Rattle.reader.specs.ReadingLaws.{length-index, whole-accepted}
-use Rattle.reader.specs.declared.Refusal.the-variants.{WrongTables, Empty, Unsettled, Unfit, IndexShort, ReportShort, AllBad}
+use Rattle.refusals.specs.declared.Reading.the-variants.{WrongTables, Empty, Unsettled, Unfit, IndexShort, ReportShort, AllBad}
 use Rattle.reader.specs.declared.Summary.{Summary}
 use Rattle.reader.specs.declared.Answer.the-variants.{Read, Refused}
-use Rattle.reader.specs.declared.Refusal.{Refusal}
+use Rattle.refusals.specs.declared.Reading.{Reading as Refusal}
 use Rattle.reader.specs.declared.Verdict.{Verdict}
 use Rattle.reader.specs.declared.Verdict.the-variants.{Refuse, Accept}
 
@@ -299,14 +299,14 @@ cut-whole w n e = by (w .ending) refl e
   where
     by : (x : Ending) → w .ending ≡ x → answeredBy (length (w .places)) x ≡ C.Whole n → (w .ending ≡ whole) × (n ≡ length (w .places))
     by whole p q = (p, cc)
-    by (refused k a) p q = let z : _≡_ {A = ℕ} 0 1 = cc in absurd (omega arith)
+    by (refused r) p q = let z : _≡_ {A = ℕ} 0 1 = cc in absurd (omega arith)
 
-pub cut-refused : (w : Cutting) (n p : ℕ) → answered w ≡ C.Refused n p → w .ending ≡ refused n p
-cut-refused w n p e = by (w .ending) refl e
+pub cut-refused : (w : Cutting) (r : Refusal) → answered w ≡ C.Refused r → w .ending ≡ refused r
+cut-refused w r e = by (w .ending) refl e
   where
-    by : (x : Ending) → w .ending ≡ x → answeredBy (length (w .places)) x ≡ C.Refused n p → w .ending ≡ refused n p
+    by : (x : Ending) → w .ending ≡ x → answeredBy (length (w .places)) x ≡ C.Refused r → w .ending ≡ refused r
     by whole a q = let z : _≡_ {A = ℕ} 0 1 = cc in absurd (omega arith)
-    by (refused k b) a q = a ∙ cc
+    by (refused x) a q = a ∙ cc
 
 -- the places at the front of the array are those that were cut
 pub front-places : (ps l m : List ℕ) (n : ℕ) → m ≡ laid 0 ps l → n ≡ length ps → take n m ≡ ps
@@ -331,9 +331,9 @@ module _ (octets : List ℕ) (codebook thresholds : List ℤ) (index report : Li
     wrong-thresholds h = rw (eq-eqb (length codebook) codebookNumbers sc, ne-eqb (length thresholds) thresholdNumbers h)
 
     module _ (st : length thresholds ≡ thresholdNumbers) where
-      pub not-cut : (n p : ℕ) (r : Refusal) → cutting octets .ending ≡ refused n p → r ≡ cutRefusal n p → outcome (Refused r) index report ≡ reading octets codebook thresholds index report
+      pub not-cut : (r : Refusal) → cutting octets .ending ≡ refused r → outcome (Refused r) index report ≡ reading octets codebook thresholds index report
       unfolding reading verdict
-      not-cut n p r e er = rw (eq-eqb (length codebook) codebookNumbers sc, eq-eqb (length thresholds) thresholdNumbers st, e, er)
+      not-cut r e = rw (eq-eqb (length codebook) codebookNumbers sc, eq-eqb (length thresholds) thresholdNumbers st, e)
 
       pub whole-reading : (o : Outcome) (places : List ℕ) → cutting octets .ending ≡ whole → places ≡ cutting octets .places
           → o ≡ finished octets codebook thresholds index report places (wholeVerdict octets codebook thresholds (length index) (length report) places)

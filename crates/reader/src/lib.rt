@@ -4,6 +4,7 @@ use cutting::Cut;
 use layout::MultiframeLayout;
 use layout::ReadingLayout;
 use layout::UtteranceLayout;
+use refusals::Reading;
 use settings::Settings;
 use settling::Settlement;
 ghost use mathlib.Core.Path.{_≡_};
@@ -16,7 +17,7 @@ ghost use Rattle.settling.specs.Stored.{packAll, Mended, opened};
 ghost use Rattle.pairs.specs.Pairs.{pairCount, pairNotes};
 ghost use Rattle.judging.specs.Judging.{badPairs};
 ghost use Rattle.judging.specs.Laws.{Good};
-ghost use Rattle.reader.specs.Reading.{numberOf, placeOf, answerNumber, answerValues, indexPart, reportPart, summary, cutRefusal, wholeVerdict, settledVerdict, outcome, finished, reading};
+ghost use Rattle.reader.specs.Reading.{answerNumber, answerValues, indexPart, reportPart, summary, wholeVerdict, settledVerdict, outcome, finished, reading};
 ghost use Rattle.reader.specs.Steps.{earlyVerdict, Kept, section, sections};
 ghost use Rattle.settling.specs.declared.Settlement.the-variants.{Settled};
 
@@ -29,29 +30,15 @@ pub struct Summary {
     pub end: u8,
 }
 
-// Why a reading is refused, each with what 01's place needs; `numberOf` and `placeOf` give 01's numbers and places.
-pub enum Refusal {
-    WrongTables,
-    Unknown { place: usize },
-    CutShort { place: usize },
-    Empty { octets: usize },
-    TooMany { place: usize },
-    Unsettled,
-    Unfit,
-    IndexShort { needed: usize },
-    ReportShort { needed: usize },
-    AllBad,
-}
-
 // What is decided before anything is written: a refusal, or the settled common bits.
 pub enum Verdict {
-    Refuse(Refusal),
+    Refuse(Reading),
     Accept { common: u16 },
 }
 
 pub enum Answer {
     Read(Summary),
-    Refused(Refusal),
+    Refused(Reading),
 }
 
 // Places and headers for as many multiframes, and notes for as many pairs, as an utterance may have: the arrays of a reading.
@@ -62,23 +49,6 @@ const NOTES: usize = MultiframeLayout::PAIRS * MULTIFRAMES;
 // A sample rate code that is not defined.
 const UNDEFINED_RATE: u8 = 2;
 
-// 01's numbers for what cutting meets.
-const UNKNOWN: u8 = 12;
-
-const CUT_SHORT: u8 = 13;
-
-fn cut_refusal(number: u8, place: usize) -> Refusal
-    ensures { λ r. ⌜ r ≡ cutRefusal number place ⌝ }
-{
-    if number == UNKNOWN {
-        return Refusal::Unknown { place };
-    }
-    if number == CUT_SHORT {
-        return Refusal::CutShort { place };
-    }
-    Refusal::TooMany { place }
-}
-
 // 17, 18 and 19: what can be refused of settled common bits before any pair is judged.
 fn early(common: u16, m: usize, index: usize, report: usize) -> Verdict
     requires { ⌜ m ≤ mostMultiframes ⌝ }
@@ -86,18 +56,18 @@ fn early(common: u16, m: usize, index: usize, report: usize) -> Verdict
 {
     let fields = header::fields_of(common);
     if fields.settings.rate == UNDEFINED_RATE {
-        return Verdict::Refuse(Refusal::Unfit);
+        return Verdict::Refuse(Reading::Unfit);
     }
     if fields.exp != 0 {
-        return Verdict::Refuse(Refusal::Unfit);
+        return Verdict::Refuse(Reading::Unfit);
     }
     if index < ReadingLayout::INDEX * m {
-        return Verdict::Refuse(Refusal::IndexShort {
+        return Verdict::Refuse(Reading::IndexShort {
             needed: ReadingLayout::INDEX * m,
         });
     }
     if report < ReadingLayout::REPORT * m {
-        return Verdict::Refuse(Refusal::ReportShort {
+        return Verdict::Refuse(Reading::ReportShort {
             needed: ReadingLayout::REPORT * m,
         });
     }
@@ -142,7 +112,7 @@ fn decide_pairs(
         Verdict::Refuse(r) => Verdict::Refuse(r),
         Verdict::Accept { common: _ } => {
             if judge_all(octets, places, codebook, thresholds, notes) == notes.len() {
-                return Verdict::Refuse(Refusal::AllBad);
+                return Verdict::Refuse(Reading::AllBad);
             }
             Verdict::Accept { common }
         }
@@ -168,13 +138,13 @@ fn decide(
     ensures notes { λ r. ⌜ Kept (pairNotes (now (octets .entry)) (now (places .entry)) (now (codebook .entry)) (now (thresholds .entry))) (now (notes .exit)) r ⌝ }
 {
     if places.len() == 0 {
-        return Verdict::Refuse(Refusal::Empty {
+        return Verdict::Refuse(Reading::Empty {
             octets: octets.len(),
         });
     }
     settling::read_headers(octets, places, headers);
     match settling::settle(headers) {
-        Settlement::Unsettled => Verdict::Refuse(Refusal::Unsettled),
+        Settlement::Unsettled => Verdict::Refuse(Reading::Unsettled),
         Settlement::Settled { common } => decide_pairs(
             octets,
             places,
@@ -338,10 +308,10 @@ pub fn read(
     ensures values { λ r. ⌜ answerValues r ≡ answerValues (reading (now (octets .entry)) (now (codebook .entry)) (now (thresholds .entry)) (now (index .entry)) (now (report .entry)) .answer) ⌝ }
 {
     if codebook.len() != ReadingLayout::CODEBOOK {
-        return Answer::Refused(Refusal::WrongTables);
+        return Answer::Refused(Reading::WrongTables);
     }
     if thresholds.len() != ReadingLayout::THRESHOLDS {
-        return Answer::Refused(Refusal::WrongTables);
+        return Answer::Refused(Reading::WrongTables);
     }
     let mut places = [0usize; MULTIFRAMES];
     match cutting::cut_into(octets, &mut places) {
@@ -353,42 +323,6 @@ pub fn read(
             index,
             report,
         ),
-        Cut::Refused { number, place } => Answer::Refused(cut_refusal(number, place)),
-    }
-}
-
-// number_of gives 01's number of a refusal.
-pub fn number_of(r: Refusal) -> u32
-    ensures { λ n. ⌜ n ≡ numberOf r ⌝ }
-{
-    match r {
-        Refusal::WrongTables => 11,
-        Refusal::Unknown { place: _ } => 12,
-        Refusal::CutShort { place: _ } => 13,
-        Refusal::Empty { octets: _ } => 14,
-        Refusal::TooMany { place: _ } => 15,
-        Refusal::Unsettled => 16,
-        Refusal::Unfit => 17,
-        Refusal::IndexShort { needed: _ } => 18,
-        Refusal::ReportShort { needed: _ } => 19,
-        Refusal::AllBad => 20,
-    }
-}
-
-// place_of gives 01's place of a refusal.
-pub fn place_of(r: Refusal) -> usize
-    ensures { λ n. ⌜ n ≡ placeOf r ⌝ }
-{
-    match r {
-        Refusal::WrongTables => 0,
-        Refusal::Unknown { place } => place,
-        Refusal::CutShort { place } => place,
-        Refusal::Empty { octets } => octets,
-        Refusal::TooMany { place } => place,
-        Refusal::Unsettled => 0,
-        Refusal::Unfit => 0,
-        Refusal::IndexShort { needed } => needed,
-        Refusal::ReportShort { needed } => needed,
-        Refusal::AllBad => 0,
+        Cut::Refused(r) => Answer::Refused(r),
     }
 }

@@ -19,16 +19,16 @@ use Rattle.writer.specs.Made.{Small}
 use Rattle.writer.specs.Image.{Utterance, imageOf, is-accepted}
 use Rattle.writer.specs.declared.Answer as WA
 use Rattle.writer.specs.declared.Answer.the-variants.{Written, Refused}
-use Rattle.writer.specs.declared.Refusal as WR
-use Rattle.writer.specs.declared.Refusal.the-variants.{Settings as WrongSettings}
+use Rattle.refusals.specs.declared.Writing as WR
+use Rattle.refusals.specs.declared.Writing.the-variants.{Settings as WrongSettings}
 use Rattle.reader.specs.Reading.{Outcome, outcome, reading}
 use Rattle.reader.specs.ReadingLaws.{refusal-keeps}
 use Rattle.reader.specs.Steps.{wrong-codebook}
 use Rattle.reader.specs.declared.Summary.{Summary}
 use Rattle.reader.specs.declared.Answer as RA
 use Rattle.reader.specs.declared.Answer.the-variants as R
-use Rattle.reader.specs.declared.Refusal as RR
-use Rattle.reader.specs.declared.Refusal.the-variants.{WrongTables}
+use Rattle.refusals.specs.declared.Reading as RR
+use Rattle.refusals.specs.declared.Reading.the-variants.{WrongTables}
 use Rattle.demands.specs.Whole.{Lent}
 use Rattle.demands.specs.ReadsBack.{reads-image}
 use Rattle.demands.specs.Instances.{lone, says1}
@@ -88,7 +88,7 @@ pub record IsBack (settings : Settings) (idx : List ℕ) (n : ℕ) (out index re
   pub no-notes : t .report ≡ noteless idx report
 
 -- WRITTEN BUT NOT READ: the output holds the image, which the reader refuses, and what was lent to the reader is as it came
-pub record IsUnread (settings : Settings) (idx : List ℕ) (codebook thresholds : List ℤ) (out index report : List ℕ) (x : RR.Refusal) (t : Made) : Type 0 where
+pub record IsUnread (settings : Settings) (idx : List ℕ) (codebook thresholds : List ℤ) (out index report : List ℕ) (x : RR.Reading) (t : Made) : Type 0 where
   pub octets : ℕ
   pub written : verdict settings idx (length out) ≡ Written octets
   pub image-out : t .output ≡ imaged settings idx octets out
@@ -97,7 +97,7 @@ pub record IsUnread (settings : Settings) (idx : List ℕ) (codebook thresholds 
   pub report-stays : t .report ≡ report
 
 -- NOT WRITTEN: all three are as they came
-pub record IsUnwritten (settings : Settings) (idx out index report : List ℕ) (x : WR.Refusal) (t : Made) : Type 0 where
+pub record IsUnwritten (settings : Settings) (idx out index report : List ℕ) (x : WR.Writing) (t : Made) : Type 0 where
   pub refused : verdict settings idx (length out) ≡ Refused x
   pub all-stay : (t .output ≡ out) × (t .index ≡ index) × (t .report ≡ report)
 
@@ -110,10 +110,10 @@ module _ (settings : Settings) (idx : List ℕ) (codebook thresholds : List ℤ)
 
   -- what the buffers hold if the reader refuses, and if the writer does
   abbrev pub Unread : Made → Type 0
-  Unread t = (x : RR.Refusal) → t .answer ≡ NotRead x → IsUnread settings idx codebook thresholds out index report x t
+  Unread t = (x : RR.Reading) → t .answer ≡ NotRead x → IsUnread settings idx codebook thresholds out index report x t
 
   abbrev pub Unwritten : Made → Type 0
-  Unwritten t = (x : WR.Refusal) → t .answer ≡ NotWritten x → IsUnwritten settings idx out index report x t
+  Unwritten t = (x : WR.Writing) → t .answer ≡ NotWritten x → IsUnwritten settings idx out index report x t
 
   -- ---- what is accepted is written, and its image is read
   abbrev back : Outcome
@@ -128,7 +128,7 @@ module _ (settings : Settings) (idx : List ℕ) (codebook thresholds : List ℤ)
       let t : take n (imaged settings idx n out) ≡ i = take-at i (drop (0 + n) out) n l in
       rw e (ap (λ (s : List ℕ). let q = reading s codebook thresholds index report in made (tripOf (q .answer)) (imaged settings idx n out) (q .index) (q .report)) t)
 
-  not-written : (r : WR.Refusal) → verdict settings idx (length out) ≡ Refused r
+  not-written : (r : WR.Writing) → verdict settings idx (length out) ≡ Refused r
       → trip settings idx codebook thresholds out index report ≡ made (NotWritten r) out index report
   unfolding trip writing
   not-written r e = rw e
@@ -153,7 +153,7 @@ module _ (settings : Settings) (idx : List ℕ) (codebook thresholds : List ℤ)
         no-notes = ap (λ (o : Outcome). o .report) r;
       }
 
-  tripped : (y : RA.Answer) (x : RR.Refusal) → tripOf y ≡ NotRead x → y ≡ R.Refused x
+  tripped : (y : RA.Answer) (x : RR.Reading) → tripOf y ≡ NotRead x → y ≡ R.Refused x
   tripped (R.Read s) x e = absurd (let z : _≡_ {A = ℕ} 0 1 = cc in omega arith)
   tripped (R.Refused r) x e = let z : r ≡ x = cc in ap R.Refused z
 
@@ -173,7 +173,7 @@ module _ (settings : Settings) (idx : List ℕ) (codebook thresholds : List ℤ)
           record { octets = n; written = v; image-out = refl; refused = y; index-stays = ap (λ (q : Outcome). q .index) k; report-stays = ap (λ (q : Outcome). q .report) k }
       by (Refused r) v e = absurd (never r x (sym (ap (λ (m : Made). m .answer) (not-written r v)) ∙ e))
         where
-          never : (r : WR.Refusal) (x : RR.Refusal) → NotWritten r ≡ NotRead x → ⊥
+          never : (r : WR.Writing) (x : RR.Reading) → NotWritten r ≡ NotRead x → ⊥
           never r x e = let z : _≡_ {A = ℕ} 0 1 = cc in omega arith
 
   -- the writer refuses: all is as it came
@@ -202,7 +202,7 @@ module _ (settings : Settings) (idx : List ℕ) (codebook thresholds : List ℤ)
   unfolding trip
   ends x o e = ap (λ (q : W.Outcome). afterWriting codebook thresholds index report (q .output) (q .answer)) e
 
-  pub ends-unwritten : (x : WA.Answer) (o : List ℕ) (r : WR.Refusal) → W.outcome x o ≡ writing settings idx out → x ≡ Refused r
+  pub ends-unwritten : (x : WA.Answer) (o : List ℕ) (r : WR.Writing) → W.outcome x o ≡ writing settings idx out → x ≡ Refused r
       → made (NotWritten r) o index report ≡ trip settings idx codebook thresholds out index report
   ends-unwritten x o r e ex = ap (afterWriting codebook thresholds index report o) (sym ex) ∙ ends x o e
 

@@ -6,8 +6,8 @@ ghost use Rattle.roundtrip.specs.Trip.{made, trip, ComesBack, Unread, Un
 
 // What became of an utterance: refused by the writer, refused by the reader, or back with the reader's summary.
 pub enum Trip {
-    NotWritten(writer::Refusal),
-    NotRead(reader::Refusal),
+    NotWritten(refusals::Writing),
+    NotRead(refusals::Reading),
     Back(Summary),
 }
 

@@ -27,7 +27,7 @@ use Rattle.header.specs.Message.Laws.{message-lt, settings-back}
 use Rattle.writer.specs.Writing.{Search, at, nowhere, firstFrom, isFound, frameCount, isWide, endsEarly, multiframesFor, needed, verdict, multiframe, image, outcome, finished, writing}
 use Rattle.writer.specs.Laws.{first-nowhere, early-last, early-boundary, length-image, Accepted, accepted, accepts}
 use Rattle.writer.specs.declared.Answer.{Answer}
-use Rattle.writer.specs.declared.Refusal.{Refusal}
+use Rattle.refusals.specs.declared.Writing.{Writing as Refusal}
 use Rattle.writer.specs.declared.Answer.the-variants.{Written, Refused}
 use Rattle.writer.specs.Made.{syncIn, headerIn, wordIn, streamIn, packetIn, framed, made, Small, made-part, made-sync, made-header, made-word, made-stream, made-packet, small-made}
 

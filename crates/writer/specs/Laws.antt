@@ -3,7 +3,7 @@
 use mathlib.Core.Path.{_≡_, refl, sym, ap, ap₂, _∙_, subst}
 use mathlib.Core.Bool.{Bool, true, false}
 use mathlib.Core.List.{List, _++_, append-assoc}
-use Prim.Native.Nat.{ℕ, zero, suc, _+_, _-_, _*_, _/_, _%_, _≤_, _<_}
+use Prim.Native.Nat.{ℕ, zero, suc, _+_, _-_, _*_, _/_, _%_, _^_, _≤_, _<_}
 use native.Mathlib.Numerals.{add-one}
 use native.Mathlib.Decide.{ℕ-discrete}
 use native.Mathlib.Omega.{arith}
@@ -12,19 +12,19 @@ use lib.Dec.{eqb, ltb}
 use borrow.Author.Tests.{eq-eqb, ne-eqb, lt-ltb, le-ltb, eqb-true, ltb-false}
 use Rattle.lists.specs.Tests.{when, by-test}
 use Rattle.lists.specs.Parts.{over, over-none, behind}
+use Rattle.layout.specs.Layout.{frameIndices, multiframeFrames, multiframePairs, multiframeOctets, syncOctets, headerOctets, streamOctets, mostFrames, mostMultiframes, firstPair, sync, syncWord}
 use Rattle.settings.specs.declared.Settings.{Settings}
 use Rattle.settings.specs.Settings.{settingsRight}
-use Rattle.layout.specs.Layout.{frameIndices, multiframeFrames, multiframePairs, multiframeOctets, syncOctets, headerOctets, streamOctets, mostFrames, mostMultiframes, firstPair, sync, syncWord}
 use Rattle.frames.specs.Frames.{zeroFrame}
 use Rattle.bits.specs.Bits.{field, octets, numbers, value}
 use Rattle.bits.specs.Laws.{length-octets}
 use Rattle.packet.specs.Packet.{stream}
 use Rattle.header_code.specs.Code.{codeword}
 use Rattle.header.specs.Message.{message}
-use Rattle.writer.specs.Writing.{Search, at, nowhere, firstFrom, frameCount, endsEarly, firstWide, firstEarly, roomAnswer, earlyAnswer, wideAnswer, needed, verdict, multiframesFor, multiframe, image, outcome, writing, Outcome, numberOf, placeOf}
-use Rattle.writer.specs.declared.Refusal.{Refusal}
+use Rattle.writer.specs.Writing.{Search, at, nowhere, firstFrom, frameCount, endsEarly, firstWide, firstEarly, roomAnswer, earlyAnswer, wideAnswer, needed, verdict, multiframesFor, multiframe, image, outcome, writing, Outcome, numberOf, placeOf, isWide, finished}
+use Rattle.refusals.specs.declared.Writing.{Writing as Refusal}
 use Rattle.writer.specs.declared.Answer.{Answer}
-use Rattle.writer.specs.declared.Refusal.the-variants.{Settings as WrongSettings, PartFrame, TooMany, WideIndex, ZeroFrame, OutputShort}
+use Rattle.refusals.specs.declared.Writing.the-variants.{Settings as WrongSettings, PartFrame, TooMany, WideIndex, ZeroFrame, OutputShort}
 use Rattle.writer.specs.declared.Answer.the-variants.{Written, Refused}
 use Rattle.writer.specs.declared.Found.{Found}
 use Rattle.writer.specs.declared.Found.the-variants.{At, Nowhere}
@@ -118,14 +118,14 @@ module _ (settings : Settings) (idx : List ℕ) (out : ℕ) where
   unfolding verdict
   sized s = rw (s .right, eq-eqb (length idx % frameIndices) 0 (s .whole), le-ltb mostFrames (frameCount idx) (s .few))
 
-  pub refuses-wide : Sized settings idx → (k : ℕ) → firstWide idx ≡ at k → verdict settings idx out ≡ Refused (WideIndex (k + 1))
+  pub refuses-wide : Sized settings idx → (k : ℕ) → firstWide idx ≡ at k → verdict settings idx out ≡ Refused (WideIndex (record { 0 = k }))
   refuses-wide s k e = sized s ∙ ap (wideAnswer out (needed idx) (firstEarly idx)) e
 
   narrow : Sized settings idx → firstWide idx ≡ nowhere → verdict settings idx out ≡ earlyAnswer out (needed idx) (firstEarly idx)
   narrow s e = sized s ∙ ap (wideAnswer out (needed idx) (firstEarly idx)) e
 
   pub refuses-zero : Sized settings idx → firstWide idx ≡ nowhere → (k : ℕ) → firstEarly idx ≡ at k
-      → verdict settings idx out ≡ Refused (ZeroFrame (k + 1))
+      → verdict settings idx out ≡ Refused (ZeroFrame (record { 0 = k }))
   refuses-zero s e k g = narrow s e ∙ ap (earlyAnswer out (needed idx)) g
 
   pub refuses-short : Sized settings idx → firstWide idx ≡ nowhere → firstEarly idx ≡ nowhere → out < needed idx
@@ -249,8 +249,41 @@ pub leaves : (settings : Settings) (idx out : List ℕ) (r : Refusal) → verdic
 unfolding writing
 leaves settings idx out r e = rw e
 
--- what `writing` says of answer and output, it says of 01's number and place
-pub in-numbers : (settings : Settings) (idx out : List ℕ) {o : Outcome} → o ≡ writing settings idx out
+-- every place fits 64 bits, as the number of index octets does
+module _ (settings : Settings) (idx : List ℕ) (out : ℕ) (octets-fit : length idx < 2 ^ 64) where
+  abbrev Fits : Answer → Type 0
+  Fits a = placeOf a < 2 ^ 64
+
+  early-fits : (s : Search) → frameCount idx ≤ mostFrames → Says (endsEarly idx) 0 (frameCount idx) s → Fits (earlyAnswer out (needed idx) s)
+  unfolding roomAnswer
+  early-fits (at k) few h = omega (arith, h .1)
+  early-fits nowhere few h = by-test Fits (ltb out (needed idx)) (λ r. omega arith) (λ r. omega arith)
+
+  wide-fits : (s : Search) → frameCount idx ≤ mostFrames → Says (isWide idx) 0 (frameCount idx) s → Fits (wideAnswer out (needed idx) (firstEarly idx) s)
+  wide-fits (at k) few h = omega (arith, h .1)
+  wide-fits nowhere few h = early-fits (firstEarly idx) few (first-says (endsEarly idx) 0 (frameCount idx))
+
+  verdict-fits : Fits (verdict settings idx out)
+  unfolding verdict
+  verdict-fits =
+      by-test Fits (settingsRight settings) (λ s.
+      by-test Fits (eqb (length idx % frameIndices) 0) (λ w.
+      by-test Fits (ltb mostFrames (frameCount idx)) (λ f. omega arith) (λ f. wide-fits (firstWide idx) (ltb-false mostFrames (frameCount idx) f) (first-says (isWide idx) 0 (frameCount idx))))
+      (λ w. octets-fit)) (λ s. omega arith)
+
+pub place-fits : (settings : Settings) (idx out : List ℕ) → length idx < 2 ^ 64 → placeOf (writing settings idx out .answer) < 2 ^ 64
+unfolding writing
+place-fits settings idx out h = by (verdict settings idx (length out)) (verdict-fits settings idx (length out) h)
+  where
+    by : (a : Answer) → placeOf a < 2 ^ 64 → placeOf (finished settings idx out a .answer) < 2 ^ 64
+    by (Written n) f = f
+    by (Refused r) f = f
+
+-- what `writing` says of answer and output, it says of 01's number and place, and the place fits
+pub in-numbers : (settings : Settings) (idx out : List ℕ) {o : Outcome} → length idx < 2 ^ 64 → o ≡ writing settings idx out
     → (o ≡ writing settings idx out)
-    × ((numberOf (o .answer) ≡ numberOf (writing settings idx out .answer)) × (placeOf (o .answer) ≡ placeOf (writing settings idx out .answer)))
-in-numbers settings idx out e = (e, (ap (λ (q : Outcome). numberOf (q .answer)) e, ap (λ (q : Outcome). placeOf (q .answer)) e))
+    × ((numberOf (o .answer) ≡ numberOf (writing settings idx out .answer))
+    × ((placeOf (o .answer) ≡ placeOf (writing settings idx out .answer)) × (placeOf (o .answer) < 2 ^ 64)))
+in-numbers settings idx out h e =
+    let p = ap (λ (q : Outcome). placeOf (q .answer)) e in
+    (e, (ap (λ (q : Outcome). numberOf (q .answer)) e, (p, subst (λ (k : ℕ). k < 2 ^ 64) (sym p) (place-fits settings idx out h))))

@@ -1,5 +1,5 @@
--- What the writer answers and leaves in the output, for every input (01, "Writing"). Frames count from 0 here; the places of refusals 4 and 5
--- count them from 1, as 01 does.
+-- What the writer answers and leaves in the output, for every input (01, "Writing"). Frames count from 0; the places of refusals 4 and
+-- 5 count them from 1, as 01 does.
 -- Assumes nothing.
 use Prim.Native.Nat.{ℕ, zero, suc, _+_, _-_, _*_, _/_, _%_}
 use mathlib.Core.Bool.{Bool, true, false}
@@ -8,37 +8,27 @@ use lib.Dec.{eqb, ltb}
 use lib.ListN.{length, getD}
 use Rattle.lists.specs.Tests.{when}
 use Rattle.lists.specs.Parts.{over}
+use Rattle.layout.specs.Layout.{frameIndices, multiframeFrames, multiframePairs, multiframeOctets, headerOctets, streamOctets, mostFrames, firstPair, sync}
 use Rattle.settings.specs.declared.Settings.{Settings}
 use Rattle.settings.specs.Settings.{settingsRight}
-use Rattle.layout.specs.Layout.{frameIndices, multiframeFrames, multiframePairs, multiframeOctets, headerOctets, streamOctets, mostFrames, firstPair, sync}
 use Rattle.frames.specs.Frames.{zeroFrame}
 use Rattle.bits.specs.Bits.{field, octets}
 use Rattle.packet.specs.Packet.{stream}
 use Rattle.header_code.specs.Code.{codeword}
 use Rattle.header.specs.Message.{message}
-use Rattle.writer.specs.declared.Refusal.{Refusal}
-use Rattle.writer.specs.declared.Refusal.the-variants.{Settings as WrongSettings, PartFrame, TooMany, WideIndex, ZeroFrame, OutputShort}
+use Rattle.refusals.specs.Refusals.{success, writingNumber, writingPlace}
+use Rattle.refusals.specs.declared.Writing.the-variants.{Settings as WrongSettings, PartFrame, TooMany, WideIndex, ZeroFrame, OutputShort}
 use Rattle.writer.specs.declared.Answer.{Answer}
 use Rattle.writer.specs.declared.Answer.the-variants.{Written, Refused}
 
--- ---- 01's number and place of each answer: success is 0, and its value the octets written
+-- ---- 01's number and place of each answer: success has for its place the octets written
 abbrev pub numberOf : Answer → ℕ
-numberOf (Written n) = 0
-numberOf (Refused WrongSettings) = 1
-numberOf (Refused (PartFrame n)) = 2
-numberOf (Refused (TooMany n)) = 3
-numberOf (Refused (WideIndex k)) = 4
-numberOf (Refused (ZeroFrame k)) = 5
-numberOf (Refused (OutputShort n)) = 6
+numberOf (Written n) = success
+numberOf (Refused r) = writingNumber r
 
 abbrev pub placeOf : Answer → ℕ
 placeOf (Written n) = n
-placeOf (Refused WrongSettings) = 0
-placeOf (Refused (PartFrame n)) = n
-placeOf (Refused (TooMany n)) = n
-placeOf (Refused (WideIndex k)) = k
-placeOf (Refused (ZeroFrame k)) = k
-placeOf (Refused (OutputShort n)) = n
+placeOf (Refused r) = writingPlace r
 
 -- ---- the first place at which a test holds
 pub data Search : Type 0 where
@@ -87,12 +77,12 @@ roomAnswer out needed = when (ltb out needed) (Refused (OutputShort needed)) (Wr
 
 -- 5: a zero frame that must not be one
 abbrev pub earlyAnswer : ℕ → ℕ → Search → Answer
-earlyAnswer out needed (at k) = Refused (ZeroFrame (k + 1))
+earlyAnswer out needed (at k) = Refused (ZeroFrame (record { 0 = k }))
 earlyAnswer out needed nowhere = roomAnswer out needed
 
 -- 4: an index above 63; it is searched over all frames before 5
 abbrev pub wideAnswer : ℕ → ℕ → Search → Search → Answer
-wideAnswer out needed early (at k) = Refused (WideIndex (k + 1))
+wideAnswer out needed early (at k) = Refused (WideIndex (record { 0 = k }))
 wideAnswer out needed early nowhere = earlyAnswer out needed early
 
 abbrev pub needed : List ℕ → ℕ

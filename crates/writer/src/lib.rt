@@ -5,6 +5,7 @@ use layout::FrameLayout;
 use layout::Multiframe;
 use layout::MultiframeLayout;
 use layout::UtteranceLayout;
+use refusals::Writing;
 use settings::Settings;
 ghost use mathlib.Core.Path.{_≡_};
 ghost use Prim.Native.Nat.{ℕ, _+_, _*_, _%_, _^_, _≤_, _<_};
@@ -17,19 +18,9 @@ ghost use Rattle.writer.specs.Laws.{foundAs};
 // The largest index of six bits.
 const LARGEST: u8 = 63;
 
-// Why an utterance is not written: 01's refusals 1 to 6 with their places. Frames count from 1.
-pub enum Refusal {
-    Settings,
-    PartFrame { octets: usize },
-    TooMany { frames: usize },
-    WideIndex { frame: usize },
-    ZeroFrame { frame: usize },
-    OutputShort { needed: usize },
-}
-
 pub enum Answer {
     Written { octets: usize },
-    Refused(Refusal),
+    Refused(Writing),
 }
 
 // What a search over the frames finds: a frame, or none.
@@ -98,26 +89,26 @@ fn decide(settings: Settings, indices: &[u8], room: usize) -> Answer
     ensures { λ r. ⌜ r ≡ verdict settings (now (indices .entry)) room ⌝ }
 {
     if !settings::is_right(settings) {
-        return Answer::Refused(Refusal::Settings);
+        return Answer::Refused(Writing::Settings);
     }
     if indices.len() % FrameLayout::INDICES != 0 {
-        return Answer::Refused(Refusal::PartFrame {
+        return Answer::Refused(Writing::PartFrame {
             octets: indices.len(),
         });
     }
     let frames = indices.len() / FrameLayout::INDICES;
     if UtteranceLayout::FRAMES < frames {
-        return Answer::Refused(Refusal::TooMany { frames });
+        return Answer::Refused(Writing::TooMany { frames });
     }
     if let Found::At(f) = first_wide(indices) {
-        return Answer::Refused(Refusal::WideIndex { frame: f.0 + 1 });
+        return Answer::Refused(Writing::WideIndex { frame: f });
     }
     if let Found::At(f) = first_early(indices) {
-        return Answer::Refused(Refusal::ZeroFrame { frame: f.0 + 1 });
+        return Answer::Refused(Writing::ZeroFrame { frame: f });
     }
     let needed = MultiframeLayout::OCTETS * (frames / MultiframeLayout::FRAMES + 1);
     if room < needed {
-        return Answer::Refused(Refusal::OutputShort { needed });
+        return Answer::Refused(Writing::OutputShort { needed });
     }
     Answer::Written { octets: needed }
 }
@@ -169,6 +160,7 @@ pub fn write(settings: Settings, indices: &[u8], out: &mut [u8]) -> Answer
     ensures all { λ r. ⌜ outcome r (now (out .exit)) ≡ writing settings (now (indices .entry)) (now (out .entry)) ⌝ }
     ensures number { λ r. ⌜ numberOf r ≡ numberOf (writing settings (now (indices .entry)) (now (out .entry)) .answer) ⌝ }
     ensures place { λ r. ⌜ placeOf r ≡ placeOf (writing settings (now (indices .entry)) (now (out .entry)) .answer) ⌝ }
+    ensures fits { λ r. ⌜ placeOf r < 2 ^ 64 ⌝ }
 {
     match decide(settings, indices, out.len()) {
         Answer::Written { octets } => {
@@ -179,36 +171,23 @@ pub fn write(settings: Settings, indices: &[u8], out: &mut [u8]) -> Answer
     }
 }
 
-// number_of gives 01's number of an answer: 0 for success.
+// number_of gives 01's number of an answer: that of success, or the refusal's.
 pub fn number_of(a: Answer) -> u32
     ensures { λ r. ⌜ r ≡ numberOf a ⌝ }
 {
     match a {
-        Answer::Written { octets: _ } => 0,
-        Answer::Refused(r) => match r {
-            Refusal::Settings => 1,
-            Refusal::PartFrame { octets: _ } => 2,
-            Refusal::TooMany { frames: _ } => 3,
-            Refusal::WideIndex { frame: _ } => 4,
-            Refusal::ZeroFrame { frame: _ } => 5,
-            Refusal::OutputShort { needed: _ } => 6,
-        },
+        Answer::Written { octets: _ } => refusals::SUCCESS,
+        Answer::Refused(r) => refusals::writing_number(r),
     }
 }
 
-// place_of gives the octets written, or 01's place of a refusal.
+// place_of gives the octets written, or 01's place of a refusal. It asks for a number that fits, as every answer of write has.
 pub fn place_of(a: Answer) -> usize
+    requires { ⌜ placeOf a < 2 ^ 64 ⌝ }
     ensures { λ r. ⌜ r ≡ placeOf a ⌝ }
 {
     match a {
         Answer::Written { octets } => octets,
-        Answer::Refused(r) => match r {
-            Refusal::Settings => 0,
-            Refusal::PartFrame { octets } => octets,
-            Refusal::TooMany { frames } => frames,
-            Refusal::WideIndex { frame } => frame,
-            Refusal::ZeroFrame { frame } => frame,
-            Refusal::OutputShort { needed } => needed,
-        },
+        Answer::Refused(r) => refusals::writing_place(r),
     }
 }

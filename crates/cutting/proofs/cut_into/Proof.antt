@@ -7,7 +7,7 @@ use mathlib.Core.Path.{_≡_, ap, sym, _∙_}
 use mathlib.Core.List.{List}
 use lib.ListN.{length}
 use Rattle.cutting.specs.declared.Piece.{Piece}
-use Rattle.cutting.specs.declared.Piece.the-variants.{End, Multiframe, Inverse}
+use Rattle.cutting.specs.declared.Piece.the-variants.{End, Multiframe, Inverse, Unknown, CutShort, TooMany}
 use Rattle.cutting.specs.Cutting.{pieceOf}
 use Rattle.cutting.proofs.Turns.{Going, Next, begun, next, rest-of}
 use Rattle.cutting.proofs.cut_into.Statement.{statement}
@@ -84,14 +84,32 @@ same-length c = search needs
 returns : tie.Need-returns Inv-loop μ-loop
 returns c = met (c .before .before) End (c .enum-told3 .given .1)
 
-enum-known-number : tie.Need-enum-known-number Inv-loop μ-loop
-enum-known-number c = search needs
+enum-told-4 : tie.Need-enum-told-4 Inv-loop μ-loop
+enum-told-4 c = search needs
 
 same-length-2 : tie.Need-same-length-2 Inv-loop μ-loop
 same-length-2 c = search needs
 
 returns-2 : tie.Need-returns-2 Inv-loop μ-loop
-returns-2 c = met (c .before .before .before) _ (c .before .number .given .1)
+returns-2 c = met (c .before .before) Unknown (c .enum-told4 .given .1)
+
+enum-told-5 : tie.Need-enum-told-5 Inv-loop μ-loop
+enum-told-5 c = search needs
+
+same-length-3 : tie.Need-same-length-3 Inv-loop μ-loop
+same-length-3 c = search needs
+
+returns-3 : tie.Need-returns-3 Inv-loop μ-loop
+returns-3 c = met (c .before .before) CutShort (c .enum-told5 .given .1)
+
+enum-told-6 : tie.Need-enum-told-6 Inv-loop μ-loop
+enum-told-6 c = search needs
+
+same-length-4 : tie.Need-same-length-4 Inv-loop μ-loop
+same-length-4 c = search needs
+
+returns-4 : tie.Need-returns-4 Inv-loop μ-loop
+returns-4 c = met (c .before .before) TooMany (c .enum-told6 .given .1)
 
 pub cut-into-spec : {M : Type 1} → statement M
 cut-into-spec =
@@ -118,6 +136,12 @@ cut-into-spec =
     enum-told-3
     same-length
     returns
-    enum-known-number
+    enum-told-4
     same-length-2
-    returns-2)
+    returns-2
+    enum-told-5
+    same-length-3
+    returns-3
+    enum-told-6
+    same-length-4
+    returns-4)

@@ -13,7 +13,6 @@ use Rattle.hunting.proofs.gather.Tie as tie
 use Rattle.hunting.proofs.gather.Reads as reads
 use Rattle.hunting.proofs.gather.Lts as lts
 use Rattle.hunt.proofs.seek.Reads as seek-reads
-use Rattle.hunt.proofs.tested_of.Reads as tested-of-reads
 use Rattle.hunting.proofs.put_found.Reads as put-found-reads
 
 abbrev Inv-loop : tie.InvT-loop
@@ -94,8 +93,8 @@ loop-again c =
 enum-known-r : tie.Need-enum-known-r Inv-loop μ-loop
 enum-known-r c = search needs
 
-tested-of-requires : tie.Need-tested-of-requires Inv-loop μ-loop
-tested-of-requires c κs = search needs
+hunt-tested-requires : tie.Need-hunt-tested-requires Inv-loop μ-loop
+hunt-tested-requires c κs = search needs
 
 add-t18 : tie.Need-add-t18 Inv-loop μ-loop
 add-t18 c =
@@ -104,7 +103,7 @@ add-t18 c =
     let a = k .before in
     let g = a .loop .inv .0 in
     let e = sym (f .r .given .1) ∙ k .seek .ensures in
-    record { fits = omega (arith, c .tested-of .ensures, few-tested-last _ _ _ _ _ _ _ g _ e, searched-lt (bits (now (a .before .before .before .args .octets)))) }
+    record { fits = omega (arith, c .hunt-tested .ensures, few-tested-last _ _ _ _ _ _ _ g _ e, searched-lt (bits (now (a .before .before .before .args .octets)))) }
 
 same-length-2 : tie.Need-same-length-2 Inv-loop μ-loop
 same-length-2 c = c .before .before .before .before .before .loop .inv .1
@@ -116,7 +115,7 @@ returns-2 c =
     let a = k .before in
     let g = a .loop .inv .0 in
     let e = sym (f .r .given .1) ∙ k .seek .ensures in
-    finished _ _ _ _ _ _ _ g _ e _ (c .tested-of .ensures)
+    finished _ _ _ _ _ _ _ g _ e _ (c .hunt-tested .ensures)
 
 pub gather-spec : {M : Type 1} → statement M
 gather-spec =
@@ -136,7 +135,7 @@ gather-spec =
     loop-less
     loop-again
     enum-known-r
-    tested-of-requires
+    hunt-tested-requires
     add-t18
     same-length-2
     returns-2)

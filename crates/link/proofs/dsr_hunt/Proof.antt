@@ -7,9 +7,6 @@ use Rattle.link.proofs.dsr_hunt.Tie as tie
 use Rattle.link.proofs.dsr_hunt.Reads as reads
 use Rattle.link.proofs.dsr_hunt.Lts as lts
 use Rattle.hunt.proofs.hunt.Reads as hunt-reads
-use Rattle.hunt.proofs.number_of.Reads as number-of-reads
-use Rattle.hunt.proofs.place_of.Reads as place-of-reads
-use Rattle.hunt.proofs.tested_of.Reads as tested-of-reads
 
 hunt-requires : tie.Need-hunt-requires
 hunt-requires c κs = search needs
@@ -20,14 +17,14 @@ enum-known-at c = search needs
 enum-known-r : tie.Need-enum-known-r
 enum-known-r c = search needs
 
-tested-of-requires : tie.Need-tested-of-requires
-tested-of-requires c κs = search needs
+hunt-tested-requires : tie.Need-hunt-tested-requires
+hunt-tested-requires c κs = search needs
 
-place-of-requires : tie.Need-place-of-requires
-place-of-requires c κs = search needs
+hunt-place-requires : tie.Need-hunt-place-requires
+hunt-place-requires c κs = search needs
 
-number-of-requires : tie.Need-number-of-requires
-number-of-requires c κs = search needs
+hunt-number-requires : tie.Need-hunt-number-requires
+hunt-number-requires c κs = search needs
 
 returns : tie.Need-returns
 returns c =
@@ -37,7 +34,7 @@ returns c =
 returns-2 : tie.Need-returns-2
 returns-2 c =
     let r = c .before .before .before .before in
-    hunt-refused _ _ _ _ _ _ _ (sym (r .r .given .1) ∙ r .before .before .hunt .ensures) (c .number-of .ensures) (c .before .before .tested-of .ensures) (c .before .place-of .ensures)
+    hunt-refused _ _ _ _ _ _ _ (sym (r .r .given .1) ∙ r .before .before .hunt .ensures) (c .hunt-number .ensures) (c .before .before .hunt-tested .ensures) (c .before .hunt-place .ensures)
 
 pub dsr-hunt-spec : {M : Type 1} → statement M
 dsr-hunt-spec =
@@ -46,8 +43,8 @@ dsr-hunt-spec =
     hunt-requires
     enum-known-at
     enum-known-r
-    tested-of-requires
-    place-of-requires
-    number-of-requires
+    hunt-tested-requires
+    hunt-place-requires
+    hunt-number-requires
     returns
     returns-2)

@@ -20,14 +20,14 @@ put-summary-requires c κs = search needs
 enum-known-r : tie.Need-enum-known-r
 enum-known-r c = search needs
 
-place-of-requires : tie.Need-place-of-requires
-place-of-requires c κs = search needs
+reading-place-requires : tie.Need-reading-place-requires
+reading-place-requires c κs = search needs
 
 slice-write-answer : tie.Need-slice-write-answer
 slice-write-answer c = search needs
 
-number-of-requires : tie.Need-number-of-requires
-number-of-requires c κs = search needs
+reading-number-requires : tie.Need-reading-number-requires
+reading-number-requires c κs = search needs
 
 same-length : tie.Need-same-length
 same-length c = search needs
@@ -57,7 +57,7 @@ returns-3 : tie.Need-returns-3
 returns-3 c =
     let r = c .before .before .before .r in
     returns-refusal (c .before .before .before .before .before .before .before .before .before .before .before .before .before .before .before .before .before .args .answer .now) _ _ _ (omega (arith, c .before .before .before .before .before .before .before .before .before .before .before .before .if1 .left)) _ (r .given .0 .0) _ _ _ _ (c .before .before .before .before .before .before .before .before .before .read .ensures .0) (r .given .1)
-    (c .number-of .ensures) (c .before .place-of .ensures)
+    (c .reading-number .ensures) (c .before .reading-place .ensures)
 
 pub dsr-read-spec : {M : Type 1} → statement M
 dsr-read-spec =
@@ -68,9 +68,9 @@ dsr-read-spec =
     enum-known-s
     put-summary-requires
     enum-known-r
-    place-of-requires
+    reading-place-requires
     slice-write-answer
-    number-of-requires
+    reading-number-requires
     same-length
     same-length-2
     same-length-3

@@ -6,8 +6,6 @@ use Rattle.link.proofs.dsr_read_bits.Statement.{statement}
 use Rattle.link.proofs.dsr_read_bits.Tie as tie
 use Rattle.link.proofs.dsr_read_bits.Reads as reads
 use Rattle.link.proofs.dsr_read_bits.Lts as lts
-use Rattle.hunting.proofs.number_of.Reads as number-of-reads
-use Rattle.hunting.proofs.place_of.Reads as place-of-reads
 use Rattle.hunting.proofs.read.Reads as read-reads
 use Rattle.link.proofs.put_counted.Reads as put-counted-reads
 
@@ -28,11 +26,11 @@ put-counted-requires c κs = search needs
 enum-known-r : tie.Need-enum-known-r
 enum-known-r c = search needs
 
-place-of-requires : tie.Need-place-of-requires
-place-of-requires c κs = search needs
+hunting-place-requires : tie.Need-hunting-place-requires
+hunting-place-requires c κs = search needs
 
-number-of-requires : tie.Need-number-of-requires
-number-of-requires c κs = search needs
+hunting-number-requires : tie.Need-hunting-number-requires
+hunting-number-requires c κs = search needs
 
 same-length : tie.Need-same-length
 same-length c = search needs
@@ -63,8 +61,8 @@ returns-3 c =
     let d = s .before .before .before .before .before .before in
     let e = d .before .before .before in
     let a = e .before .before .before .before .before .args in
-    bits-refused (a .answer .now) _ _ _ _ (omega (arith, e .if1 .left)) _ (s .r .given .0 .0) _ _ _ _ (d .read .ensures) (s .r .given .1) (c .number-of .ensures)
-    (c .before .place-of .ensures)
+    bits-refused (a .answer .now) _ _ _ _ (omega (arith, e .if1 .left)) _ (s .r .given .0 .0) _ _ _ _ (d .read .ensures) (s .r .given .1) (c .hunting-number .ensures)
+    (c .before .hunting-place .ensures)
 
 pub dsr-read-bits-spec : {M : Type 1} → statement M
 dsr-read-bits-spec =
@@ -75,8 +73,8 @@ dsr-read-bits-spec =
     enum-known-c
     put-counted-requires
     enum-known-r
-    place-of-requires
-    number-of-requires
+    hunting-place-requires
+    hunting-number-requires
     same-length
     same-length-2
     same-length-3

@@ -21,7 +21,7 @@ same-length c = search needs
 returns : tie.Need-returns
 returns c =
     let e = c .before .before .before .before .write .ensures in
-    written-as (c .number-of .ensures ∙ e .1 .0) (ap (λ (o : Outcome). o .output) (e .0)) (c .before .place-of .ensures ∙ e .1 .1)
+    written-as (c .number-of .ensures ∙ e .1 .0) (ap (λ (o : Outcome). o .output) (e .0)) (c .before .place-of .ensures ∙ e .1 .1 .0)
 
 pub dsr-write-spec : {M : Type 1} → statement M
 dsr-write-spec =

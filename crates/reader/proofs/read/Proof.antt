@@ -70,11 +70,8 @@ read-whole-requires c κs =
     let a = st .args in
     ((subst (Placed (a .octets .now)) (sym (lent k)) (places-placed (a .octets .now)), subst (λ (l : List ℕ). length l ≤ 255) (sym (lent k)) (at-most-255 (a .octets .now))), (i .before .if1 .left, i .if2 .left))
 
-enum-known-number : tie.Need-enum-known-number
-enum-known-number c = search needs
-
-cut-refusal-requires : tie.Need-cut-refusal-requires
-cut-refusal-requires c κs = search needs
+enum-known-r : tie.Need-enum-known-r
+enum-known-r c = search needs
 
 same-length : tie.Need-same-length
 same-length c = search needs
@@ -94,14 +91,14 @@ returns-3 c =
 
 returns-4 : tie.Need-returns-4
 returns-4 c =
-    let n = c .before .before in
+    let n = c .before in
     let u = n .before .before .before in
     let i = u .before .before in
     let st = i .before .before .before .before .before in
     let a = st .args in
     in-numbers (a .octets .now) (a .codebook .now) (a .thresholds .now) (a .index .now) (a .report .now)
-    (not-cut (a .octets .now) (a .codebook .now) (a .thresholds .now) (a .index .now) (a .report .now) (i .before .if1 .left) (i .if2 .left) _ _ (c .cut-refusal .result)
-    (cut-refused (cutting (a .octets .now)) _ _ (sym (u .cut-into .ensures .0) ∙ n .number .given .1)) (c .cut-refusal .ensures))
+    (not-cut (a .octets .now) (a .codebook .now) (a .thresholds .now) (a .index .now) (a .report .now) (i .before .if1 .left) (i .if2 .left) _
+    (cut-refused (cutting (a .octets .now)) _ (sym (u .cut-into .ensures .0) ∙ n .r .given .1)))
 
 pub read-spec : {M : Type 1} → statement M
 read-spec =
@@ -115,8 +112,7 @@ read-spec =
     array-share-prefix-places
     slice-aggregate-read-whole
     read-whole-requires
-    enum-known-number
-    cut-refusal-requires
+    enum-known-r
     same-length
     same-length-2
     returns-3

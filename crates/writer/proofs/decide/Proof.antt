@@ -4,8 +4,7 @@ use Prim.Native.Nat.{ℕ, _+_, _%_, _≤_, _<_}
 use native.Mathlib.Omega.{arith}
 use lib.ListN.{length}
 use Rattle.lists.specs.Tests.{not-false, not-true}
-use Rattle.writer.specs.Writing.{frameCount, isWide, endsEarly}
-use Rattle.writer.specs.Laws.{foundAs, Sized, first-at, refuses-settings, refuses-part, refuses-many, refuses-wide, refuses-zero, refuses-short, accepts}
+use Rattle.writer.specs.Laws.{foundAs, Sized, refuses-settings, refuses-part, refuses-many, refuses-wide, refuses-zero, refuses-short, accepts}
 use borrow.Author.Needs.{needs}
 use Rattle.writer.proofs.decide.Statement.{statement}
 use Rattle.writer.proofs.decide.Tie as tie
@@ -37,22 +36,15 @@ first-wide-requires c κs = search needs
 enum-known-f : tie.Need-enum-known-f
 enum-known-f c = search needs
 
-add-t17 : tie.Need-add-t17
-add-t17 c =
-    let s = c .before .before .before .before in
-    let idx = s .before .before .before .before .before .before .args .indices .now in
-    let h = first-at (isWide idx) 0 (frameCount idx) _ (sym (s .first-wide .ensures) ∙ ap foundAs (c .before .before .f .given .1)) in
-    record { fits = omega (arith, h .1, s .before .if3 .left) }
-
 returns-4 : tie.Need-returns-4
 returns-4 c =
-    let e = c .before .before .before .before .before in
+    let e = c .before .before .before .before in
     let s = e .before .before .before in
     let a = s .before .before .args in
     let idx = a .indices .now in
     let z : Sized (a .settings) idx =
     record { right = sym (s .is-right .ensures) ∙ not-false _ (e .before .before .if1 .left); whole = omega (arith, e .before .if2 .left); few = omega (arith, e .if3 .left) } in
-    sym (refuses-wide (a .settings) idx (a .room) z _ (sym (c .before .before .before .before .first-wide .ensures) ∙ ap foundAs (c .before .before .f .given .1)))
+    sym (refuses-wide (a .settings) idx (a .room) z _ (sym (c .before .before .before .first-wide .ensures) ∙ ap foundAs (c .before .f .given .1)))
 
 enum-told : tie.Need-enum-told
 enum-told c = search needs
@@ -63,24 +55,16 @@ first-early-requires c κs = search needs
 enum-known-f-2 : tie.Need-enum-known-f-2
 enum-known-f-2 c = search needs
 
-add-t20 : tie.Need-add-t20
-add-t20 c =
-    let s = c .before .before .before .before in
-    let e = c .before .before .before .before .before .before .before .before in
-    let idx = e .before .before .before .before .before .args .indices .now in
-    let h = first-at (endsEarly idx) 0 (frameCount idx) _ (sym (s .first-early .ensures) ∙ ap foundAs (c .before .before .f2 .given .1)) in
-    record { fits = omega (arith, h .1, e .if3 .left) }
-
 returns-5 : tie.Need-returns-5
 returns-5 c =
-    let e = c .before .before .before .before .before .before .before .before in
+    let e = c .before .before .before .before .before .before .before in
     let s = e .before .before .before in
     let a = s .before .before .args in
     let idx = a .indices .now in
     let z : Sized (a .settings) idx =
     record { right = sym (s .is-right .ensures) ∙ not-false _ (e .before .before .if1 .left); whole = omega (arith, e .before .if2 .left); few = omega (arith, e .if3 .left) } in
-    let none = sym (c .before .before .before .before .before .before .before .first-wide .ensures) ∙ ap foundAs (c .before .before .before .before .before .enum-told .given .1) in
-    sym (refuses-zero (a .settings) idx (a .room) z none _ (sym (c .before .before .before .before .first-early .ensures) ∙ ap foundAs (c .before .before .f2 .given .1)))
+    let none = sym (c .before .before .before .before .before .before .first-wide .ensures) ∙ ap foundAs (c .before .before .before .before .enum-told .given .1) in
+    sym (refuses-zero (a .settings) idx (a .room) z none _ (sym (c .before .before .before .first-early .ensures) ∙ ap foundAs (c .before .f2 .given .1)))
 
 enum-told-2 : tie.Need-enum-told-2
 enum-told-2 c = search needs
@@ -125,12 +109,10 @@ decide-spec =
     returns-3
     first-wide-requires
     enum-known-f
-    add-t17
     returns-4
     enum-told
     first-early-requires
     enum-known-f-2
-    add-t20
     returns-5
     enum-told-2
     add-needed

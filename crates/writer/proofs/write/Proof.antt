@@ -31,7 +31,7 @@ returns : tie.Need-returns
 returns c =
     let d = c .before .before .before .before .before .before .before in
     let a = d .before .before .before .args in
-    in-numbers (a .settings) (a .indices .now) (a .out .now)
+    in-numbers (a .settings) (a .indices .now) (a .out .now) (omega arith)
     (finishes (a .settings) (a .indices .now) (a .out .now) _ _ (sym (d .decide .ensures) ∙ c .before .before .before .before .before .octets .given .1)
     (c .before .before .put-image .ensures))
 
@@ -39,7 +39,7 @@ returns-2 : tie.Need-returns-2
 returns-2 c =
     let d = c .before .before .before in
     let a = d .before .before .before .args in
-    in-numbers (a .settings) (a .indices .now) (a .out .now)
+    in-numbers (a .settings) (a .indices .now) (a .out .now) (omega arith)
     (leaves (a .settings) (a .indices .now) (a .out .now) _ (sym (d .decide .ensures) ∙ c .before .r .given .1))
 
 pub write-spec : {M : Type 1} → statement M
