@@ -241,7 +241,7 @@ unfolding settling firstAgreeing onlyOne
 unsettled d = refl
 
 nothing-settles : settling (readings garbled (rowOf 2)) ≡ S.Unsettled
-nothing-settles = ap settling (readings-are garbled 2) ∙ ap₂ (λ (x y : Header). settling (x ∷ y ∷ [])) first-lost second-read ∙ unsettled (decodedAs (wordIn garbled 1) (message 1 0 1 0))
+nothing-settles = ap settling (readings-are garbled 2) ∙ ap₂ (λ (x y : Header). settling (x ∷ y ∷ [])) first-lost second-read ∙ unsettled (decodedAs (wordIn garbled 1) (message (settings 1 0) 1 0))
 
 module _ (least : ℕ) (codebook thresholds : List ℤ) (index report : List ℕ) where
   -- THE COUNTEREXAMPLE

@@ -474,7 +474,7 @@ module _ (codebook thresholds : List ℤ) (index report : List ℕ) where
                 (λ other. low) (λ other. inr no-ones) (λ other. lent);
             fails = λ h. true-false (sym taken ∙ h 0 (lit≤ tt) (omega (arith, start-size)));
             instead = mended-alone swallowed 0 0 least 1 (first-alone swallowed least (omega arith) taken (λ t a h. absurd (omega arith)))
-                (lit< tt) (lit≤ tt) low high codebook thresholds index report lent (decodedAs flippedWord (sentMessage says1 0)) refl e (λ q. omega (arith, sym (mended (sentMessage says1 0) 1 (message-lt 0 0 1 0) one-few .1) ∙ q, one-one));
+                (lit< tt) (lit≤ tt) low high codebook thresholds index report lent (decodedAs flippedWord (sentMessage says1 0)) refl e (λ q. omega (arith, sym (mended (sentMessage says1 0) 1 (message-lt (settings 0 0) 1 0) one-few .1) ∙ q, one-one));
           })
 
   -- NONE BEHIND: where a multiframe at 11 kHz follows the image, both are found, and nothing settles: 16

@@ -246,7 +246,7 @@ kept l m (Refuse r) e = tt
 kept l m (Accept c) e = e
 
 -- ---- the summary of what was written
-pub summary-is : (octets places ns : List ℕ) (c : ℕ) (settings : Sent) (speech bad end : ℕ) (l n : List ℕ) → 1 ≤ length places → length ns ≡ pairCount places
+pub summary-is : (octets places ns : List ℕ) (c : ℕ) (settings : Settings) (speech bad end : ℕ) (l n : List ℕ) → 1 ≤ length places → length ns ≡ pairCount places
     → n ≡ over l 0 (indexOctets * length places) (indexPart octets places ns)
     → settings ≡ settingsOf c → speech ≡ speechOf (length places) n → bad ≡ badPairs ns → end ≡ endOf (length places) n
     → record { settings = settings; multiframes = length places; speech = speech; bad = bad; end = end } ≡ summary octets places ns c

@@ -5,6 +5,7 @@ use layout::MultiframeLayout;
 use layout::ReadingLayout;
 use layout::UtteranceLayout;
 use refusals::Reading;
+use settings::Settings;
 use settling::Settlement;
 ghost use mathlib.Core.Path.{_≡_};
 ghost use Prim.Native.Nat.{_+_, _*_, _≤_, _<_};
@@ -22,7 +23,7 @@ ghost use Rattle.settling.specs.declared.Settlement.the-variants.{Settled};
 
 // Success: the settled settings, the number of multiframes, speech, the number of bad pairs, and end.
 pub struct Summary {
-    pub settings: settings::Settings,
+    pub settings: Settings,
     pub multiframes: usize,
     pub speech: usize,
     pub bad: usize,
