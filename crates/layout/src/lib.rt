@@ -1,7 +1,7 @@
 // The sizes that belong to the layout of a frame, a pair packet and a multiframe, written here once, and the three counters that the
 // standard keeps apart. A second layout (the extended front end) gets types of its own beside these.
 ghost use mathlib.Core.Path.{_≡_};
-ghost use Prim.Native.Nat.{_<_};
+ghost use Prim.Native.Nat.{_^_, _<_};
 ghost use Rattle.layout.specs.Layout.{frameIndices, frameBits, crcBits, dataBits, packetBits, multiframePairs, multiframeFrames, syncOctets, syncFirst, syncSecond, syncWord, inverseFirst, inverseSecond, headerOctets, streamOctets, multiframeOctets, mostMultiframes, mostFrames, indexOctets, reportOctets, codebookNumbers, thresholdNumbers, firstFrame, secondFrame, multiframeOf, firstPair, firstFrameOf, packetStart};
 
 // Six indices of 6 bits, then one of 8.
@@ -160,16 +160,16 @@ pub struct Pair(pub usize);
 pub struct Multiframe(pub usize);
 
 impl Pair {
-    // A pair of a recording: far more than an utterance has, few enough that its frames' numbers fit.
+    // Of any pair whose frames' numbers fit.
     pub fn first(self) -> Frame
-        requires { ⌜ self .0 < 1048576 ⌝ }
+        requires { ⌜ secondFrame (self .0) < 2 ^ 64 ⌝ }
         ensures { λ r. ⌜ r .0 ≡ firstFrame (self .0) ⌝ }
     {
         Frame(PacketLayout::FRAMES * self.0)
     }
 
     pub fn second(self) -> Frame
-        requires { ⌜ self .0 < 1048576 ⌝ }
+        requires { ⌜ secondFrame (self .0) < 2 ^ 64 ⌝ }
         ensures { λ r. ⌜ r .0 ≡ secondFrame (self .0) ⌝ }
     {
         Frame(PacketLayout::FRAMES * self.0 + 1)

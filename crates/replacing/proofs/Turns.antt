@@ -15,7 +15,7 @@ use borrow.Author.Tests.{eq-eqb, ne-eqb, lt-ltb, le-ltb}
 use Rattle.lists.specs.Parts.{over, length-over, over-in, over-behind}
 use Rattle.layout.specs.Layout.{frameIndices, pairOf, firstFrame}
 use Rattle.judging.specs.Laws.{Good}
-use Rattle.replacing.specs.Replacing.{runStart, runEnd, sourceBy, source, taken, pairsOctets, replaced}
+use Rattle.replacing.specs.Replacing.{runStart, runEnd, middleFrame, sourceBy, source, taken, pairsOctets, replaced}
 use Rattle.replacing.specs.Laws.{Run, run-of, in-run, good-stays, good-source, run-stop, replaced-at, replaced-length}
 use Rattle.replacing.specs.Steps.{Changed, Spread, Filled}
 
@@ -103,29 +103,38 @@ refit l m x y u v f g eu ev e c =
 
 -- ---- a run: at the start of the utterance, at its end, and between two good pairs
 module _ (l m : List ℕ) (a b pairs : ℕ) where
-  pub fill-start : a ≡ 0 → Spread l m (2 * b) 0 (2 * b) → Filled l m a b pairs
+  -- x and y are the run's first frame and the first behind it, as the code computes them
+  pub fill-start : (x y : ℕ) → x ≡ firstFrame a → y ≡ firstFrame b → a ≡ 0 → Spread l m y x y → Filled l m a b pairs
   unfolding sourceBy
-  fill-start z c =
-      refit l m (frameIndices * 0) (frameIndices * (2 * b)) (pairsOctets a) (pairsOctets b) (λ t. frameIndices * (2 * b) + t % frameIndices)
-      (λ t. frameIndices * sourceBy a b pairs (t / frameIndices) + t % frameIndices) (omega arith) refl (λ t h k. rw (eq-eqb a 0 z)) c
+  fill-start x y ex ey z c =
+      refit l m (frameIndices * x) (frameIndices * y) (pairsOctets a) (pairsOctets b) (λ t. frameIndices * y + t % frameIndices)
+      (λ t. frameIndices * sourceBy a b pairs (t / frameIndices) + t % frameIndices) (omega arith) (omega arith) (λ t h k. rw (eq-eqb a 0 z, ey)) c
 
-  pub fill-end : (a ≡ 0 → ⊥) → b ≡ pairs → Spread l m (2 * a - 1) (2 * a) (2 * b) → Filled l m a b pairs
+  pub fill-end : (x y : ℕ) → x ≡ firstFrame a → y ≡ firstFrame b → (a ≡ 0 → ⊥) → b ≡ pairs → Spread l m (x - 1) x y → Filled l m a b pairs
   unfolding sourceBy
-  fill-end n z c =
-      refit l m (frameIndices * (2 * a)) (frameIndices * (2 * b)) (pairsOctets a) (pairsOctets b) (λ t. frameIndices * (2 * a - 1) + t % frameIndices)
-      (λ t. frameIndices * sourceBy a b pairs (t / frameIndices) + t % frameIndices) refl refl (λ t h k. rw (ne-eqb a 0 n, eq-eqb b pairs z)) c
+  fill-end x y ex ey n z c =
+      refit l m (frameIndices * x) (frameIndices * y) (pairsOctets a) (pairsOctets b) (λ t. frameIndices * (x - 1) + t % frameIndices)
+      (λ t. frameIndices * sourceBy a b pairs (t / frameIndices) + t % frameIndices) (omega arith) (omega arith) (λ t h k. rw (ne-eqb a 0 n, eq-eqb b pairs z, ex)) c
 
-  pub fill-between : (n : List ℕ) → a < b → (a ≡ 0 → ⊥) → (b ≡ pairs → ⊥) → Spread l n (2 * a - 1) (2 * a) (a + b) → Spread n m (2 * b) (a + b) (2 * b) → Filled l m a b pairs
+  -- and p, q the frame behind its first half
+  pub fill-between : (n : List ℕ) (x y p q : ℕ) → x ≡ firstFrame a → y ≡ firstFrame b → p ≡ middleFrame a b → q ≡ middleFrame a b → a < b → (a ≡ 0 → ⊥) → (b ≡ pairs → ⊥)
+      → Spread l n (x - 1) x p → Spread n m y q y → Filled l m a b pairs
   unfolding sourceBy
-  fill-between n h na nb c d =
+  fill-between n x y p q ex ey ep eq h na nb c d =
+      let c′ : Changed l n (pairsOctets a) (frameIndices * (a + b)) (λ t. frameIndices * (2 * a - 1) + t % frameIndices) =
+      refit l n (frameIndices * x) (frameIndices * p) (pairsOctets a) (frameIndices * (a + b)) (λ t. frameIndices * (x - 1) + t % frameIndices)
+      (λ t. frameIndices * (2 * a - 1) + t % frameIndices) (omega arith) (omega arith) (λ t i j. rw ex) c in
+      let d′ : Changed n m (frameIndices * (a + b)) (pairsOctets b) (λ t. frameIndices * (2 * b) + t % frameIndices) =
+      refit n m (frameIndices * q) (frameIndices * y) (frameIndices * (a + b)) (pairsOctets b) (λ t. frameIndices * y + t % frameIndices)
+      (λ t. frameIndices * (2 * b) + t % frameIndices) (omega arith) (omega arith) (λ t i j. rw ey) d in
       then l n m (pairsOctets a) (frameIndices * (a + b)) (pairsOctets b) (λ t. frameIndices * (2 * a - 1) + t % frameIndices) (λ t. frameIndices * (2 * b) + t % frameIndices)
-      (λ t. frameIndices * sourceBy a b pairs (t / frameIndices) + t % frameIndices) (omega arith) (omega arith) c d
+      (λ t. frameIndices * sourceBy a b pairs (t / frameIndices) + t % frameIndices) (omega arith) (omega arith) c′ d′
       (λ t j k.
       let e : ltb (t / 7 - firstFrame a) (b - a) ≡ true = lt-ltb (t / 7 - firstFrame a) (b - a) (omega arith) in
       rw (ne-eqb a 0 na, ne-eqb b pairs nb, e))
       (λ t j k.
       let e : ltb (t / 7 - firstFrame a) (b - a) ≡ false = le-ltb (t / 7 - firstFrame a) (b - a) (omega arith) in
-      c .behind (frameIndices * (2 * b) + t % frameIndices) (omega arith) ∙ rw (ne-eqb a 0 na, ne-eqb b pairs nb, e))
+      c′ .behind (frameIndices * (2 * b) + t % frameIndices) (omega arith) ∙ rw (ne-eqb a 0 na, ne-eqb b pairs nb, e))
 
 -- ---- all pairs before k are done in m, which was l
 pub record Going (notes l m : List ℕ) (k : ℕ) : Type 0 where

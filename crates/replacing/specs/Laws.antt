@@ -17,7 +17,7 @@ use Rattle.lists.specs.Parts.{part, length-part}
 use Rattle.lists.specs.Rows.{each, length-each, each-at, same-each}
 use Rattle.layout.specs.Layout.{frameIndices, pairOf, firstFrame}
 use Rattle.judging.specs.Laws.{Good}
-use Rattle.replacing.specs.Replacing.{runStart, leading, runEnd, frameBefore, frameAfter, sourceBy, source, taken, pairsOctets, replaced}
+use Rattle.replacing.specs.Replacing.{runStart, leading, runEnd, frameBefore, frameAfter, middleFrame, sourceBy, source, taken, pairsOctets, replaced}
 
 -- ---- where a run begins and ends
 pub run-back : (l : List ℕ) (a : ℕ) → (getD l a 0 ≡ 0 → ⊥) → runStart l (suc a) ≡ runStart l a
@@ -100,13 +100,13 @@ module _ (notes : List ℕ) (a b : ℕ) (run : Run notes a b) where
   at-the-end i z e h k = in-run i h k ∙ rw (ne-eqb a 0 (λ y. omega arith), eq-eqb b (length notes) e)
 
   -- between two good pairs the first B frames become the good frame before, and the last B the good frame after
-  pub first-half : (i : ℕ) → 0 < a → b < length notes → firstFrame a ≤ i → i < firstFrame a + (b - a) → source notes i ≡ frameBefore a
+  pub first-half : (i : ℕ) → 0 < a → b < length notes → firstFrame a ≤ i → i < middleFrame a b → source notes i ≡ frameBefore a
   unfolding sourceBy
   first-half i z e h k =
       let s = run .some in
       in-run i h (omega arith) ∙ rw (ne-eqb a 0 (λ y. omega arith), ne-eqb b (length notes) (λ y. omega arith), lt-ltb (i - firstFrame a) (b - a) (omega arith))
 
-  pub second-half : (i : ℕ) → 0 < a → b < length notes → firstFrame a + (b - a) ≤ i → i < firstFrame b → source notes i ≡ frameAfter b
+  pub second-half : (i : ℕ) → 0 < a → b < length notes → middleFrame a b ≤ i → i < firstFrame b → source notes i ≡ frameAfter b
   unfolding sourceBy
   second-half i z e h k =
       let s = run .some in
