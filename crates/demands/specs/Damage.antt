@@ -20,7 +20,7 @@ use Rattle.packet.specs.Laws.{packetOf-good, packetOf-damaged}
 use Rattle.header_code.specs.Code.{flipsTo}
 use Rattle.header.specs.Message.{message}
 use Rattle.header.specs.Message.Laws.{message-lt}
-use Rattle.header.specs.Reading.{reading}
+use Rattle.header.specs.Reading.{decodedAs, reading}
 use Rattle.header.specs.Reading.Laws.{near, lost-at-three}
 use Rattle.header.specs.declared.Header.the-variants.{Codeword, Lost}
 use Rattle.writer.specs.Made.{Small, syncIn, headerIn, wordIn, packetIn}
@@ -88,9 +88,9 @@ module _ (u : Utterance) (s : List ℕ) (k : ℕ) (h : k < multiframesOf u) wher
   header-near = ap (λ (w : ℕ). ones (bitXor (wordIn s k) w)) (sym (image-word (u .rate) (u .kind) (u .indices) (multiframesOf u) k h))
 
   -- with at most two flips it is read as that codeword, and its flips are counted
-  pub header-read : headerFlips (imageOf u) s k ≤ 2 → reading (wordIn s k) ≡ Codeword (sentMessage u k) (headerFlips (imageOf u) s k)
+  pub header-read : headerFlips (imageOf u) s k ≤ 2 → reading (wordIn s k) ≡ Codeword (decodedAs (wordIn s k) (sentMessage u k))
   header-read few =
-      near (wordIn s k) (sentMessage u k) (message-lt (u .rate) (u .kind) (k + 1) 0) (subst (λ (n : ℕ). n ≤ 2) (sym header-near) few) ∙ ap (Codeword (sentMessage u k)) header-near
+      near (wordIn s k) (sentMessage u k) (message-lt (u .rate) (u .kind) (k + 1) 0) (subst (λ (n : ℕ). n ≤ 2) (sym header-near) few)
 
   -- and with three it is lost
   pub header-lost : headerFlips (imageOf u) s k ≡ 3 → reading (wordIn s k) ≡ Lost

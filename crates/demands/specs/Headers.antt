@@ -2,7 +2,7 @@
 -- read, or an only one that is untouched, settle the settings sent. Whatever happened to the pairs.
 -- Assumes nothing.
 use mathlib.Core.Path.{_≡_, sym, ap, _∙_, subst}
-use mathlib.Core.Bool.{Bool, true, false}
+use mathlib.Core.Bool.{true}
 use mathlib.Core.List.{List, [], _∷_}
 use mathlib.Core.Logic.{_⊎_, inl, inr}
 use Prim.Native.Nat.{ℕ, _+_, _%_, _≤_, _<_}
@@ -14,17 +14,20 @@ use lib.ListN.{length, getD, List·getD-eq-default}
 use borrow.Author.Tests.{eq-eqb, le-leb, lt-leb}
 use Rattle.lists.specs.Tests.{when, true-false}
 use Rattle.lists.specs.Rows.{each, length-each, each-at, same-each}
+use Rattle.header_code.specs.Code.{flipsTo}
 use Rattle.header.specs.Message.{message, rateOf, typeOf, countOf, expOf, commonBits}
 use Rattle.header.specs.Message.Laws.{rate-back, type-back, count-back, exp-back, common-rate, common-type, common-exp, common-message}
 use Rattle.header.specs.Reading as H
+use Rattle.header.specs.Reading.Laws.{lost-not-read, same-message}
+use Rattle.header.specs.declared.Decoded.{Decoded}
 use Rattle.header.specs.declared.Header.{Header}
 use Rattle.header.specs.declared.Header.the-variants.{Codeword, Lost}
 use Rattle.settling.specs.Settling.{among, readings, settling, headerNote}
 use Rattle.settling.specs.Laws.{Has, Earlier, First, settled-first, has-read, read-has, settled-same, two-settle, note-lost, only-clean, only-mended, only-lost}
-use Rattle.settling.specs.declared.Settings.the-variants.{Settled, Unsettled}
+use Rattle.settling.specs.declared.Settlement.the-variants.{Settled, Unsettled}
 use Rattle.writer.specs.Made.{wordIn}
 use Rattle.writer.specs.Image.{Utterance, multiframesOf, imageOf, rate-small, kind-small}
-use Rattle.demands.specs.Damage.{Damage, headerFlips, sentMessage, header-read, header-lost}
+use Rattle.demands.specs.Damage.{Damage, headerFlips, sentMessage, header-near, header-read, header-lost}
 use Rattle.demands.specs.Whole.{rowOf, readings-are}
 
 -- the common bits that the writer sends, whatever the counter
@@ -44,37 +47,22 @@ pub exp-sent : (u : Utterance) → expOf (sentCommon u) ≡ 0
 exp-sent u = common-exp (message (u .rate) (u .kind) 0 0) ∙ exp-back (u .rate) (u .kind) 0 0
 
 -- a header read as sent, in step and as settled, has its flips for a note
-note-of-read : (u : Utterance) (k f : ℕ) → headerNote (sentCommon u) k (Codeword (sentMessage u k) f) ≡ f
+note-of-read : (u : Utterance) (k w : ℕ) → headerNote (sentCommon u) k (Codeword (H.decodedAs w (sentMessage u k))) ≡ flipsTo w (sentMessage u k)
 unfolding headerNote
-note-of-read u k f =
+note-of-read u k w =
+    let f = flipsTo w (sentMessage u k) in
     let z : f + 0 + 0 ≡ f = omega arith in
     rw (eq-eqb (countOf (sentMessage u k)) ((k + 1) % 16) (count-back (u .rate) (u .kind) (k + 1) 0), eq-eqb (commonBits (sentMessage u k)) (sentCommon u) (common-sent u k)) z
 
-isRead : Header → Bool
-isRead (Codeword m f) = true
-isRead Lost = false
-
-lost-not-read : (m f : ℕ) → Lost ≡ Codeword m f → ⊥
-unfolding isRead
-lost-not-read m f e = true-false (sym (ap isRead e))
-
-messageIn : Header → ℕ
-messageIn (Codeword m f) = m
-messageIn Lost = 0
-
-same-message : (a b f g : ℕ) → Codeword a f ≡ Codeword b g → a ≡ b
-unfolding messageIn
-same-message a b f g e = ap messageIn e
-
--- what a header sent with this message is read as: up to two flips are mended and counted, three lose it
+-- what a header is read as whose word came for this message: up to two flips are mended and counted, three lose it
 abbrev pub heardAs : ℕ → ℕ → Header
-heardAs message flips = when (leb flips 2) (Codeword message flips) Lost
+heardAs w message = when (leb (flipsTo w message) H.mendable) (Codeword (H.decodedAs w message)) Lost
 
-pub heard-read : (message flips : ℕ) → flips ≤ 2 → heardAs message flips ≡ Codeword message flips
-heard-read message flips few = rw (le-leb flips 2 few)
+pub heard-read : (w message : ℕ) → flipsTo w message ≤ 2 → heardAs w message ≡ Codeword (H.decodedAs w message)
+heard-read w message few = rw (le-leb (flipsTo w message) 2 few)
 
-pub heard-lost : (message flips : ℕ) → 2 < flips → heardAs message flips ≡ Lost
-heard-lost message flips many = rw (lt-leb flips 2 many)
+pub heard-lost : (w message : ℕ) → 2 < flipsTo w message → heardAs w message ≡ Lost
+heard-lost w message many = rw (lt-leb (flipsTo w message) 2 many)
 
 -- two headers have at most two flips each
 pub record TwoReadable (u : Utterance) (s : List ℕ) : Type 0 where
@@ -103,22 +91,21 @@ enough u s d x = by (decLt (multiframesOf u) 2) x
 
 -- a header of at most three flips is read as it was sent, or is lost
 module _ (u : Utterance) (s : List ℕ) (k : ℕ) (h : k < multiframesOf u) (most : headerFlips (imageOf u) s k ≤ 3) where
-  pub heard : H.reading (wordIn s k) ≡ heardAs (sentMessage u k) (headerFlips (imageOf u) s k)
+  pub heard : H.reading (wordIn s k) ≡ heardAs (wordIn s k) (sentMessage u k)
   heard =
+      let e = header-near u s k h in
       elim (decLt 2 (headerFlips (imageOf u) s k)) [
-        | yes y ↦ let e : headerFlips (imageOf u) s k ≡ 3 = omega arith in header-lost u s k h e ∙ sym (heard-lost (sentMessage u k) (headerFlips (imageOf u) s k) y)
-        | no n ↦
-            let l : headerFlips (imageOf u) s k ≤ 2 = omega arith in
-            header-read u s k h l ∙ sym (heard-read (sentMessage u k) (headerFlips (imageOf u) s k) l)
+        | yes y ↦ header-lost u s k h (omega arith) ∙ sym (heard-lost (wordIn s k) (sentMessage u k) (omega arith))
+        | no n ↦ header-read u s k h (omega arith) ∙ sym (heard-read (wordIn s k) (sentMessage u k) (omega arith))
       ]
 
   -- so where it is read its common bits are those sent
-  read-sent : (a f : ℕ) → H.reading (wordIn s k) ≡ Codeword a f → commonBits a ≡ sentCommon u
-  read-sent a f e =
-      elim (decLt 2 (headerFlips (imageOf u) s k)) [
-        | yes y ↦ absurd (lost-not-read a f (sym (heard ∙ heard-lost (sentMessage u k) (headerFlips (imageOf u) s k) y) ∙ e))
+  read-sent : (d : Decoded) → H.reading (wordIn s k) ≡ Codeword d → commonBits (d .message) ≡ sentCommon u
+  read-sent d e =
+      elim (decLt 2 (flipsTo (wordIn s k) (sentMessage u k))) [
+        | yes y ↦ absurd (lost-not-read d (sym (heard ∙ heard-lost (wordIn s k) (sentMessage u k) y) ∙ e))
         | no n ↦
-            ap commonBits (same-message a (sentMessage u k) f (headerFlips (imageOf u) s k) (sym e ∙ heard ∙ heard-read (sentMessage u k) (headerFlips (imageOf u) s k) (omega arith)))
+            ap commonBits (same-message d (H.decodedAs (wordIn s k) (sentMessage u k)) (sym e ∙ heard ∙ heard-read (wordIn s k) (sentMessage u k) (omega arith)))
             ∙ common-sent u k
       ]
 
@@ -134,15 +121,15 @@ module _ (u : Utterance) (s : List ℕ) (j : ℕ) (others : (k : ℕ) → k < mu
   pub others-sent : (k d : ℕ) → (k ≡ j → ⊥) → Has (readings s (rowOf (multiframesOf u))) k d → d ≡ sentCommon u
   others-sent k d n x = by (decLt k (multiframesOf u))
     where
-      r : (a : ℕ) × ((f : ℕ) × ((getD hs k Lost ≡ Codeword a f) × (commonBits a ≡ d)))
+      r : (x : Decoded) × ((getD hs k Lost ≡ Codeword x) × (commonBits (x .message) ≡ d))
       r = has-read hs k d x
 
       by : Dec (k < multiframesOf u) → d ≡ sentCommon u
-      by (no o) = absurd (lost-not-read (r .0) (r .1 .0) (sym (List·getD-eq-default hs Lost (omega (arith, length-hs))) ∙ r .1 .1 .0))
+      by (no o) = absurd (lost-not-read (r .0) (sym (List·getD-eq-default hs Lost (omega (arith, length-hs))) ∙ r .1 .0))
       by (yes h) =
-          sym (r .1 .1 .1)
-          ∙ read-sent u s k h (others k h n) (r .0) (r .1 .0)
-          (sym (ap (λ (l : List Header). getD l k Lost) (readings-are s (multiframesOf u)) ∙ each-at (λ k. H.reading (wordIn s k)) (multiframesOf u) k Lost h) ∙ r .1 .1 .0)
+          sym (r .1 .1)
+          ∙ read-sent u s k h (others k h n) (r .0)
+          (sym (ap (λ (l : List Header). getD l k Lost) (readings-are s (multiframesOf u)) ∙ each-at (λ k. H.reading (wordIn s k)) (multiframesOf u) k Lost h) ∙ r .1 .0)
 
   -- so of two headers or more nothing else is settled
   pub settles-nothing-else : (d : ℕ) → 2 ≤ multiframesOf u → settling (readings s (rowOf (multiframesOf u))) ≡ Settled d → d ≡ sentCommon u
@@ -156,18 +143,22 @@ module _ (u : Utterance) (s : List ℕ) (most : (k : ℕ) → k < multiframesOf 
   abbrev flips : ℕ → ℕ
   flips k = headerFlips (imageOf u) s k
 
-  pub headers-read : readings s (rowOf m) ≡ each (λ k. heardAs (sentMessage u k) (flips k)) m
-  headers-read =
-      readings-are s m ∙ same-each (λ k. H.reading (wordIn s k)) (λ k. heardAs (sentMessage u k) (flips k)) m (λ k h. heard u s k h (most k h))
+  -- header k as it is heard
+  abbrev heardAt : ℕ → Header
+  heardAt k = heardAs (wordIn s k) (sentMessage u k)
 
-  header-is : (k : ℕ) → k < m → getD (readings s (rowOf m)) k Lost ≡ heardAs (sentMessage u k) (flips k)
-  header-is k h = ap (λ (l : List Header). getD l k Lost) headers-read ∙ each-at (λ k. heardAs (sentMessage u k) (flips k)) m k Lost h
+  pub headers-read : readings s (rowOf m) ≡ each (λ k. heardAs (wordIn s k) (sentMessage u k)) m
+  headers-read = readings-are s m ∙ same-each (λ k. H.reading (wordIn s k)) heardAt m (λ k h. heard u s k h (most k h))
+
+  header-is : (k : ℕ) → k < m → getD (readings s (rowOf m)) k Lost ≡ heardAt k
+  header-is k h = ap (λ (l : List Header). getD l k Lost) headers-read ∙ each-at heardAt m k Lost h
 
   -- a readable header is read with the common bits sent
   has-sent : (k : ℕ) → k < m → flips k ≤ 2 → Has (readings s (rowOf m)) k (sentCommon u)
   has-sent k h few =
       subst (Has (readings s (rowOf m)) k) (common-sent u k)
-      (read-has (readings s (rowOf m)) k (sentMessage u k) (flips k) (header-is k h ∙ heard-read (sentMessage u k) (flips k) few))
+      (read-has (readings s (rowOf m)) k (H.decodedAs (wordIn s k) (sentMessage u k))
+      (header-is k h ∙ heard-read (wordIn s k) (sentMessage u k) (omega (arith, header-near u s k h))))
 
   -- two readable headers settle the common bits sent, and so does an only one that is untouched
   pub settles : Settling u s → settling (readings s (rowOf m)) ≡ Settled (sentCommon u)
@@ -176,8 +167,10 @@ module _ (u : Utterance) (s : List ℕ) (most : (k : ℕ) → k < multiframesOf 
       let w = t .within in
       two-settle (readings s (rowOf m)) (sentCommon u) m (others-sent u s m (λ k h n. most k h)) (t .one) (t .two) l (has-sent (t .one) (omega arith) (t .few-of-one)) (has-sent (t .two) w (t .few-of-two))
   settles (inr x) =
-      ap settling headers-read ∙ ap (λ (n : ℕ). settling (each (λ k. heardAs (sentMessage u k) (flips k)) n)) (x .0)
-      ∙ ap (λ (f : ℕ). settling (heardAs (sentMessage u 0) f ∷ [])) (x .1) ∙ only-clean (sentMessage u 0) ∙ ap Settled (common-sent u 0)
+      let z : flipsTo (wordIn s 0) (sentMessage u 0) ≡ 0 = header-near u s 0 (omega (arith, x .0)) ∙ x .1 in
+      ap settling headers-read ∙ ap (λ (n : ℕ). settling (each heardAt n)) (x .0)
+      ∙ ap (λ (h : Header). settling (h ∷ [])) (heard-read (wordIn s 0) (sentMessage u 0) (omega arith))
+      ∙ only-clean (H.decodedAs (wordIn s 0) (sentMessage u 0)) z ∙ ap Settled (common-sent u 0)
 
   -- and nothing else settles anything: of two headers or more two are readable
   pub settled-readable : (c : ℕ) → 2 ≤ multiframesOf u → settling (readings s (rowOf (multiframesOf u))) ≡ Settled c → TwoReadable u s
@@ -187,7 +180,7 @@ module _ (u : Utterance) (s : List ℕ) (most : (k : ℕ) → k < multiframesOf 
       hs = readings s (rowOf (multiframesOf u))
 
       long : length (readings s (rowOf (multiframesOf u))) ≡ multiframesOf u
-      long = ap length headers-read ∙ length-each (λ k. heardAs (sentMessage u k) (flips k)) m
+      long = ap length headers-read ∙ length-each heardAt m
 
       f : First [] (readings s (rowOf (multiframesOf u))) c
       f = settled-first (readings s (rowOf (multiframesOf u))) c (omega (arith, long)) e
@@ -196,12 +189,13 @@ module _ (u : Utterance) (s : List ℕ) (most : (k : ℕ) → k < multiframesOf 
       inside : (k : ℕ) → Has (readings s (rowOf (multiframesOf u))) k c → (k < multiframesOf u) × (headerFlips (imageOf u) s k ≤ 2)
       inside k x = by (decLt k m) (decLt 2 (flips k))
         where
-          r : (a : ℕ) × ((g : ℕ) × ((getD (readings s (rowOf (multiframesOf u))) k Lost ≡ Codeword a g) × (commonBits a ≡ c)))
+          r : (x : Decoded) × ((getD (readings s (rowOf (multiframesOf u))) k Lost ≡ Codeword x) × (commonBits (x .message) ≡ c))
           r = has-read (readings s (rowOf (multiframesOf u))) k c x
 
           by : Dec (k < m) → Dec (2 < flips k) → (k < multiframesOf u) × (headerFlips (imageOf u) s k ≤ 2)
-          by (no o) y = absurd (lost-not-read (r .0) (r .1 .0) (sym (List·getD-eq-default (readings s (rowOf m)) Lost (omega (arith, long))) ∙ r .1 .1 .0))
-          by (yes h) (yes y) = absurd (lost-not-read (r .0) (r .1 .0) (sym (header-is k h ∙ heard-lost (sentMessage u k) (flips k) y) ∙ r .1 .1 .0))
+          by (no o) y = absurd (lost-not-read (r .0) (sym (List·getD-eq-default (readings s (rowOf m)) Lost (omega (arith, long))) ∙ r .1 .0))
+          by (yes h) (yes y) =
+              absurd (lost-not-read (r .0) (sym (header-is k h ∙ heard-lost (wordIn s k) (sentMessage u k) (omega (arith, header-near u s k h))) ∙ r .1 .0))
           by (yes h) (no y) = (h, omega arith)
 
       by : (among c [] ≡ true) ⊎ Earlier (readings s (rowOf (multiframesOf u))) (f .at) c → TwoReadable u s
@@ -218,20 +212,23 @@ module _ (u : Utterance) (s : List ℕ) (most : (k : ℕ) → k < multiframesOf 
   -- an only header that is touched settles nothing
   pub touched-unsettles : m ≡ 1 → (flips 0 ≡ 0 → ⊥) → settling (readings s (rowOf m)) ≡ Unsettled
   touched-unsettles one n =
-      ap settling headers-read ∙ ap (λ (i : ℕ). settling (each (λ k. heardAs (sentMessage u k) (flips k)) i)) one
+      let e = header-near u s 0 (omega (arith, one)) in
+      ap settling headers-read ∙ ap (λ (i : ℕ). settling (each heardAt i)) one
       ∙ elim (decLt 2 (flips 0)) [
-        | yes y ↦ ap (λ (h : Header). settling (h ∷ [])) (heard-lost (sentMessage u 0) (flips 0) y) ∙ only-lost
-        | no y ↦ ap (λ (h : Header). settling (h ∷ [])) (heard-read (sentMessage u 0) (flips 0) (omega arith)) ∙ only-mended (sentMessage u 0) (flips 0) n
+        | yes y ↦ ap (λ (h : Header). settling (h ∷ [])) (heard-lost (wordIn s 0) (sentMessage u 0) (omega arith)) ∙ only-lost
+        | no y ↦
+            ap (λ (h : Header). settling (h ∷ [])) (heard-read (wordIn s 0) (sentMessage u 0) (omega arith))
+            ∙ only-mended (H.decodedAs (wordIn s 0) (sentMessage u 0)) (λ z. n (sym e ∙ z))
       ]
 
   -- each header note is the number of flips there: three are lost, and that is note 3
   pub note-of-header : (k : ℕ) → k < m → headerNote (sentCommon u) k (getD (readings s (rowOf m)) k Lost) ≡ flips k
   note-of-header k h =
+      let e = header-near u s k h in
       ap (headerNote (sentCommon u) k) (header-is k h)
       ∙ elim (decLt 2 (flips k)) [
-        | yes y ↦ let l = most k h in ap (headerNote (sentCommon u) k) (heard-lost (sentMessage u k) (flips k) y) ∙ note-lost (sentCommon u) k ∙ omega arith
-        | no y ↦ ap (headerNote (sentCommon u) k) (heard-read (sentMessage u k) (flips k) (omega arith)) ∙ read-note k
+        | yes y ↦
+            let l = most k h in
+            ap (headerNote (sentCommon u) k) (heard-lost (wordIn s k) (sentMessage u k) (omega arith)) ∙ note-lost (sentCommon u) k ∙ omega arith
+        | no y ↦ ap (headerNote (sentCommon u) k) (heard-read (wordIn s k) (sentMessage u k) (omega arith)) ∙ note-of-read u k (wordIn s k) ∙ e
       ]
-    where
-      read-note : (k : ℕ) → headerNote (sentCommon u) k (Codeword (sentMessage u k) (flips k)) ≡ flips k
-      read-note k = note-of-read u k (flips k)

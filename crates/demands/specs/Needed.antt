@@ -7,7 +7,7 @@ use mathlib.Core.List.{List, [], _∷_, _++_}
 use mathlib.Core.Logic.{_⊎_, inl, inr}
 use Prim.Native.Nat.{ℕ, zero, suc, _+_, _*_, _/_, _%_, _^_, _≤_, _<_}
 use native.Mathlib.Omega.{arith}
-use lib.Bits.{bitXor, xor-lt, xor-mod, xor-self}
+use lib.Bits.{bitXor, xor-lt, xor-self}
 use lib.Count.{ones, onesIn}
 use lib.Dec.{lit<}
 use lib.IntN.{ℤ}
@@ -34,9 +34,9 @@ use Rattle.crc.specs.Crc.{crc, after, flip, Damaged}
 use Rattle.crc.specs.Damage.{length-flip, flip-burst}
 use Rattle.packet.specs.Packet.{packet, guarded, row, packetOf, stream}
 use Rattle.packet.specs.Laws.{length-packetOf, length-stream}
-use Rattle.header_code.specs.Code.{codeword, flipsTo, syndrome}
-use Rattle.header_code.specs.Code.Distance.{codeword-lt, codeword-low}
-use Rattle.header_code.specs.Code.Syndrome.{syndrome-xor, syndrome-codeword, codeword-of}
+use Rattle.header_code.specs.Code.{codeword, flipsTo}
+use Rattle.header_code.specs.Code.Distance.{codeword-lt}
+use Rattle.header_code.specs.Code.Syndrome.{codeword-xor}
 use Rattle.header_code.specs.Code.Examples.{three-from-rate-1}
 use Rattle.header.specs.Message.{message, rateOf, typeOf}
 use Rattle.header.specs.Message.Laws.{message-lt, message-back, message-counts, rate-masked, type-masked, count-masked, exp-shifted}
@@ -223,11 +223,7 @@ message-9 =
 
 -- the codewords of 8 kHz and 11 kHz differ by that of SampRate 1 alone
 codeword-9 : codeword 9 ≡ bitXor (codeword 8) (codeword 1)
-codeword-9 =
-    let w = bitXor (codeword 8) (codeword 1) in
-    let low : w % 2 ^ 16 ≡ 9 = xor-mod (codeword 8) (codeword 1) 16 ∙ ap₂ bitXor (codeword-low 8 (lit< tt)) (codeword-low 1 (lit< tt)) in
-    let fine : syndrome w ≡ 0 = syndrome-xor (codeword 8) (codeword 1) ∙ ap₂ bitXor (syndrome-codeword 8 (lit< tt)) (syndrome-codeword 1 (lit< tt)) in
-    ap codeword (sym low) ∙ codeword-of w (xor-lt 32 (codeword 8) (codeword 1) (codeword-lt 8 (lit< tt)) (codeword-lt 1 (lit< tt))) fine
+codeword-9 = codeword-xor 8 1 (lit< tt) (lit< tt)
 
 three-8 : flipsTo (bitXor (codeword 8) halfway) 8 ≡ 3
 unfolding onesIn

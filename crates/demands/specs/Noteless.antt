@@ -7,13 +7,8 @@ use mathlib.Core.List.{List, _++_}
 use Prim.Native.Nat.{ℕ, zero, suc, _+_, _-_, _*_, _/_, _%_, _≤_, _<_}
 use native.Mathlib.Decide.{decLt}
 use native.Mathlib.Omega.{arith}
-use lib.Arith.{bin-ind}
-use lib.Bits.{bitXor}
-use lib.Count.{ones, ones-step}
-use lib.Dec.{eqb}
 use lib.ListN.{length, take, drop, getD, length-take, List·getD-eq-default}
 use lib.Seq.{take-at, take-all, ext-getD, getD-take, getD-drop}
-use borrow.Author.Tests.{eqb-true}
 use Rattle.lists.specs.Tests.{when, true-false}
 use Rattle.lists.specs.Parts.{part, length-part, part-right}
 use Rattle.lists.specs.Rows.{joined, same-joined}
@@ -24,51 +19,37 @@ use Rattle.bits.specs.Laws.{length-bits, length-numbers}
 use Rattle.crc.specs.Crc.{Right}
 use Rattle.packet.specs.Packet.{indices, packet, apart, frameAt, packetOf, stream}
 use Rattle.packet.specs.Laws.{total-widths, packet-92, length-row, getD-row}
-use Rattle.header_code.specs.Code.{codeword, flipsTo}
-use Rattle.header_code.specs.Code.Syndrome.{same}
-use Rattle.header.specs.Message.{message, rateOf, typeOf, countOf, expOf, commonBits}
+use Rattle.header_code.specs.Code.{codeword}
+use Rattle.header_code.specs.Code.Distance.{no-flips}
+use Rattle.header.specs.Message.{message, rateOf, typeOf, countOf, expOf}
 use Rattle.header.specs.Message.Laws.{message-back, common-rate, common-type, common-exp, count-mod}
 use Rattle.header.specs.Reading as H
-use Rattle.header.specs.Reading.Laws.{reads}
+use Rattle.header.specs.Reading.Laws.{flips-counted, reads}
 use Rattle.header.specs.declared.Header.{Header}
 use Rattle.header.specs.declared.Header.the-variants.{Codeword, Lost}
 use Rattle.settling.specs.Settling.{headerNote}
+use Rattle.settling.specs.Laws.{note-zero, note-lost}
 use Rattle.replacing.specs.Speech.{lastNonzero, speechOf, endOf, place-le, place-stop, zero-behind, nonzero-at}
 use Rattle.writer.specs.Writing.{frameCount, multiframesFor, image}
 use Rattle.writer.specs.Made.{Small, syncIn, wordIn, streamIn, packetIn, framed, made-again, part-within, rows}
 use Rattle.writer.specs.Image.{image-made, words, streams}
 
 -- ---- a header with note 0 is a codeword with the settled common bits and the counter of its place
--- no ones, no number
-no-ones : (n : ℕ) → ones n ≡ 0 → n ≡ 0
-no-ones = bin-ind (λ (n : ℕ). ones n ≡ 0 → n ≡ 0) (λ e. refl) (λ n ih e. let z = ih (omega (arith, ones-step n)) in omega (arith, ones-step n))
-
-no-flips : (w m : ℕ) → flipsTo w m ≡ 0 → w ≡ codeword m
-unfolding flipsTo
-no-flips w m e = same w (codeword m) (no-ones (bitXor w (codeword m)) e)
-
 module _ (c k w : ℕ) where
-  -- a sum of 0
-  parts : (f : ℕ) (s t : Bool) → f + when s 0 4 + when t 0 8 ≡ 0 → (f ≡ 0) × (s ≡ true) × (t ≡ true)
-  parts f true true e = (omega arith, refl, refl)
-  parts f true false e = absurd (omega arith)
-  parts f false true e = absurd (omega arith)
-  parts f false false e = absurd (omega arith)
-
   pub clean-header : expOf c ≡ 0 → headerNote c k (H.reading w) ≡ 0 → w ≡ codeword (message (rateOf c) (typeOf c) (k + 1) 0)
-  unfolding headerNote
   clean-header x e = by (H.reading w) (reads w) e
     where
       by : (h : Header) → H.ReadAs w h → headerNote c k h ≡ 0 → w ≡ codeword (message (rateOf c) (typeOf c) (k + 1) 0)
-      by Lost r e = absurd (omega arith)
-      by (Codeword m f) r e =
-          let p = parts f (eqb (countOf m) ((k + 1) % 16)) (eqb (commonBits m) c) e in
-          let count : countOf m ≡ (k + 1) % 16 = eqb-true (countOf m) ((k + 1) % 16) (p .1) in
-          let common : commonBits m ≡ c = eqb-true (commonBits m) c (p .2) in
+      by Lost r e = absurd (omega (arith, note-lost c k))
+      by (Codeword d) r e =
+          let m = d .message in
+          let p = note-zero c k d (r .2) e in
+          let count = p .1 in
+          let common = p .2 in
           let rate : rateOf m ≡ rateOf c = sym (common-rate m) ∙ ap rateOf common in
           let kind : typeOf m ≡ typeOf c = sym (common-type m) ∙ ap typeOf common in
           let exp : expOf m ≡ 0 = sym (common-exp m) ∙ ap expOf common ∙ x in
-          no-flips w m (sym (r .1) ∙ p .0)
+          no-flips w m (sym (flips-counted w d (r .1)) ∙ p .0)
           ∙ ap codeword
           (sym (message-back m (r .0)) ∙ ap₂ (λ (a b : ℕ). message a b (countOf m) (expOf m)) rate kind ∙ ap₂ (message (rateOf c) (typeOf c)) count exp
           ∙ count-mod (rateOf c) (typeOf c) (k + 1) 0)

@@ -20,7 +20,7 @@ use Rattle.cutting.specs.Laws.{every, every-length, every-at, whole-image}
 use Rattle.header.specs.Reading as H
 use Rattle.header.specs.declared.Header.the-variants.{Lost}
 use Rattle.header.specs.Message.{rateOf, expOf}
-use Rattle.settling.specs.declared.Settings.the-variants as S
+use Rattle.settling.specs.declared.Settlement.the-variants as S
 use Rattle.settling.specs.Settling.{headerWord, readings, settling, headerNote}
 use Rattle.pairs.specs.Pairs.{streamAt, packetAt, pairCount, pairNotes}
 use Rattle.judging.specs.Judging.{badPairs}

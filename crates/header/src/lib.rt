@@ -7,9 +7,15 @@ ghost use Rattle.header_code.specs.Code.{parity, codeword, syndrome};
 ghost use Rattle.header.specs.Message.{message, rateOf, typeOf, countOf, expOf, commonBits};
 ghost use Rattle.header.specs.Reading.{reading};
 
-// What a received header is read as: a codeword's message with the number of flipped bits, or lost.
+// What is known of a header that is read: the codeword's message, and the number of flipped bits.
+pub struct Decoded {
+    pub message: u16,
+    pub flips: u32,
+}
+
+// What a received header is read as: a codeword, or lost.
 pub enum Header {
-    Codeword { message: u16, flips: u32 },
+    Codeword(Decoded),
     Lost,
 }
 
@@ -121,10 +127,10 @@ pub fn read(word: u32) -> Header
         return Header::Lost;
     };
     let codeword = word ^ pattern;
-    Header::Codeword {
+    Header::Codeword(Decoded {
         message: (codeword & 0xffff) as u16,
         flips: u32::count_ones(word ^ codeword),
-    }
+    })
 }
 
 // The message of its fields; of a number too large for its field the low bits count.

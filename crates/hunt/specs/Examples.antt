@@ -1,21 +1,18 @@
 -- Literal examples of the hunt: bit orders, numbers, places and limits that no law would notice if definition and code were changed alike.
 -- Assumes nothing.
-use mathlib.Core.Path.{_≡_, refl, sym, ap, ap₂, _∙_}
+use mathlib.Core.Path.{_≡_, refl, ap, ap₂, _∙_}
 use mathlib.Core.Bool.{Bool, true, false}
 use mathlib.Core.List.{List, [], _∷_}
-use Prim.Native.Nat.{ℕ, _+_, _/_, _%_, _≤_}
-use native.Mathlib.Nat.{div-div-eq-div-mul}
+use Prim.Native.Nat.{ℕ, _+_, _≤_}
 use native.Mathlib.Omega.{arith}
-use lib.Count.{ones, onesIn}
-use lib.Bits.{xor-self}
 use lib.Dec.{leb, lit<}
-use lib.ListN.{getD, replicate}
-use Rattle.gf2.specs.Light.{ones-in}
+use lib.ListN.{replicate}
 use Rattle.lists.specs.Tests.{both}
 use Rattle.lists.specs.Parts.{part}
 use Rattle.bits.specs.Bits.{field, value, fields, bits}
 use Rattle.header_code.specs.Code.{codeword, flipsTo}
-use Rattle.header_code.specs.Code.Examples.{count-1, three-from-zero}
+use Rattle.header_code.specs.Code.Distance.{itself-near}
+use Rattle.header_code.specs.Code.Examples.{of-octets, count-1, three-from-zero}
 use Rattle.header.specs.Reading.{reading}
 use Rattle.header.specs.Reading.Laws.{near, lost-at-three}
 use Rattle.hunt.specs.Hunt.{syncBits, headerBits, multiframeBits, sync, inRange, matches, readable, passes, numberOf, placeOf, testedOf}
@@ -65,23 +62,12 @@ pub record Table : Type 0 where
 
 -- ---- the two headers
 header-word : codeword 8 ≡ 0xEE0E0008
-header-word =
-    let w = codeword 8 in
-    let a : w % 256 ≡ 8 = ap (λ (l : List ℕ). getD l 0 0) count-1 in
-    let b : w / 256 % 256 ≡ 0 = ap (λ (l : List ℕ). getD l 1 0) count-1 in
-    let c : w / 256 / 256 % 256 ≡ 14 = ap (λ (n : ℕ). n % 256) (div-div-eq-div-mul w 256 256) ∙ ap (λ (l : List ℕ). getD l 2 0) count-1 in
-    let d : w / 256 / 256 / 256 ≡ 238 =
-    ap (λ (n : ℕ). n / 256) (div-div-eq-div-mul w 256 256) ∙ div-div-eq-div-mul w 65536 256 ∙ ap (λ (l : List ℕ). getD l 3 0) count-1 in
-    omega arith
-
-no-flips : flipsTo (codeword 8) 8 ≡ 0
-unfolding flipsTo onesIn
-no-flips = ap ones (xor-self (codeword 8)) ∙ sym (ones-in 1 0 (lit< tt))
+header-word = of-octets (codeword 8) 0x08 0x00 0x0E 0xEE count-1
 
 header-readable : readable (reading 0xEE0E0008) ≡ true
 header-readable =
-    let few : flipsTo (codeword 8) 8 ≤ 2 = omega (arith, no-flips) in
-    ap (λ (w : ℕ). readable (reading w)) (sym header-word) ∙ ap readable (near (codeword 8) 8 (lit< tt) few)
+    let few : flipsTo 0xEE0E0008 8 ≤ 2 = omega (arith, itself-near 0xEE0E0008 8 header-word) in
+    ap readable (near 0xEE0E0008 8 (lit< tt) few)
 
 header-lost : readable (reading 0x01010001) ≡ false
 header-lost = ap readable (lost-at-three 0x01010001 0 (lit< tt) three-from-zero)

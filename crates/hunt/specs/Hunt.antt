@@ -55,7 +55,7 @@ matches (a ∷ l) (b ∷ m) = alike a b + matches l m
 
 -- a header is readable if it is not lost
 abbrev pub readable : Header → Bool
-readable (Codeword m f) = true
+readable (Codeword d) = true
 readable Lost = false
 
 -- "at least T of the 16 bits match the sync and the header that follows is readable", of bits l at place t

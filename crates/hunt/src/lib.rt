@@ -39,10 +39,7 @@ fn is_readable(word: u32) -> bool
     ensures { λ r. ⌜ r ≡ readable (reading word) ⌝ }
 {
     match header::read(word) {
-        Header::Codeword {
-            message: _,
-            flips: _,
-        } => true,
+        Header::Codeword(_) => true,
         Header::Lost => false,
     }
 }

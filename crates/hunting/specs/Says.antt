@@ -17,8 +17,8 @@ use Rattle.layout.specs.Layout.{mostMultiframes, codebookNumbers, thresholdNumb
 use Rattle.bits.specs.Bits.{bits}
 use Rattle.cutting.specs.Cutting.{Cutting, cutting, whole as uncut}
 use Rattle.cutting.specs.Laws.{every, every-length, whole-image}
-use Rattle.settling.specs.declared.Settings.{Settings}
-use Rattle.settling.specs.declared.Settings.the-variants as S
+use Rattle.settling.specs.declared.Settlement.{Settlement}
+use Rattle.settling.specs.declared.Settlement.the-variants as S
 use Rattle.header.specs.Message.{rateOf, expOf}
 use Rattle.hunt.specs.Hunt.{multiframeBits, inRange, searched, passes, placesLeft, huntedFrom}
 use Rattle.hunt.specs.Laws as Hunt
@@ -76,7 +76,7 @@ abbrev LateVerdict : Verdict → Type 0
 LateVerdict (Refuse r) = Late r
 LateVerdict (Accept c) = Unit
 
-late-settled : (m bad pairs index report : ℕ) (s : Settings) → LateVerdict (settledVerdict m bad pairs index report s)
+late-settled : (m bad pairs index report : ℕ) (s : Settlement) → LateVerdict (settledVerdict m bad pairs index report s)
 unfolding settledVerdict roomVerdict
 late-settled m bad pairs index report S.Unsettled = tt
 late-settled m bad pairs index report (S.Settled c) =

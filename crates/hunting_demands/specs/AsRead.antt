@@ -26,7 +26,7 @@ use Rattle.hunting.specs.declared.Answer.the-variants.{Read}
 use Rattle.writer.specs.Laws.{few-multiframes, length-image}
 use Rattle.writer.specs.Made.{Small, syncIn, wordIn, streamIn, framed, made-again}
 use Rattle.writer.specs.Image.{image-sync, Utterance, multiframesOf, imageOf, is-accepted}
-use Rattle.demands.specs.Damage.{Damage, headerFlips, sentMessage, header-read}
+use Rattle.demands.specs.Damage.{Damage, header-read}
 use Rattle.demands.specs.NamesTheDamage as N
 use Rattle.hunting_demands.specs.Standing.{placeInRow, row, syncAt, wordAt, streamAt, at-most-all, passes-there, InARow, testedInRow, reads-in-a-row, image-made}
 
@@ -121,7 +121,7 @@ module _ (u : Utterance) (img s : List ℕ) (from at least : ℕ) (codebook thre
       begins = p .begins;
       inside = p .inside;
       stand = λ k h.
-          passes-there least (bits s) (placeInRow at k) (sentMessage u k) (headerFlips (imageOf u) img k) (p .syncs k h)
+          passes-there least (bits s) (placeInRow at k) (p .syncs k h)
           (ap reading (p .there .words k h) ∙ header-read u img k h (d .headers k h));
       none-before = p .none-before;
       none-behind = p .none-behind;

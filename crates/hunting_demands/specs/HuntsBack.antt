@@ -27,7 +27,7 @@ use Rattle.writer.specs.Laws.{few-multiframes, length-image}
 use Rattle.writer.specs.Made.{wordIn, streamIn, packetIn}
 use Rattle.writer.specs.Image as I
 use Rattle.writer.specs.Image.{Utterance, multiframesOf, pairsOf, imageOf, is-accepted}
-use Rattle.demands.specs.Damage.{Damage, headerFlips, sentMessage, header-read}
+use Rattle.demands.specs.Damage.{Damage, headerFlips, header-read}
 use Rattle.demands.specs.Damages.{unharmed}
 use Rattle.demands.specs.Whole.{Lent}
 use Rattle.demands.specs.ReadsBack.{spoken, padded, reads-mended}
@@ -81,7 +81,7 @@ module _ (u : Utterance) (s : List ℕ) (from at least : ℕ) (c : Carried u s f
   -- and each passes the test
   stands : (k : ℕ) → k < m → passes least (bits s) (placeInRow at k) ≡ true
   stands k h =
-      passes-there least (bits s) (placeInRow at k) (sentMessage u k) (headerFlips (imageOf u) got k) (c .syncs k h)
+      passes-there least (bits s) (placeInRow at k) (c .syncs k h)
       (ap reading (sym (image-word s at m (c .inside) k h)) ∙ header-read u got k h (damage .headers k h))
 
   pub in-a-row : InARow (bits s) from at least m

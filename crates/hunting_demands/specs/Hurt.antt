@@ -19,8 +19,8 @@ use Rattle.packet.specs.Laws.{length-stream}
 use Rattle.header_code.specs.Code.{codeword, flipsTo}
 use Rattle.header_code.specs.Code.Distance.{codeword-lt}
 use Rattle.header.specs.Message.Laws.{message-lt}
-use Rattle.header.specs.Reading.{reading}
-use Rattle.header.specs.Reading.Laws.{flips-of, mended, three-lost}
+use Rattle.header.specs.Reading.{decodedAs, reading}
+use Rattle.header.specs.Reading.Laws.{near, flips-of, three-lost}
 use Rattle.header.specs.declared.Header.the-variants.{Codeword, Lost}
 use Rattle.hunt.specs.Hunt.{syncBits, headerBits, multiframeBits, sync, matches, passes, searched}
 use Rattle.hunt.specs.Laws.{searched-all}
@@ -98,8 +98,12 @@ module _ (u : Utterance) (front : List Bool) (y : ℕ → List Bool) (flips : �
       flips-there =
           ap₂ (λ (a b : ℕ). ones (bitXor a b)) word-there (image-word (u .rate) (u .kind) (u .indices) m k h) ∙ flips-of (sentMessage u k) (flips k)
 
-      pub mended-there : ones (flips k) ≤ 2 → reading (wordAt (bits hurt) (placeInRow (length front) k)) ≡ Codeword (sentMessage u k) (ones (flips k))
-      mended-there le = ap reading word-there ∙ mended (sentMessage u k) (flips k) (message-lt (u .rate) (u .kind) (k + 1) 0) le
+      pub near-there : flipsTo (wordAt (bits hurt) (placeInRow (length front) k)) (sentMessage u k) ≡ ones (flips k)
+      near-there = ap (λ (w : ℕ). flipsTo w (sentMessage u k)) word-there ∙ flips-of (sentMessage u k) (flips k)
+
+      pub mended-there : ones (flips k) ≤ 2
+          → reading (wordAt (bits hurt) (placeInRow (length front) k)) ≡ Codeword (decodedAs (wordAt (bits hurt) (placeInRow (length front) k)) (sentMessage u k))
+      mended-there le = near (wordAt l (placeInRow at k)) (sentMessage u k) (message-lt (u .rate) (u .kind) (k + 1) 0) (omega (arith, near-there))
 
       pub lost-there : ones (flips k) ≡ 3 → reading (wordAt (bits hurt) (placeInRow (length front) k)) ≡ Lost
       lost-there e = ap reading word-there ∙ three-lost (sentMessage u k) (flips k) (message-lt (u .rate) (u .kind) (k + 1) 0) e
@@ -108,7 +112,7 @@ module _ (u : Utterance) (front : List Bool) (y : ℕ → List Bool) (flips : �
       match-there least = subst (λ (x : List Bool). least ≤ matches x sync) (sym sync-there)
 
       pub passes-hurt : (least : ℕ) → least ≤ matches (y k) sync → ones (flips k) ≤ 2 → passes least (bits hurt) (placeInRow (length front) k) ≡ true
-      passes-hurt least match le = passes-there least l (placeInRow at k) (sentMessage u k) (ones (flips k)) (match-there least match) (mended-there le)
+      passes-hurt least match le = passes-there least l (placeInRow at k) (match-there least match) (mended-there le)
 
     pub inside-there : length front + multiframeBits * multiframesOf u ≤ searched (bits hurt)
     inside-there = omega (arith, searched-are, f .around)

@@ -2,12 +2,12 @@
 -- not found, and the second has eight and is a codeword of another rate; all else is as it was sent. The reading succeeds and every note is 0, yet
 -- rate, count and speech are not those sent: only the bits outside and the places tested tell. The octet reader refuses the same octets.
 -- Assumes nothing.
-use Prim.Native.Nat.{ℕ, zero, suc, _+_, _-_, _*_, _/_, _%_, _^_, _≤_, _<_}
+use Prim.Native.Nat.{ℕ, zero, suc, _+_, _-_, _*_, _/_, _^_, _≤_, _<_}
 use mathlib.Core.Path.{_≡_, refl, sym, ap, ap₂, _∙_, subst}
 use mathlib.Core.List.{List, [], _∷_, _++_, append-nil}
 use mathlib.Core.Logic.{inl}
 use mathlib.Core.Bool.{Bool, true, false, xor}
-use native.Mathlib.Nat.{le-of-eq, div-div-eq-div-mul}
+use native.Mathlib.Nat.{le-of-eq}
 use native.Mathlib.Omega.{arith}
 use lib.Bits.{bitXor}
 use lib.Count.{ones, onesIn}
@@ -25,17 +25,19 @@ use Rattle.bits.specs.Bits.{field, fields, value, laid, numbers, bits, octets}
 use Rattle.bits.specs.Laws.{length-bits}
 use Rattle.crc.specs.Crc.{after, crc}
 use Rattle.packet.specs.Packet.{guarded, packet, row, packetOf, stream}
-use Rattle.header_code.specs.Code.{codeword, flipsTo, syndrome}
-use Rattle.header_code.specs.Code.Syndrome.{syndrome-xor, syndrome-codeword, codeword-of}
+use Rattle.header_code.specs.Code.{codeword, flipsTo}
+use Rattle.header_code.specs.Code.Distance.{itself-near}
+use Rattle.header_code.specs.Code.Syndrome.{codeword-xor}
 use Rattle.header_code.specs.Code.Examples as E
 use Rattle.header.specs.Message.{message}
 use Rattle.header.specs.Message.Laws.{message-lt, message-counts, packed}
-use Rattle.header.specs.Reading.{reading}
+use Rattle.header.specs.Reading.{decodedAs, reading}
 use Rattle.header.specs.Reading.Laws.{near}
+use Rattle.header.specs.declared.Decoded.{Decoded}
 use Rattle.header.specs.declared.Header.{Header}
 use Rattle.header.specs.declared.Header.the-variants.{Codeword, Lost}
 use Rattle.settling.specs.Settling.{readings, settling, firstAgreeing, onlyOne}
-use Rattle.settling.specs.declared.Settings.the-variants as S
+use Rattle.settling.specs.declared.Settlement.the-variants as S
 use Rattle.hunt.specs.Hunt.{syncBits, multiframeBits, fewestMatches, sync, matches, passes, searched}
 use Rattle.hunt.specs.Laws.{searched-all}
 use Rattle.reader.specs.Reading as R
@@ -92,29 +94,17 @@ abbrev pub garbled : List ℕ
 garbled = made words streams 2
 
 -- ---- the words of the three headers
-word-of : (w a b c d : ℕ) → E.octets w ≡ a ∷ b ∷ c ∷ d ∷ [] → w ≡ a + 256 * b + 65536 * c + 16777216 * d
-word-of w a b c d e =
-    let p : w % 256 ≡ a = ap (λ (l : List ℕ). getD l 0 0) e in
-    let q : w / 256 % 256 ≡ b = ap (λ (l : List ℕ). getD l 1 0) e in
-    let r : w / 256 / 256 % 256 ≡ c = ap (λ (n : ℕ). n % 256) (div-div-eq-div-mul w 256 256) ∙ ap (λ (l : List ℕ). getD l 2 0) e in
-    let s : w / 256 / 256 / 256 ≡ d =
-    ap (λ (n : ℕ). n / 256) (div-div-eq-div-mul w 256 256) ∙ div-div-eq-div-mul w 65536 256 ∙ ap (λ (l : List ℕ). getD l 3 0) e in
-    omega arith
-
 first-word : codeword (message 0 0 1 0) ≡ 0xEE0E0008
-first-word = ap codeword (message-counts .0) ∙ word-of (codeword 8) 0x08 0x00 0x0E 0xEE E.count-1
+first-word = ap codeword (message-counts .0) ∙ E.of-octets (codeword 8) 0x08 0x00 0x0E 0xEE E.count-1
 
 second-word : codeword (message 0 0 2 0) ≡ 0x0D1D0010
-second-word = ap codeword (message-counts .1) ∙ word-of (codeword 16) 0x10 0x00 0x1D 0x0D E.count-2
+second-word = ap codeword (message-counts .1) ∙ E.of-octets (codeword 16) 0x10 0x00 0x1D 0x0D E.count-2
 
 -- the sum of two codewords is one
 heard-word : codeword (message 1 0 1 0) ≡ 0x3F0F0009
 heard-word =
-    let e : bitXor (codeword 8) (codeword 1) ≡ 0x3F0F0009 =
-    ap₂ bitXor (word-of (codeword 8) 0x08 0x00 0x0E 0xEE E.count-1) (word-of (codeword 1) 0x01 0x00 0x01 0xD1 E.rate-1) in
     let m : message 1 0 1 0 ≡ 9 = sym (packed 1 0 1 0) in
-    ap codeword m
-    ∙ codeword-of 0x3F0F0009 (lit< tt) (sym (ap syndrome e) ∙ syndrome-xor (codeword 8) (codeword 1) ∙ ap₂ bitXor (syndrome-codeword 8 (lit< tt)) (syndrome-codeword 1 (lit< tt)))
+    ap codeword m ∙ codeword-xor 8 1 (lit< tt) (lit< tt) ∙ ap₂ bitXor (E.of-octets (codeword 8) 0x08 0x00 0x0E 0xEE E.count-1) E.codeword-1
 
 -- ---- no place from bit 1 to bit 1,151 has twelve matches
 is-true : (b : Bool) → T b → b ≡ true
@@ -195,13 +185,11 @@ second-flips =
 first-lost : reading (wordIn garbled 0) ≡ Lost
 first-lost = header-lost sent garbled 0 (lit< tt) first-flips
 
-second-read : reading (wordIn garbled 1) ≡ Codeword (message 1 0 1 0) 0
-unfolding flipsTo onesIn
-second-read =
-    let w = wordIn garbled 1 in
-    let c = message 1 0 1 0 in
-    let e : flipsTo w c ≡ 0 = ap₂ (λ (a b : ℕ). ones (bitXor a b)) (word-came 1 (lit< tt)) heard-word ∙ sym (ones-in 1 0 (lit< tt)) in
-    near w c (message-lt 1 0 1 0) (omega arith) ∙ ap (Codeword c) e
+second-clean : flipsTo (wordIn garbled 1) (message 1 0 1 0) ≡ 0
+second-clean = itself-near (wordIn garbled 1) (message 1 0 1 0) (heard-word ∙ sym (word-came 1 (lit< tt)))
+
+second-read : reading (wordIn garbled 1) ≡ Codeword (decodedAs (wordIn garbled 1) (message 1 0 1 0))
+second-read = near (wordIn garbled 1) (message 1 0 1 0) (message-lt 1 0 1 0) (omega (arith, second-clean))
 
 -- ---- what the hunting reader finds: the second multiframe alone
 module _ (least : ℕ) (low : fewestMatches ≤ least) (high : least ≤ syncBits) where
@@ -213,7 +201,7 @@ module _ (least : ℕ) (low : fewestMatches ≤ least) (high : least ≤ syncBit
   not-before (suc j) h = unlike-fails least (bits garbled) (suc j) (omega (arith, few-match j (omega arith)))
 
   second-passes : passes least (bits garbled) multiframeBits ≡ true
-  second-passes = passes-there least (bits garbled) multiframeBits (message 1 0 1 0) 0 (syncs-match 1 (lit< tt)) (ap reading (stands .words 1 (lit< tt)) ∙ second-read)
+  second-passes = passes-there least (bits garbled) multiframeBits (syncs-match 1 (lit< tt)) (ap reading (stands .words 1 (lit< tt)) ∙ second-read)
 
   second-alone : InARow (bits garbled) 0 multiframeBits least 1
   second-alone = record {
@@ -246,12 +234,12 @@ heard-stands = record { words = word; streams = body }
     body (suc k) h = absurd (omega arith)
 
 -- ---- what the octet reader says: one header is lost, so no two agree
-unsettled : settling (Lost ∷ Codeword (message 1 0 1 0) 0 ∷ []) ≡ S.Unsettled
+unsettled : (d : Decoded) → settling (Lost ∷ Codeword d ∷ []) ≡ S.Unsettled
 unfolding settling firstAgreeing onlyOne
-unsettled = refl
+unsettled d = refl
 
 nothing-settles : settling (readings garbled (rowOf 2)) ≡ S.Unsettled
-nothing-settles = ap settling (readings-are garbled 2) ∙ ap₂ (λ (x y : Header). settling (x ∷ y ∷ [])) first-lost second-read ∙ unsettled
+nothing-settles = ap settling (readings-are garbled 2) ∙ ap₂ (λ (x y : Header). settling (x ∷ y ∷ [])) first-lost second-read ∙ unsettled (decodedAs (wordIn garbled 1) (message 1 0 1 0))
 
 module _ (least : ℕ) (codebook thresholds : List ℤ) (index report : List ℕ) where
   -- THE COUNTEREXAMPLE

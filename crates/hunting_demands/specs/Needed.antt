@@ -30,13 +30,14 @@ use Rattle.header_code.specs.Code.{codeword}
 use Rattle.header_code.specs.Code.Distance.{codeword-lt}
 use Rattle.header.specs.Message.{message, rateOf, expOf, commonBits}
 use Rattle.header.specs.Message.Laws.{message-lt, rate-back, common-rate}
-use Rattle.header.specs.Reading.{reading}
+use Rattle.header.specs.Reading.{decodedAs, reading}
 use Rattle.header.specs.Reading.Laws.{mended}
+use Rattle.header.specs.declared.Decoded.{Decoded}
 use Rattle.header.specs.declared.Header.{Header}
 use Rattle.header.specs.declared.Header.the-variants.{Codeword}
 use Rattle.settling.specs.Settling.{readings, settling, firstAgreeing, onlyOne}
 use Rattle.settling.specs.Laws.{only-clean, only-mended}
-use Rattle.settling.specs.declared.Settings.the-variants as S
+use Rattle.settling.specs.declared.Settlement.the-variants as S
 use Rattle.hunt.specs.Hunt.{syncBits, headerBits, multiframeBits, fewestMatches, inRange, sync, matches, passes, searched, placesLeft}
 use Rattle.hunt.specs.Laws.{searched-all}
 use Rattle.reader.specs.Reading as R
@@ -153,9 +154,9 @@ module _ (u : Utterance) (front : List Bool) (y : ℕ → List Bool) (flips : �
 
 -- ---- where the headers found settle nothing, the hunting reader gives the octet reader's 16
 -- two headers with different common bits settle nothing
-unlike : (a b f g : ℕ) → (commonBits b ≡ commonBits a → ⊥) → settling (Codeword a f ∷ Codeword b g ∷ []) ≡ S.Unsettled
+unlike : (a b : Decoded) → (commonBits (b .message) ≡ commonBits (a .message) → ⊥) → settling (Codeword a ∷ Codeword b ∷ []) ≡ S.Unsettled
 unfolding settling firstAgreeing onlyOne
-unlike a b f g differ = rw (ne-eqb (commonBits b) (commonBits a) differ)
+unlike a b differ = rw (ne-eqb (commonBits (b .message)) (commonBits (a .message)) differ)
 
 module _ (s : List ℕ) (from at least m : ℕ) (r : InARow (bits s) from at least m) (some : 0 < m) (few : m ≤ mostMultiframes)
     (low : fewestMatches ≤ least) (high : least ≤ syncBits) (codebook thresholds : List ℤ) (index report : List ℕ) (lent : Lent m codebook thresholds index report) where
@@ -172,18 +173,18 @@ module _ (s : List ℕ) (from at least m : ℕ) (r : InARow (bits s) from at lea
   header-found k h = ap reading (image-word s at m (r .inside) k h)
 
   -- so with an only header that was mended
-  mended-alone : (c f : ℕ) → m ≡ 1 → reading (wordAt (bits s) (placeInRow at 0)) ≡ Codeword c f → (f ≡ 0 → ⊥)
+  mended-alone : (d : Decoded) → m ≡ 1 → reading (wordAt (bits s) (placeInRow at 0)) ≡ Codeword d → (d .flips ≡ 0 → ⊥)
       → huntingReading s from least codebook thresholds index report ≡ outcome (Refused (Octets Unsettled)) index report
-  mended-alone c f one e touched =
+  mended-alone d one e touched =
       unsettled (ap settling (readings-are got m ∙ ap (each (λ k. reading (wordIn got k))) one) ∙ ap (λ (h : Header). settling (h ∷ [])) (header-found 0 some ∙ e)
-      ∙ only-mended c f touched)
+      ∙ only-mended d touched)
 
   -- and with two of different common bits
-  two-differ : (a b f g : ℕ) → m ≡ 2 → reading (wordAt (bits s) (placeInRow at 0)) ≡ Codeword a f → reading (wordAt (bits s) (placeInRow at 1)) ≡ Codeword b g
-      → (commonBits b ≡ commonBits a → ⊥) → huntingReading s from least codebook thresholds index report ≡ outcome (Refused (Octets Unsettled)) index report
-  two-differ a b f g two ea eb differ =
+  two-differ : (a b : Decoded) → m ≡ 2 → reading (wordAt (bits s) (placeInRow at 0)) ≡ Codeword a → reading (wordAt (bits s) (placeInRow at 1)) ≡ Codeword b
+      → (commonBits (b .message) ≡ commonBits (a .message) → ⊥) → huntingReading s from least codebook thresholds index report ≡ outcome (Refused (Octets Unsettled)) index report
+  two-differ a b two ea eb differ =
       unsettled (ap settling (readings-are got m ∙ ap (each (λ k. reading (wordIn got k))) two)
-      ∙ ap₂ (λ (h i : Header). settling (h ∷ i ∷ [])) (header-found 0 some ∙ ea) (header-found 1 (omega arith) ∙ eb) ∙ unlike a b f g differ)
+      ∙ ap₂ (λ (h i : Header). settling (h ∷ i ∷ [])) (header-found 0 some ∙ ea) (header-found 1 (omega arith) ∙ eb) ∙ unlike a b differ)
 
 -- ---- where the settings are settled and the index buffer is too short, the octet reader gives 18
 module _ (s : List ℕ) (m : ℕ) (some : 0 < m) (few : m ≤ mostMultiframes) (size : length s ≡ multiframeOctets * m)
@@ -418,8 +419,8 @@ module _ (codebook thresholds : List ℤ) (index report : List ℕ) where
           (refuses-18 (foundImage clean1 (row 0 1)) 1 (lit< tt) (lit≤ tt) (image-size clean1 0 1 (clean-row .inside)) (image-sync clean1 0 1 (clean-row .inside)) codebook thresholds
           index report codebook-size thresholds-size (sentCommon says1)
           (ap settling (readings-are (foundImage clean1 (row 0 1)) 1) ∙ ap (λ (h : Header). settling (h ∷ []))
-          (ap reading (image-word clean1 0 1 (clean-row .inside) 0 (lit< tt)) ∙ H.mended-there says1 [] (λ k. sync) (λ k. 0) [] 0 clean-fits 0 (lit< tt) none-few ∙ ap (Codeword (sentMessage says1 0)) no-ones)
-          ∙ only-clean (sentMessage says1 0) ∙ ap S.Settled (common-sent says1 0))
+          (ap reading (image-word clean1 0 1 (clean-row .inside) 0 (lit< tt)) ∙ H.mended-there says1 [] (λ k. sync) (λ k. 0) [] 0 clean-fits 0 (lit< tt) none-few)
+          ∙ only-clean (decodedAs (wordAt (bits clean1) 0) (sentMessage says1 0)) (H.near-there says1 [] (λ k. sync) (λ k. 0) [] 0 clean-fits 0 (lit< tt) ∙ no-ones) ∙ ap S.Settled (common-sent says1 0))
           (record { rate = λ e. rate-not-2 says1 (sym (rate-sent says1) ∙ e); exp = exp-sent says1 }) short);
     }
 
@@ -448,8 +449,9 @@ module _ (codebook thresholds : List ℤ) (index report : List ℕ) where
             fails = ⊎-elim (λ h. omega arith) (λ e. omega (arith, H.flips-there says1 [] (λ k. sync) (λ k. 1) [] 0 f 0 (lit< tt), one-one));
             instead = mended-alone mended1 0 0 least 1
                 (first-alone mended1 least (omega arith) (H.passes-hurt says1 [] (λ k. sync) (λ k. 1) [] 0 f 0 (lit< tt) least (sync-enough least high) one-few) (λ t a h. absurd (omega arith)))
-                (lit< tt) (lit≤ tt) low high codebook thresholds index report lent (sentMessage says1 0) (ones 1) refl
-                (H.mended-there says1 [] (λ k. sync) (λ k. 1) [] 0 f 0 (lit< tt) one-few) (λ e. omega (arith, one-one));
+                (lit< tt) (lit≤ tt) low high codebook thresholds index report lent _ refl
+                (H.mended-there says1 [] (λ k. sync) (λ k. 1) [] 0 f 0 (lit< tt) one-few)
+                (λ e. omega (arith, sym (H.near-there says1 [] (λ k. sync) (λ k. 1) [] 0 f 0 (lit< tt)) ∙ e, one-one));
           }
 
       -- NONE BEFORE: a sync and a header with one flip in front of the image are taken for a multiframe, which swallows the true one: 16
@@ -457,13 +459,13 @@ module _ (codebook thresholds : List ℤ) (index report : List ℕ) where
       none-before-needed =
           let f = start-fits in
           let size = H.searched-are says1 falseStart (λ k. sync) (λ k. 0) [] 6 f in
-          let e : reading (wordAt (bits swallowed) 0) ≡ Codeword (sentMessage says1 0) (ones 1) =
+          let e : reading (wordAt (bits swallowed) 0) ≡ Codeword (decodedAs flippedWord (sentMessage says1 0)) =
           ap (λ (x : List Bool). reading (value x)) (H.front-there says1 falseStart (λ k. sync) (λ k. 0) [] 6 f 16 32 (omega (arith, start-size)))
-          ∙ ap reading (word-in sync flippedWord [] sync-size flipped-lt) ∙ mended (sentMessage says1 0) 1 (message-lt 0 0 1 0) one-few in
+          ∙ ap reading (word-in sync flippedWord [] sync-size flipped-lt) ∙ mended (sentMessage says1 0) 1 (message-lt 0 0 1 0) one-few .0 in
           let match : least ≤ matches (syncAt (bits swallowed) 0) sync =
           subst (λ (x : List Bool). least ≤ matches x sync)
           (sym (H.front-there says1 falseStart (λ k. sync) (λ k. 0) [] 6 f 0 16 (omega (arith, start-size)) ∙ sync-in sync flippedWord [] sync-size)) (sync-enough least high) in
-          let taken : passes least (bits swallowed) 0 ≡ true = passes-there least (bits swallowed) 0 (sentMessage says1 0) (ones 1) match e in
+          let taken : passes least (bits swallowed) 0 ≡ true = passes-there least (bits swallowed) 0 match e in
           subst (λ (at : ℕ). Needed NoneBefore says1 swallowed 0 at least codebook thresholds index report (Octets Unsettled)) start-size
           (record {
             others = hurt-others says1 falseStart (λ k. sync) (λ k. 0) [] 6 f 0 least codebook thresholds index report NoneBefore (λ other. omega arith)
@@ -471,7 +473,7 @@ module _ (codebook thresholds : List ℤ) (index report : List ℕ) where
                 (λ other. low) (λ other. inr no-ones) (λ other. lent);
             fails = λ h. true-false (sym taken ∙ h 0 (lit≤ tt) (omega (arith, start-size)));
             instead = mended-alone swallowed 0 0 least 1 (first-alone swallowed least (omega arith) taken (λ t a h. absurd (omega arith)))
-                (lit< tt) (lit≤ tt) low high codebook thresholds index report lent (sentMessage says1 0) (ones 1) refl e (λ q. omega (arith, one-one));
+                (lit< tt) (lit≤ tt) low high codebook thresholds index report lent (decodedAs flippedWord (sentMessage says1 0)) refl e (λ q. omega (arith, sym (mended (sentMessage says1 0) 1 (message-lt 0 0 1 0) one-few .1) ∙ q, one-one));
           })
 
   -- NONE BEHIND: where a multiframe at 11 kHz follows the image, both are found, and nothing settles: 16
@@ -481,13 +483,13 @@ module _ (codebook thresholds : List ℤ) (index report : List ℕ) where
       let f = other-fits in
       let size = H.searched-are says1 [] (λ k. sync) (λ k. 0) other 144 f in
       let first = H.mended-there says1 [] (λ k. sync) (λ k. 0) other 144 f 0 (lit< tt) none-few in
-      let second : reading (wordAt (bits followed) 1152) ≡ Codeword (sentMessage says1At11 0) (ones 0) =
+      let second : reading (wordAt (bits followed) 1152) ≡ Codeword (decodedAs otherWord (sentMessage says1At11 0)) =
       ap (λ (x : List Bool). reading (value x)) (H.behind-there says1 [] (λ k. sync) (λ k. 0) other 144 f 1168 32 (lit≤ tt))
-      ∙ ap reading (word-in sync otherWord (stream (lone 1) 0 multiframePairs) sync-size other-lt) ∙ mended (sentMessage says1At11 0) 0 (message-lt 1 0 1 0) none-few in
+      ∙ ap reading (word-in sync otherWord (stream (lone 1) 0 multiframePairs) sync-size other-lt) ∙ mended (sentMessage says1At11 0) 0 (message-lt 1 0 1 0) none-few .0 in
       let match : least ≤ matches (syncAt (bits followed) 1152) sync =
       subst (λ (x : List Bool). least ≤ matches x sync)
       (sym (H.behind-there says1 [] (λ k. sync) (λ k. 0) other 144 f 1152 16 (lit≤ tt) ∙ sync-in sync otherWord (stream (lone 1) 0 multiframePairs) sync-size)) (sync-enough least high) in
-      let taken : passes least (bits followed) 1152 ≡ true = passes-there least (bits followed) 1152 (sentMessage says1At11 0) (ones 0) match second in
+      let taken : passes least (bits followed) 1152 ≡ true = passes-there least (bits followed) 1152 match second in
       record {
         others = hurt-others says1 [] (λ k. sync) (λ k. 0) other 144 f 0 least codebook thresholds index report NoneBehind (λ o. lit≤ tt)
             (λ o k. sync-enough least high) (λ o k. none-few) (λ o t a h. absurd (omega arith)) (λ o. absurd (o refl)) (λ o. low) (λ o. inr no-ones)
@@ -502,7 +504,7 @@ module _ (codebook thresholds : List ℤ) (index report : List ℕ) where
               none-before = λ t a h. absurd (omega arith);
               none-behind = λ t a h. absurd (omega arith);
             })
-            (lit< tt) (lit≤ tt) low high codebook thresholds index report lent (sentMessage says1 0) (sentMessage says1At11 0) (ones 0) (ones 0) refl first second other-rate;
+            (lit< tt) (lit≤ tt) low high codebook thresholds index report lent _ (decodedAs otherWord (sentMessage says1At11 0)) refl first second other-rate;
       }
 
   -- HEADERS, of any utterance of two multiframes: one flip in the first header and three in the second, so that only the first is found, and
@@ -523,8 +525,9 @@ module _ (codebook thresholds : List ℤ) (index report : List ℕ) where
           instead = mended-alone s 0 0 least 1
               (first-alone s least (omega arith) (H.passes-hurt u [] (λ k. sync) oneThenThree [] 0 f 0 (omega arith) least (sync-enough least high) one-few)
               (λ t a h. let z : t ≡ 1152 = omega arith in ap (passes least (bits s)) z ∙ second))
-              (lit< tt) (lit≤ tt) low high codebook thresholds index report (fewer (multiframesOf u) 1 (omega arith) codebook thresholds index report lent) (sentMessage u 0) (ones 1) refl
-              (H.mended-there u [] (λ k. sync) oneThenThree [] 0 f 0 (omega arith) one-few) (λ q. omega (arith, one-one));
+              (lit< tt) (lit≤ tt) low high codebook thresholds index report (fewer (multiframesOf u) 1 (omega arith) codebook thresholds index report lent) _ refl
+              (H.mended-there u [] (λ k. sync) oneThenThree [] 0 f 0 (omega arith) one-few)
+              (λ q. omega (arith, sym (H.near-there u [] (λ k. sync) oneThenThree [] 0 f 0 (omega arith)) ∙ q, one-one));
         }
 
 pub room-needed-empty : Needed TablesAndRoom says1 clean1 0 0 fewestMatches zeroBook zeroThresholds [] (reportFor 1) (Octets (IndexShort indexOctets))

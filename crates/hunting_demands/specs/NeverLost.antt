@@ -1,22 +1,21 @@
 -- HEADER NOTE 3 NEVER COMES IN A HUNTING READING: each multiframe found has passed the test, so its header is readable.
 -- Assumes nothing.
-use Prim.Native.Nat.{ℕ, zero, suc, _+_, _*_, _%_, _^_, _≤_, _<_}
+use Prim.Native.Nat.{ℕ, zero, suc, _+_, _*_, _^_, _≤_, _<_}
 use mathlib.Core.Path.{_≡_, sym, ap, _∙_, subst}
 use mathlib.Core.List.{List, [], _∷_, _++_}
 use mathlib.Core.Bool.{Bool, true, false}
 use native.Mathlib.Nat.{mod-eq-of-lt}
 use native.Mathlib.Omega.{arith}
-use lib.Dec.{eqb, leb}
+use lib.Dec.{leb}
 use lib.IntN.{ℤ}
 use lib.ListN.{length, take, getD}
 use lib.Seq.{drop-append-add}
-use Rattle.lists.specs.Tests.{when, both, true-false}
+use Rattle.lists.specs.Tests.{both, true-false}
 use Rattle.lists.specs.Parts.{part, length-part, part-left}
 use Rattle.lists.specs.Rows.{each-at}
 use Rattle.layout.specs.Layout.{reportOctets, headerOctets}
 use Rattle.bits.specs.Bits.{field, value, bits}
 use Rattle.bits.specs.Laws.{length-field, value-field, value-lt, bits-octets}
-use Rattle.header.specs.Message.{countOf, commonBits}
 use Rattle.header.specs.Reading.{ReadAs, reading}
 use Rattle.header.specs.Reading.Laws.{reads}
 use Rattle.header.specs.declared.Header.{Header}
@@ -24,6 +23,7 @@ use Rattle.header.specs.declared.Header.the-variants.{Codeword, Lost}
 use Rattle.cutting.specs.Cutting.{Cutting, cutting}
 use Rattle.cutting.specs.Laws.{every-length}
 use Rattle.settling.specs.Settling.{readings, headerNote}
+use Rattle.settling.specs.Laws.{note-flips}
 use Rattle.pairs.specs.Pairs.{pairNotes}
 use Rattle.pairs.specs.Laws.{length-notes}
 use Rattle.reader.specs.Reading as R
@@ -75,18 +75,11 @@ found-readable s least at (p ∷ ps) (suc k) a h =
 
 -- a readable header's note is not 3
 not-three : (c k w : ℕ) → readable (reading w) ≡ true → headerNote c k (reading w) ≡ 3 → ⊥
-unfolding headerNote
 not-three c k w = by (reading w) (reads w)
   where
-    sum : (f : ℕ) (s t : Bool) → f ≤ 2 → f + when s 0 4 + when t 0 8 ≡ 3 → ⊥
-    sum f true true h e = omega arith
-    sum f true false h e = omega arith
-    sum f false true h e = omega arith
-    sum f false false h e = omega arith
-
     by : (h : Header) → ReadAs w h → readable h ≡ true → headerNote c k h ≡ 3 → ⊥
     by Lost r e z = true-false (sym e)
-    by (Codeword m f) r e z = sum f (eqb (countOf m) ((k + 1) % 16)) (eqb (commonBits m) c) (r .2) z
+    by (Codeword d) r e z = omega (arith, note-flips c k d (r .2), r .2)
 
 pub never-lost : (s : List ℕ) (from least : ℕ) (codebook thresholds : List ℤ) (index report : List ℕ) (c : Counted)
     → huntingReading s from least codebook thresholds index report .answer ≡ Read c → (k : ℕ) → k < c .summary .multiframes

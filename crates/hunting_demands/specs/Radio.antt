@@ -24,7 +24,7 @@ use Rattle.writer.specs.Laws.{few-multiframes, length-image}
 use Rattle.writer.specs.Made.{syncIn, wordIn, packetIn}
 use Rattle.writer.specs.Image as I
 use Rattle.writer.specs.Image.{Utterance, multiframesOf, pairsOf, imageOf, is-accepted}
-use Rattle.demands.specs.Damage.{Damage, headerFlips, sentMessage, header-read}
+use Rattle.demands.specs.Damage.{Damage, headerFlips, header-read}
 use Rattle.demands.specs.Whole.{Lent}
 use Rattle.demands.specs.Received.{BadPair}
 use Rattle.hunting_demands.specs.Standing.{placeInRow, row, syncAt, streamAt, passes-there, InARow, found-in-a-row, image-size, image-small, image-sync, image-word, image-stream}
@@ -84,7 +84,7 @@ module _ (u : Utterance) (s : List ℕ) (from at least : ℕ) (c : Caught u s fr
     begins = c .begins;
     inside = c .inside;
     stand = λ k h.
-        passes-there least (bits s) (placeInRow at k) (sentMessage u k) (headerFlips (imageOf u) (together u s at) k) (c .syncs k h)
+        passes-there least (bits s) (placeInRow at k) (c .syncs k h)
         (ap reading (sym (image-word s at m (c .inside) k h)) ∙ header-read u (together u s at) k h (flips-few k h));
     none-before = c .none-before;
     none-behind = c .none-behind;

@@ -17,6 +17,7 @@ use Rattle.layout.specs.Layout.{streamOctets, multiframeOctets, mostMultiframes
 use Rattle.bits.specs.Bits.{field, fields, value, bits, octets}
 use Rattle.bits.specs.Laws.{field-value, value-lt, bits-octets, octets-append}
 use Rattle.header.specs.Reading.{reading}
+use Rattle.header.specs.declared.Decoded.{Decoded}
 use Rattle.header.specs.declared.Header.{Header}
 use Rattle.header.specs.declared.Header.the-variants.{Codeword, Lost}
 use Rattle.hunt.specs.Hunt.{fewestMatches, syncBits, headerBits, multiframeBits, sync, matches, readable, passes, searched, placesLeft, huntedFrom}
@@ -80,9 +81,9 @@ at-most-all l least h = omega (arith, matches-most l sync, all-match)
 
 -- how such a place passes the test, and two ways to fail it
 module _ (least : ℕ) (l : List Bool) (p : ℕ) where
-  pub passes-there : (c f : ℕ) → least ≤ matches (syncAt l p) sync → reading (wordAt l p) ≡ Codeword c f → passes least l p ≡ true
+  pub passes-there : {d : Decoded} → least ≤ matches (syncAt l p) sync → reading (wordAt l p) ≡ Codeword d → passes least l p ≡ true
   unfolding passes
-  passes-there c f h e = ap₂ both (le-leb least (matches (syncAt l p) sync) h) (ap readable e)
+  passes-there h e = ap₂ both (le-leb least (matches (syncAt l p) sync) h) (ap readable e)
 
   pub unlike-fails : matches (syncAt l p) sync < least → passes least l p ≡ false
   unfolding passes

@@ -24,7 +24,7 @@ use Rattle.writer.specs.Writing.{Search, at, nowhere, firstWide, writing}
 
 -- a header's reading: the answer and the two lent numbers, as they are and as they came
 abbrev pub headerRead : ℕ → ℕ → ℕ → ℕ → ℕ → Header → Type 0
-headerRead r m f m₀ f₀ (Codeword message flips) = (r ≡ 1) × (m ≡ message) × (f ≡ flips)
+headerRead r m f m₀ f₀ (Codeword d) = (r ≡ 1) × (m ≡ d .message) × (f ≡ d .flips)
 headerRead r m f m₀ f₀ Lost = (r ≡ 0) × (m ≡ m₀) × (f ≡ f₀)
 
 -- ---- a multiframe's stream, packed

@@ -42,12 +42,9 @@ pub extern "C" fn dsr_header_read(word: u32, message: &mut u16, flips: &mut u32)
     ensures { λ r. ⌜ headerRead r (now (message .exit)) (now (flips .exit)) (now (message .entry)) (now (flips .entry)) (reading word) ⌝ }
 {
     match header::read(word) {
-        Header::Codeword {
-            message: m,
-            flips: f,
-        } => {
-            *message = m;
-            *flips = f;
+        Header::Codeword(d) => {
+            *message = d.message;
+            *flips = d.flips;
             1
         }
         Header::Lost => 0,

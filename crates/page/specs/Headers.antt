@@ -6,7 +6,7 @@ use Prim.Native.Nat.{ℕ, zero, suc, _+_, _*_, _/_, _%_, _^_, _≤_, _<_}
 use native.Mathlib.Nat.{mod-eq-of-lt}
 use native.Mathlib.Numerals.{add-one}
 use native.Mathlib.Omega.{arith}
-use lib.Bits.{bitAnd, bitOr, bitXor, xor-self}
+use lib.Bits.{bitAnd, bitOr, bitXor}
 use lib.Count.{ones, onesIn}
 use lib.Dec.{lit<}
 use lib.ListN.{getD}
@@ -16,13 +16,13 @@ use Rattle.bits.specs.Bits.{numbers, value, field, octets}
 use Rattle.bits.specs.Laws.{take-field, drop-field, value-field}
 use Rattle.packet.specs.Packet.{stream}
 use Rattle.header_code.specs.Code.{parity, codeword, flipsTo}
-use Rattle.header_code.specs.Code.Distance.{codeword-lt}
+use Rattle.header_code.specs.Code.Distance.{codeword-lt, itself-near}
 use Rattle.header_code.specs.Code.Parity.{parity-zero, parity-next, words, words-right, codeword-packed}
 use Rattle.header_code.specs.Code.Examples as E
 use Rattle.header.specs.Message.{message, rateOf, typeOf}
 use Rattle.header.specs.Message.Laws.{message-lt, message-back, rate-masked, type-masked, count-masked, exp-shifted}
 use Rattle.header.specs.Reading as R
-use Rattle.header.specs.Reading.Laws.{near, mended}
+use Rattle.header.specs.Reading.Laws.{near, flips-of}
 use Rattle.header.specs.declared.Header.the-variants.{Codeword}
 use Rattle.writer.specs.Writing.{multiframe}
 
@@ -120,32 +120,24 @@ table = record {
 }
 
 -- ---- as they are read
--- a word from its octets
-pub of-octets : (w a b c d : ℕ) → E.octets w ≡ a ∷ b ∷ c ∷ d ∷ [] → w ≡ a + 256 * b + 65536 * c + 16777216 * d
-of-octets w a b c d e =
-    let x : w % 256 ≡ a = ap (λ (l : List ℕ). getD l 0 0) e in
-    let y : w / 256 % 256 ≡ b = ap (λ (l : List ℕ). getD l 1 0) e in
-    let z : w / 65536 % 256 ≡ c = ap (λ (l : List ℕ). getD l 2 0) e in
-    let t : w / 16777216 ≡ d = ap (λ (l : List ℕ). getD l 3 0) e in
-    omega arith
-
 -- the codeword from the header's octets
 pub word-of : (rate kind count a b c d : ℕ) → header rate kind count ≡ a ∷ b ∷ c ∷ d ∷ [] → codeword (message rate kind count 0) ≡ a + 256 * b + 65536 * c + 16777216 * d
 word-of rate kind count a b c d e =
     let m = message rate kind count 0 in
-    of-octets (codeword m) a b c d (sym (same-octets (codeword m) (codeword-lt m (message-lt rate kind count 0))) ∙ e)
+    E.of-octets (codeword m) a b c d (sym (same-octets (codeword m) (codeword-lt m (message-lt rate kind count 0))) ∙ e)
 
-no-ones : ones 0 ≡ 0
-unfolding onesIn
-no-ones = sym (ones-in 1 0 (lit< tt))
+-- a word is read as this message, with so many flips
+abbrev pub ReadsAs : ℕ → ℕ → ℕ → Type 0
+ReadsAs w m f = (R.reading w ≡ Codeword (R.decodedAs w m)) × (flipsTo w m ≡ f)
 
 -- a codeword is read as itself
-pub clean : (m w : ℕ) → m < 2 ^ 16 → codeword m ≡ w → R.reading w ≡ Codeword m 0
-unfolding flipsTo
+pub clean : (m w : ℕ) → m < 2 ^ 16 → codeword m ≡ w → ReadsAs w m 0
 clean m w h e =
-    let z : flipsTo w m ≡ 0 = ap (λ (x : ℕ). ones (bitXor w x)) e ∙ ap ones (xor-self w) ∙ no-ones in
-    near w m h (omega arith) ∙ ap (Codeword m) z
+    let z = itself-near w m e in
+    (near w m h (omega arith), z)
 
 -- and with the bits of f flipped, at most two, as that codeword and their number
-pub flips : (m w f k : ℕ) → m < 2 ^ 16 → codeword m ≡ w → ones f ≡ k → k ≤ 2 → R.reading (bitXor w f) ≡ Codeword m k
-flips m w f k h e o l = ap (λ (x : ℕ). R.reading (bitXor x f)) (sym e) ∙ mended m f h (omega arith) ∙ ap (Codeword m) o
+pub flips : (m w f k : ℕ) → m < 2 ^ 16 → codeword m ≡ w → ones f ≡ k → k ≤ 2 → ReadsAs (bitXor w f) m k
+flips m w f k h e o l =
+    let z : flipsTo (bitXor w f) m ≡ k = ap (λ (x : ℕ). flipsTo (bitXor x f) m) (sym e) ∙ flips-of m f ∙ o in
+    (near (bitXor w f) m h (omega arith), z)

@@ -21,8 +21,8 @@ use Rattle.bits.specs.Bits.{value, numbers, field, fields, total}
 use Rattle.crc.specs.Crc.{after, crc, alike, right}
 use Rattle.packet.specs.Packet.{apart}
 use Rattle.header_code.specs.Code.{codeword}
-use Rattle.header_code.specs.Code.Examples.{three-from-zero}
-use Rattle.header.specs.Message.{message, rateOf, commonBits}
+use Rattle.header_code.specs.Code.Examples.{of-octets, three-from-zero}
+use Rattle.header.specs.Message.{message, rateOf, countOf, commonBits}
 use Rattle.header.specs.Message.Laws.{message-lt, rate-back, type-back, count-back, exp-back, common-rate, common-type, common-exp, common-message}
 use Rattle.header.specs.Reading as H
 use Rattle.header.specs.Reading.Laws.{lost-at-three}
@@ -31,7 +31,7 @@ use Rattle.header.specs.declared.Header.the-variants.{Codeword, Lost}
 use Rattle.cutting.specs.Cutting.{syncMet, lastMet, pieceBy, whole, Cutting, walk, cutting}
 use Rattle.settling.specs.Settling.{readings, firstAgreeing, settling, headerNote}
 use Rattle.settling.specs.Laws.{all-agree, note-lost}
-use Rattle.settling.specs.declared.Settings.the-variants as S
+use Rattle.settling.specs.declared.Settlement.the-variants as S
 use Rattle.consistency.specs.Consistency.{flagged, flags, inconsistent}
 use Rattle.pairs.specs.Pairs.{pairCount, pairFails, pairOdd, framesOf, allFrames, pairNotes}
 use Rattle.pairs.specs.Laws.{length-notes, no-failed-crc}
@@ -45,7 +45,7 @@ use Rattle.reader.specs.declared.Answer.the-variants.{Read}
 use Rattle.demands.specs.Examples as E
 use Rattle.demands.specs.Met.{zeroBook, zeroThresholds, zero-consistent}
 use Rattle.demands.specs.ReadsBack.{zeros}
-use Rattle.page.specs.Headers.{of-octets, word-of, clean, flips}
+use Rattle.page.specs.Headers.{word-of, ReadsAs, clean, flips}
 use Rattle.page.specs.Headers as Headers
 use Rattle.page.specs.Received.{Reads, headed}
 
@@ -227,37 +227,40 @@ two-flips : ones 0x4008 ≡ 2
 unfolding onesIn
 two-flips = sym (ones-in 32 0x4008 (lit< tt))
 
-read-1 : H.reading 0xEE0E0008 ≡ Codeword (message 0 0 1 0) 0
+read-1 : ReadsAs 0xEE0E0008 (message 0 0 1 0) 0
 read-1 = clean (message 0 0 1 0) 0xEE0E0008 (message-lt 0 0 1 0) (of-octets (codeword (message 0 0 1 0)) 0x08 0x00 0x0E 0xEE (E.table .header-count-1))
 
-read-2 : H.reading 0x8D1D0010 ≡ Codeword (message 0 0 2 0) 1
+read-2 : ReadsAs 0x8D1D0010 (message 0 0 2 0) 1
 read-2 =
     flips (message 0 0 2 0) 0x0D1D0010 0x80000000 1 (message-lt 0 0 2 0) (of-octets (codeword (message 0 0 2 0)) 0x10 0x00 0x1D 0x0D (E.table .header-count-2)) one-flip
     (lit≤ tt)
 
-read-4 : H.reading 0xCB3B0021 ≡ Codeword (message 1 0 4 0) 0
+read-4 : ReadsAs 0xCB3B0021 (message 1 0 4 0) 0
 read-4 = clean (message 1 0 4 0) 0xCB3B0021 (message-lt 1 0 4 0) (word-of 1 0 4 0x21 0x00 0x3B 0xCB (Headers.table .fourth-1-0))
 
-read-5 : H.reading 0x3F0F4001 ≡ Codeword (message 1 0 1 0) 2
+read-5 : ReadsAs 0x3F0F4001 (message 1 0 1 0) 2
 read-5 = flips (message 1 0 1 0) 0x3F0F0009 0x4008 2 (message-lt 1 0 1 0) (word-of 1 0 1 0x09 0x00 0x0F 0x3F (Headers.table .header-1-0)) two-flips (lit≤ tt)
 
 read-lost : H.reading 0x01010001 ≡ Lost
 read-lost = lost-at-three 0x01010001 0 (lit< tt) three-from-zero
 
--- the note of a header of these settings and this counter in place k
-module _ (count f k : ℕ) where
-  note-by : (rate : ℕ) (t : Bool) → eqb (commonBits (message rate 0 count 0)) settled ≡ t
-      → headerNote settled k (Codeword (message rate 0 count 0) f) ≡ f + when (eqb (count % 16) ((k + 1) % 16)) 0 4 + when t 0 8
+-- the note of a word that is read with these settings and this counter in place k
+module _ (w count f k : ℕ) where
+  note-by : (rate : ℕ) (t : Bool) → ReadsAs w (message rate 0 count 0) f → eqb (commonBits (message rate 0 count 0)) settled ≡ t
+      → headerNote settled k (Codeword (H.decodedAs w (message rate 0 count 0))) ≡ f + when (eqb (count % 16) ((k + 1) % 16)) 0 4 + when t 0 8
   unfolding headerNote
-  note-by rate t e =
-      ap₂ (λ (n : ℕ) (b : Bool). f + when (eqb n ((k + 1) % 16)) 0 4 + when b 0 8) (count-back rate 0 count 0) e
+  note-by rate t r e =
+      ap (λ (x : ℕ). x + when (eqb (countOf (message rate 0 count 0)) ((k + 1) % 16)) 0 4 + when (eqb (commonBits (message rate 0 count 0)) settled) 0 8) (r .1)
+      ∙ ap₂ (λ (n : ℕ) (b : Bool). f + when (eqb n ((k + 1) % 16)) 0 4 + when b 0 8) (count-back rate 0 count 0) e
 
-  note-same : headerNote settled k (Codeword (message 0 0 count 0) f) ≡ f + when (eqb (count % 16) ((k + 1) % 16)) 0 4 + 0
-  note-same = note-by 0 true (eq-eqb (commonBits (message 0 0 count 0)) settled (common-message 0 0 count 0))
+  note-same : ReadsAs w (message 0 0 count 0) f
+      → headerNote settled k (Codeword (H.decodedAs w (message 0 0 count 0))) ≡ f + when (eqb (count % 16) ((k + 1) % 16)) 0 4 + 0
+  note-same r = note-by 0 true r (eq-eqb (commonBits (message 0 0 count 0)) settled (common-message 0 0 count 0))
 
-  note-other : headerNote settled k (Codeword (message 1 0 count 0) f) ≡ f + when (eqb (count % 16) ((k + 1) % 16)) 0 4 + 8
-  note-other =
-      note-by 1 false (ne-eqb (commonBits (message 1 0 count 0)) settled (λ e.
+  note-other : ReadsAs w (message 1 0 count 0) f
+      → headerNote settled k (Codeword (H.decodedAs w (message 1 0 count 0))) ≡ f + when (eqb (count % 16) ((k + 1) % 16)) 0 4 + 8
+  note-other r =
+      note-by 1 false r (ne-eqb (commonBits (message 1 0 count 0)) settled (λ e.
       let z : _≡_ {A = ℕ} 1 0 =
       sym (common-rate (message 1 0 count 0) ∙ rate-back 1 0 count 0) ∙ ap rateOf e ∙ common-rate (message 0 0 0 0) ∙ rate-back 0 0 0 0 in
       omega arith))
@@ -308,20 +311,23 @@ put-plain : replaced (pairsIn plainNotes) came ≡ standingPlain
 unfolding replaced source sourceBy runStart leading
 put-plain = refl
 
-heads-hurt : readings hurt places ≡ Codeword (message 0 0 1 0) 0 ∷ Codeword (message 0 0 2 0) 1 ∷ []
+abbrev hurtHeads : List Header
+hurtHeads = Codeword (H.decodedAs 0xEE0E0008 (message 0 0 1 0)) ∷ Codeword (H.decodedAs 0x8D1D0010 (message 0 0 2 0)) ∷ []
+
+heads-hurt : readings hurt places ≡ hurtHeads
 unfolding readings value fields field
-heads-hurt = ap₂ (λ (g h : Header). g ∷ h ∷ []) read-1 read-2
+heads-hurt = ap₂ (λ (g h : Header). g ∷ h ∷ []) (read-1 .0) (read-2 .0)
 
 settles-hurt : settling (readings hurt places) ≡ S.Settled settled
 settles-hurt =
     ap settling heads-hurt
-    ∙ all-agree (Codeword (message 0 0 1 0) 0 ∷ Codeword (message 0 0 2 0) 1 ∷ []) settled (omega arith) (common-message 0 0 1 0, (common-message 0 0 2 0, tt))
+    ∙ all-agree hurtHeads settled (omega arith) (common-message 0 0 1 0, (common-message 0 0 2 0, tt))
 
 says-hurt : (ns : List ℕ) → reportPart hurt places ns settled ≡ (0 ∷ part 0 12 ns) ++ (1 ∷ part 12 12 ns)
 unfolding reportPart
 says-hurt ns =
     ap (λ (hs : List Header). joined (λ k. headerNote settled k (getD hs k Lost) ∷ part (firstPair k) multiframePairs ns) 2) heads-hurt
-    ∙ rw (note-same 1 0 0, note-same 2 1 1)
+    ∙ rw (note-same 0xEE0E0008 1 0 0 read-1, note-same 0x8D1D0010 2 1 1 read-2)
 
 hurt-listed : Lists hurt book limits (0 ∷ 0 ∷ 2 ∷ 30 ∷ 7 ∷ 1 ∷ []) standing hurtNotes
 unfolding lastNonzero zeroFrame
@@ -365,13 +371,15 @@ judged-strange codebook thresholds =
 
 abbrev strangeHeads : List Header
 strangeHeads =
-    Codeword (message 0 0 1 0) 0 ∷ Codeword (message 0 0 1 0) 0 ∷ Lost ∷ Codeword (message 1 0 4 0) 0 ∷ Codeword (message 1 0 1 0) 2 ∷ []
+    Codeword (H.decodedAs 0xEE0E0008 (message 0 0 1 0)) ∷ Codeword (H.decodedAs 0xEE0E0008 (message 0 0 1 0)) ∷ Lost
+    ∷ Codeword (H.decodedAs 0xCB3B0021 (message 1 0 4 0)) ∷ Codeword (H.decodedAs 0x3F0F4001 (message 1 0 1 0)) ∷ []
 
 heads-strange : readings strange row ≡ strangeHeads
 unfolding readings value fields field
 heads-strange =
-    ap₂ (λ (a b : Header). a ∷ a ∷ b ∷ H.reading 0xCB3B0021 ∷ H.reading 0x3F0F4001 ∷ []) read-1 read-lost
-    ∙ ap₂ (λ (a b : Header). Codeword (message 0 0 1 0) 0 ∷ Codeword (message 0 0 1 0) 0 ∷ Lost ∷ a ∷ b ∷ []) read-4 read-5
+    let first = Codeword (H.decodedAs 0xEE0E0008 (message 0 0 1 0)) in
+    ap₂ (λ (a b : Header). a ∷ a ∷ b ∷ H.reading 0xCB3B0021 ∷ H.reading 0x3F0F4001 ∷ []) (read-1 .0) read-lost
+    ∙ ap₂ (λ (a b : Header). first ∷ first ∷ Lost ∷ a ∷ b ∷ []) (read-4 .0) (read-5 .0)
 
 settles-strange : settling (readings strange row) ≡ S.Settled settled
 unfolding settling firstAgreeing
@@ -383,7 +391,13 @@ says-strange : reportPart strange row (replicate 60 0) settled ≡ strangeNotes
 unfolding reportPart
 says-strange =
     ap (λ (hs : List Header). joined (λ k. headerNote settled k (getD hs k Lost) ∷ part (firstPair k) multiframePairs (replicate 60 0)) 5) heads-strange
-    ∙ rw (note-same 1 0 0, note-same 1 0 1, note-lost settled 2, note-other 4 0 3, note-other 1 2 4)
+    ∙ rw (
+      note-same 0xEE0E0008 1 0 0 read-1,
+      note-same 0xEE0E0008 1 0 1 read-1,
+      note-lost settled 2,
+      note-other 0xCB3B0021 4 0 3 read-4,
+      note-other 0x3F0F4001 1 2 4 read-5,
+    )
 
 strange-listed : (codebook thresholds : List ℤ) → length codebook ≡ 1280 → length thresholds ≡ 14
     → Lists strange codebook thresholds (0 ∷ 0 ∷ 5 ∷ 96 ∷ 0 ∷ 1 ∷ []) (replicate 840 0) strangeNotes

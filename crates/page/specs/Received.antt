@@ -21,7 +21,7 @@ use Rattle.frames.specs.Frames.{zeroFrame}
 use Rattle.bits.specs.Bits.{value, bits, field, fields}
 use Rattle.crc.specs.Crc.{after, crc, alike, right}
 use Rattle.header_code.specs.Code.{codeword}
-use Rattle.header_code.specs.Code.Examples.{count-1, count-2, exp-9, three-from-zero}
+use Rattle.header_code.specs.Code.Examples.{of-octets, count-1, count-2, exp-9, three-from-zero}
 use Rattle.header.specs.Message.{message, rateOf, expOf, commonBits}
 use Rattle.header.specs.Message.Laws.{message-lt, message-counts, rate-back, rate-masked, exp-shifted, common-rate, common-exp, common-message}
 use Rattle.header.specs.Reading as H
@@ -33,8 +33,8 @@ use Rattle.cutting.specs.declared.Piece.the-variants.{Multiframe}
 use Rattle.cutting.specs.Laws.{multiframe-met, at-place, every-length}
 use Rattle.settling.specs.Settling.{readings, firstAgreeing, onlyOne, settling}
 use Rattle.settling.specs.Laws.{only-clean, only-mended, all-agree}
-use Rattle.settling.specs.declared.Settings.{Settings}
-use Rattle.settling.specs.declared.Settings.the-variants as S
+use Rattle.settling.specs.declared.Settlement.{Settlement}
+use Rattle.settling.specs.declared.Settlement.the-variants as S
 use Rattle.pairs.specs.Pairs.{pairCount, pairFails, pairOdd, pairNotes}
 use Rattle.judging.specs.Judging.{noteBy, notes, badPairs}
 use Rattle.reader.specs.Reading.{numberOf, placeOf, answerNumber, answerValues, cutRefusal, roomVerdict, settledVerdict, wholeVerdict, Outcome, outcome, finished, reading}
@@ -50,7 +50,7 @@ use Rattle.writer.specs.declared.Answer.the-variants.{Written}
 use Rattle.demands.specs.Whole.{rowOf, cut-is, readings-are}
 use Rattle.demands.specs.ReadsBack.{reads-image}
 use Rattle.demands.specs.Instances.{lone, small-lone}
-use Rattle.page.specs.Headers.{header, of-octets, word-of, clean, flips}
+use Rattle.page.specs.Headers.{header, word-of, ReadsAs, clean, flips}
 use Rattle.page.specs.Headers as Headers
 use Rattle.page.specs.Images.{spokenBehind, spoken-image}
 
@@ -244,7 +244,7 @@ module _ (s ps : List ℕ) (cut : cutting s ≡ record { places = ps; ending = w
       (sym (whole-reading s codebook thresholds index report sc st (outcome (Refused (Empty (length s))) index report) ps
       (ap (λ (w : Cutting). w .ending) cut) (sym (ap (λ (w : Cutting). w .places) cut)) (rw (eq-eqb (length ps) 0 z))))
 
-  module _ (some : length ps ≡ 0 → ⊥) (x : Settings) (settles : settling (readings s ps) ≡ x) where
+  module _ (some : length ps ≡ 0 → ⊥) (x : Settlement) (settles : settling (readings s ps) ≡ x) where
     -- past 11 to 15 the settings decide
     next : (codebook thresholds : List ℤ) → length codebook ≡ 1280 → length thresholds ≡ 14 → (index report : List ℕ)
         → reading s codebook thresholds index report
@@ -312,19 +312,19 @@ one-one : ones 1 ≡ 1
 unfolding onesIn
 one-one = sym (ones-in 1 1 (lit< tt))
 
-read-1 : H.reading 0xEE0E0008 ≡ Codeword 8 0
+read-1 : ReadsAs 0xEE0E0008 8 0
 read-1 = clean 8 0xEE0E0008 (lit< tt) (of-octets (codeword 8) 0x08 0x00 0x0E 0xEE count-1)
 
-read-2 : H.reading 0x0D1D0010 ≡ Codeword 16 0
+read-2 : ReadsAs 0x0D1D0010 16 0
 read-2 = clean 16 0x0D1D0010 (lit< tt) (of-octets (codeword 16) 0x10 0x00 0x1D 0x0D count-2)
 
-read-exp : H.reading 0xE8808000 ≡ Codeword 32768 0
+read-exp : ReadsAs 0xE8808000 32768 0
 read-exp = clean 32768 0xE8808000 (lit< tt) (of-octets (codeword 32768) 0x00 0x80 0x80 0xE8 exp-9)
 
-read-flipped : H.reading 0xEE0E0009 ≡ Codeword 8 1
+read-flipped : ReadsAs 0xEE0E0009 8 1
 read-flipped = flips 8 0xEE0E0008 1 1 (lit< tt) (of-octets (codeword 8) 0x08 0x00 0x0E 0xEE count-1) one-one (lit< tt)
 
-read-rate-2 : H.reading 0x9D0D000A ≡ Codeword (message 2 0 1 0) 0
+read-rate-2 : ReadsAs 0x9D0D000A (message 2 0 1 0) 0
 read-rate-2 = clean (message 2 0 1 0) 0x9D0D000A (message-lt 2 0 1 0) (word-of 2 0 1 0x0A 0x00 0x0D 0x9D (Headers.table .header-2-0))
 
 read-lost : H.reading 0x01010001 ≡ Lost
@@ -353,19 +353,19 @@ module _ (a b c d : ℕ) where
 
 settles-one : settling (readings one (0 ∷ [])) ≡ S.Settled (commonBits 8)
 unfolding value fields field
-settles-one = ap settling (head-one 0x08 0x00 0x0E 0xEE ∙ ap (λ (h : Header). h ∷ []) read-1) ∙ only-clean 8
+settles-one = ap settling (head-one 0x08 0x00 0x0E 0xEE ∙ ap (λ (h : Header). h ∷ []) (read-1 .0)) ∙ only-clean (H.decodedAs 0xEE0E0008 8) (read-1 .1)
 
 settles-flipped : settling (readings (headed flipped) (0 ∷ [])) ≡ S.Unsettled
 unfolding value fields field
-settles-flipped = ap settling (head-one 0x09 0x00 0x0E 0xEE ∙ ap (λ (h : Header). h ∷ []) read-flipped) ∙ only-mended 8 1 (λ e. omega arith)
+settles-flipped = ap settling (head-one 0x09 0x00 0x0E 0xEE ∙ ap (λ (h : Header). h ∷ []) (read-flipped .0)) ∙ only-mended (H.decodedAs 0xEE0E0009 8) (λ e. omega (arith, read-flipped .1))
 
 settles-rate-2 : settling (readings (headed rate2) (0 ∷ [])) ≡ S.Settled (commonBits (message 2 0 1 0))
 unfolding value fields field
-settles-rate-2 = ap settling (head-one 0x0A 0x00 0x0D 0x9D ∙ ap (λ (h : Header). h ∷ []) read-rate-2) ∙ only-clean (message 2 0 1 0)
+settles-rate-2 = ap settling (head-one 0x0A 0x00 0x0D 0x9D ∙ ap (λ (h : Header). h ∷ []) (read-rate-2 .0)) ∙ only-clean (H.decodedAs 0x9D0D000A (message 2 0 1 0)) (read-rate-2 .1)
 
 settles-exp : settling (readings (headed exp9) (0 ∷ [])) ≡ S.Settled (commonBits 32768)
 unfolding value fields field
-settles-exp = ap settling (head-one 0x00 0x80 0x80 0xE8 ∙ ap (λ (h : Header). h ∷ []) read-exp) ∙ only-clean 32768
+settles-exp = ap settling (head-one 0x00 0x80 0x80 0xE8 ∙ ap (λ (h : Header). h ∷ []) (read-exp .0)) ∙ only-clean (H.decodedAs 0xE8808000 32768) (read-exp .1)
 
 cut-two : cutting two ≡ record { places = 0 ∷ 144 ∷ []; ending = whole }
 unfolding walk pieceBy syncMet lastMet
@@ -377,8 +377,8 @@ heads-two = refl
 
 settles-two : settling (readings two (0 ∷ 144 ∷ [])) ≡ S.Settled (commonBits 8)
 settles-two =
-    ap settling (heads-two ∙ ap₂ (λ (g h : Header). g ∷ h ∷ []) read-1 read-2)
-    ∙ all-agree (Codeword 8 0 ∷ Codeword 16 0 ∷ []) (commonBits 8) (omega arith) (refl, (common-16, tt))
+    ap settling (heads-two ∙ ap₂ (λ (g h : Header). g ∷ h ∷ []) (read-1 .0) (read-2 .0))
+    ∙ all-agree (Codeword (H.decodedAs 0xEE0E0008 8) ∷ Codeword (H.decodedAs 0x0D1D0010 16) ∷ []) (commonBits 8) (omega arith) (refl, (common-16, tt))
 
 -- ---- every pair bad
 cut-bad : cutting allBad ≡ record { places = 0 ∷ []; ending = whole }
@@ -390,7 +390,7 @@ unfolding readings value fields field
 head-bad = refl
 
 settles-bad : settling (readings allBad (0 ∷ [])) ≡ S.Settled (commonBits 8)
-settles-bad = ap settling (head-bad ∙ ap (λ (h : Header). h ∷ []) read-1) ∙ only-clean 8
+settles-bad = ap settling (head-bad ∙ ap (λ (h : Header). h ∷ []) (read-1 .0)) ∙ only-clean (H.decodedAs 0xEE0E0008 8) (read-1 .1)
 
 fails-bad : each (pairFails allBad (0 ∷ [])) 12 ≡ replicate 12 true
 unfolding pairFails fields field right alike crc after xor

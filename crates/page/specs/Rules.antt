@@ -15,7 +15,7 @@ use Rattle.header.specs.Message.Laws.{rate-back, count-back, common-rate, commo
 use Rattle.header.specs.declared.Header.{Header}
 use Rattle.header.specs.declared.Header.the-variants.{Codeword, Lost}
 use Rattle.settling.specs.Settling.{firstAgreeing, onlyOne, settling, headerNote}
-use Rattle.settling.specs.declared.Settings.the-variants.{Settled, Unsettled}
+use Rattle.settling.specs.declared.Settlement.the-variants.{Settled, Unsettled}
 use Rattle.consistency.specs.Consistency.{exceeding, risen, flagged, flags, inconsistent}
 use Rattle.replacing.specs.Replacing.{source, sourceBy, runStart, leading}
 use Rattle.replacing.specs.Examples.{standIns}
@@ -150,6 +150,10 @@ speech = record {
   ends-not = refl;
 }
 
+-- a header that is read with this message and so many flips
+abbrev pub readWith : ℕ → ℕ → Header
+readWith m f = Codeword (record { message = m; flips = f })
+
 -- ---- header notes: 8 kHz, type 0 are settled
 -- 8 kHz and 11 kHz differ in their common bits
 other-rate : commonBits (message 1 0 1 0) ≡ commonBits (message 0 0 0 0) → ⊥
@@ -161,16 +165,16 @@ other-rate e =
 
 pub record Notes : Type 0 where
   -- "0 clean, 1 or 2 flips mended, 3 lost"
-  pub clean : headerNote (commonBits (message 0 0 0 0)) 0 (Codeword (message 0 0 1 0) 0) ≡ 0
-  pub mended : headerNote (commonBits (message 0 0 0 0)) 0 (Codeword (message 0 0 1 0) 2) ≡ 2
+  pub clean : headerNote (commonBits (message 0 0 0 0)) 0 (readWith (message 0 0 1 0) 0) ≡ 0
+  pub mended : headerNote (commonBits (message 0 0 0 0)) 0 (readWith (message 0 0 1 0) 2) ≡ 2
   pub lost : headerNote (commonBits (message 0 0 0 0)) 0 Lost ≡ 3
   -- "a readable one adds 4 if its counter is not (position from 1) mod 16"
-  pub out-of-step : headerNote (commonBits (message 0 0 0 0)) 1 (Codeword (message 0 0 1 0) 0) ≡ 4
-  pub sixteenth : headerNote (commonBits (message 0 0 0 0)) 15 (Codeword (message 0 0 0 0) 0) ≡ 0
-  pub seventeenth : headerNote (commonBits (message 0 0 0 0)) 16 (Codeword (message 0 0 1 0) 1) ≡ 1
+  pub out-of-step : headerNote (commonBits (message 0 0 0 0)) 1 (readWith (message 0 0 1 0) 0) ≡ 4
+  pub sixteenth : headerNote (commonBits (message 0 0 0 0)) 15 (readWith (message 0 0 0 0) 0) ≡ 0
+  pub seventeenth : headerNote (commonBits (message 0 0 0 0)) 16 (readWith (message 0 0 1 0) 1) ≡ 1
   -- "and 8 if its common bits differ from the settled"
-  pub other-settings : headerNote (commonBits (message 0 0 0 0)) 0 (Codeword (message 1 0 1 0) 0) ≡ 8
-  pub both-added : headerNote (commonBits (message 0 0 0 0)) 4 (Codeword (message 1 0 1 0) 1) ≡ 13
+  pub other-settings : headerNote (commonBits (message 0 0 0 0)) 0 (readWith (message 1 0 1 0) 0) ≡ 8
+  pub both-added : headerNote (commonBits (message 0 0 0 0)) 4 (readWith (message 1 0 1 0) 1) ≡ 13
 
 pub notes : Notes
 unfolding headerNote
@@ -195,15 +199,15 @@ notes =
 
 -- ---- settings: "the first readable header that agrees in them with an earlier readable one", not only with the one just before it
 pub record Settings : Type 0 where
-  pub around-another : settling (Codeword 8 0 ∷ Codeword 1 0 ∷ Codeword 8 0 ∷ []) ≡ Settled (commonBits 8)
-  pub around-a-lost-one : settling (Codeword 8 0 ∷ Lost ∷ Codeword 8 0 ∷ []) ≡ Settled (commonBits 8)
+  pub around-another : settling (readWith 8 0 ∷ readWith 1 0 ∷ readWith 8 0 ∷ []) ≡ Settled (commonBits 8)
+  pub around-a-lost-one : settling (readWith 8 0 ∷ Lost ∷ readWith 8 0 ∷ []) ≡ Settled (commonBits 8)
   -- the third agrees with the second before the fourth agrees with the first
-  pub first-to-agree : settling (Codeword 8 0 ∷ Codeword 1 0 ∷ Codeword 1 0 ∷ Codeword 8 0 ∷ []) ≡ Settled (commonBits 1)
-  pub none-agrees : settling (Codeword 8 0 ∷ Codeword 1 0 ∷ []) ≡ Unsettled
-  pub one-is-lost : settling (Codeword 8 0 ∷ Lost ∷ []) ≡ Unsettled
+  pub first-to-agree : settling (readWith 8 0 ∷ readWith 1 0 ∷ readWith 1 0 ∷ readWith 8 0 ∷ []) ≡ Settled (commonBits 1)
+  pub none-agrees : settling (readWith 8 0 ∷ readWith 1 0 ∷ []) ≡ Unsettled
+  pub one-is-lost : settling (readWith 8 0 ∷ Lost ∷ []) ≡ Unsettled
   -- "an only multiframe whose header is itself a codeword settles them (house)"
-  pub only-clean : settling (Codeword 8 0 ∷ []) ≡ Settled (commonBits 8)
-  pub only-mended : settling (Codeword 8 1 ∷ []) ≡ Unsettled
+  pub only-clean : settling (readWith 8 0 ∷ []) ≡ Settled (commonBits 8)
+  pub only-mended : settling (readWith 8 1 ∷ []) ≡ Unsettled
 
 -- 8 is 8 kHz with counter 1, and 1 is 11 kHz with counter 0
 eight-is : 8 ≡ message 0 0 1 0

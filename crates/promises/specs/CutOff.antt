@@ -43,7 +43,7 @@ use Rattle.reader.specs.declared.Answer.the-variants.{Read, Refused}
 use Rattle.writer.specs.Laws.{length-image}
 use Rattle.writer.specs.Made.{wordIn, packetIn}
 use Rattle.writer.specs.Image.{image-packet, Utterance, multiframesOf, imageOf, whole-frames}
-use Rattle.demands.specs.Damage.{Damage, headerFlips, sentMessage}
+use Rattle.demands.specs.Damage.{Damage, headerFlips, header-near}
 use Rattle.demands.specs.Damages.{unharmed}
 use Rattle.demands.specs.Whole.{rowOf, Lent, nothing-replaced}
 use Rattle.demands.specs.Headers.{sentCommon, common-sent, rate-sent, kind-sent}
@@ -135,11 +135,12 @@ module _ (u : Utterance) (k : ℕ) (some : 0 < k) (less : k < multiframesOf u) w
     note-row i h =
         let p = part (12 * i) 12 ns in
         let l : length p ≡ 12 = length-part ns (12 * i) 12 (omega (arith, size)) in
-        let r : getD (readings first (rowOf k)) i Lost ≡ Codeword (sentMessage u i) 0 =
+        let r : getD (readings first (rowOf k)) i Lost ≡ Codeword (F.decoded u s d k within i) =
         ap (λ (hs : List Header). getD hs i Lost) (F.headers-first u s d k within)
-        ∙ each-at (λ i. Codeword (sentMessage u i) (headerFlips s s i)) k i Lost (omega (arith, rows)) ∙ ap (Codeword (sentMessage u i)) (no-flips i) in
+        ∙ each-at (λ i. Codeword (F.decoded u s d k within i)) k i Lost (omega (arith, rows)) in
+        let z = header-near u s i (omega (arith, rows)) ∙ no-flips i in
         ap₂ (λ (x : ℕ) (y : List ℕ). x ∷ y)
-        (ap (headerNote (sentCommon u) i) r ∙ clean-note (sentCommon u) i (sentMessage u i) (count-back (u .rate) (u .kind) (i + 1) 0) (common-sent u i))
+        (ap (headerNote (sentCommon u) i) r ∙ clean-note (sentCommon u) i (F.decoded u s d k within i) z (count-back (u .rate) (u .kind) (i + 1) 0) (common-sent u i))
         (zeros p (λ j g. getD-take 12 (drop (12 * i) ns) j 0 (omega (arith, l)) ∙ getD-drop (12 * i) ns j 0 ∙ quiet (12 * i + j) (omega (arith, l, size)))
         ∙ ap (λ (w : ℕ). replicate w 0) l)
 

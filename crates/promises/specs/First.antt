@@ -22,11 +22,12 @@ use Rattle.cutting.specs.Cutting.{whole, cutting}
 use Rattle.cutting.specs.Laws.{every-length}
 use Rattle.header.specs.Message.{commonBits}
 use Rattle.header.specs.Reading as H
+use Rattle.header.specs.declared.Decoded.{Decoded}
 use Rattle.header.specs.declared.Header.{Header}
 use Rattle.header.specs.declared.Header.the-variants.{Codeword, Lost}
 use Rattle.settling.specs.Settling.{readings, settling}
 use Rattle.settling.specs.Laws.{AllHave, all-agree, only-clean}
-use Rattle.settling.specs.declared.Settings.the-variants.{Settled}
+use Rattle.settling.specs.declared.Settlement.the-variants.{Settled}
 use Rattle.pairs.specs.Pairs.{packetAt, pairCount, pairFails, framesOf, allFrames, pairOdd, pairNotes}
 use Rattle.pairs.specs.Laws.{length-notes, length-all, frames-at}
 use Rattle.judging.specs.Judging.{noteBy, notes}
@@ -37,19 +38,19 @@ use Rattle.writer.specs.Writing.{needed}
 use Rattle.writer.specs.Laws.{few-multiframes, length-image}
 use Rattle.writer.specs.Made.{syncIn, wordIn, packetIn, part-within}
 use Rattle.writer.specs.Image.{boundary-speaks, image-sync, Utterance, multiframesOf, imageOf, is-accepted, rate-not-2, fits-each-frame}
-use Rattle.demands.specs.Damage.{Damage, headerFlips, sentMessage, header-read}
+use Rattle.demands.specs.Damage.{Damage, headerFlips, sentMessage, header-near, header-read}
 use Rattle.demands.specs.Whole.{rowOf, Lent, readings-are, packet-at, cut-is, reads-as}
 use Rattle.demands.specs.Headers.{sentCommon, common-sent, rate-sent, exp-sent}
 
 -- ---- headers that all have the same common bits
-have-one-more : (l : List Header) (m f c : ℕ) → AllHave l c → commonBits m ≡ c → AllHave (l ++ (Codeword m f ∷ [])) c
-have-one-more [] m f c a e = (e, tt)
-have-one-more (Lost ∷ l) m f c a e = absurd a
-have-one-more (Codeword n g ∷ l) m f c a e = (a .0, have-one-more l m f c (a .1) e)
+have-one-more : (l : List Header) (d : Decoded) (c : ℕ) → AllHave l c → commonBits (d .message) ≡ c → AllHave (l ++ (Codeword d ∷ [])) c
+have-one-more [] d c a e = (e, tt)
+have-one-more (Lost ∷ l) d c a e = absurd a
+have-one-more (Codeword x ∷ l) d c a e = (a .0, have-one-more l d c (a .1) e)
 
-all-have : (g f : ℕ → ℕ) (c n : ℕ) → ((k : ℕ) → commonBits (g k) ≡ c) → AllHave (each (λ k. Codeword (g k) (f k)) n) c
-all-have g f c zero h = tt
-all-have g f c (suc n) h = have-one-more (each (λ k. Codeword (g k) (f k)) n) (g n) (f n) c (all-have g f c n h) (h n)
+all-have : (g : ℕ → Decoded) (c n : ℕ) → ((k : ℕ) → commonBits (g k .message) ≡ c) → AllHave (each (λ k. Codeword (g k)) n) c
+all-have g c zero h = tt
+all-have g c (suc n) h = have-one-more (each (λ k. Codeword (g k)) n) (g n) c (all-have g c n h) (h n)
 
 -- ---- a frame that is not zero, as it was written
 pub frame-speaks : (idx l : List ℕ) (j : ℕ) → Nonzero idx j → part (frameIndices * j) frameIndices l ≡ frameAt idx j → zeroFrame l j ≡ false
@@ -137,27 +138,30 @@ module _ (u : Utterance) (s : List ℕ) (d : Damage (multiframesOf u) (imageOf u
   abbrev pub flips : ℕ → ℕ
   flips i = headerFlips (imageOf u) s i
 
-  pub headers-first : readings first (rowOf k) ≡ each (λ i. Codeword (sentMessage u i) (flips i)) k
+  abbrev pub decoded : ℕ → Decoded
+  decoded i = H.decodedAs (wordIn s i) (sentMessage u i)
+
+  pub headers-first : readings first (rowOf k) ≡ each (λ i. Codeword (decoded i)) k
   headers-first =
       readings-are first k
-      ∙ same-each (λ i. H.reading (wordIn first i)) (λ i. Codeword (sentMessage u i) (flips i)) k (λ i h.
+      ∙ same-each (λ i. H.reading (wordIn first i)) (λ i. Codeword (decoded i)) k (λ i h.
       ap (λ (l : List ℕ). H.reading (value (bits l))) (part-first (144 * i + 2) 4 (omega arith)) ∙ header-read u s i (omega arith) (d .headers i (omega arith)))
 
   pub settles-first : 0 < k → (2 ≤ k) ⊎ (flips 0 ≡ 0) → settling (readings first (rowOf k)) ≡ Settled (sentCommon u)
   settles-first some x = ap settling headers-first ∙ by (decLt k 2) x
     where
-      two : 2 ≤ k → settling (each (λ i. Codeword (sentMessage u i) (flips i)) k) ≡ Settled (sentCommon u)
+      two : 2 ≤ k → settling (each (λ i. Codeword (decoded i)) k) ≡ Settled (sentCommon u)
       two h =
-          all-agree (each (λ i. Codeword (sentMessage u i) (flips i)) k) (sentCommon u) (omega (arith, length-each (λ i. Codeword (sentMessage u i) (flips i)) k))
-          (all-have (sentMessage u) flips (sentCommon u) k (common-sent u))
+          all-agree (each (λ i. Codeword (decoded i)) k) (sentCommon u) (omega (arith, length-each (λ i. Codeword (decoded i)) k))
+          (all-have decoded (sentCommon u) k (common-sent u))
 
-      by : Dec (k < 2) → (2 ≤ k) ⊎ (flips 0 ≡ 0) → settling (each (λ i. Codeword (sentMessage u i) (flips i)) k) ≡ Settled (sentCommon u)
+      by : Dec (k < 2) → (2 ≤ k) ⊎ (flips 0 ≡ 0) → settling (each (λ i. Codeword (decoded i)) k) ≡ Settled (sentCommon u)
       by (no n) y = two (omega arith)
       by (yes l) (inl h) = two h
       by (yes l) (inr z) =
           let e : k ≡ 1 = omega arith in
-          ap (λ (n : ℕ). settling (each (λ i. Codeword (sentMessage u i) (flips i)) n)) e
-          ∙ ap (λ (f : ℕ). settling (Codeword (sentMessage u 0) f ∷ [])) z ∙ only-clean (sentMessage u 0) ∙ ap Settled (common-sent u 0)
+          ap (λ (n : ℕ). settling (each (λ i. Codeword (decoded i)) n)) e
+          ∙ only-clean (decoded 0) (header-near u s 0 (omega arith) ∙ z) ∙ ap Settled (common-sent u 0)
 
   -- its packets are those of the image
   pub packet-first : (q : ℕ) → q < multiframePairs * k → packetAt first (rowOf k) q ≡ packetIn s q

@@ -3,13 +3,13 @@
 -- Assumes nothing.
 use mathlib.Core.Path.{_≡_, refl, sym, ap, ap₂, _∙_, subst}
 use mathlib.Core.Bool.{Bool, true, false, not}
-use mathlib.Core.List.{List, [], _∷_}
+use mathlib.Core.List.{List}
 use mathlib.Core.Logic.{_⊎_, inl, inr, ⊎-elim}
 use Prim.Native.Nat.{ℕ, suc, _+_, _*_, _/_, _%_, _^_, _≤_, _<_}
-use native.Mathlib.Nat.{mod-eq-of-lt, div-add-mod', div-div-eq-div-mul}
+use native.Mathlib.Nat.{mod-eq-of-lt}
 use native.Mathlib.Decide.{ℕ-discrete}
 use native.Mathlib.Omega.{arith}
-use lib.Bits.{bitAnd, bitXor, xor-lt, xor-mod, xor-self, xor-zero-r, xor-block, and-mask}
+use lib.Bits.{bitAnd, bitXor, xor-lt, xor-self, xor-zero-r, xor-block, and-mask}
 use lib.Count.{ones, onesIn}
 use lib.Dec.{eqb, lit<}
 use lib.IntN.{ℤ}
@@ -25,10 +25,10 @@ use Rattle.crc.specs.Crc.{right, flip, Damaged}
 use Rattle.crc.specs.Damage.{length-flip, flip-burst}
 use Rattle.packet.specs.Packet.{packetOf, frameAt}
 use Rattle.packet.specs.Laws.{length-packetOf}
-use Rattle.header_code.specs.Code.{codeword, flipsTo, syndrome}
-use Rattle.header_code.specs.Code.Distance.{codeword-lt, codeword-low}
-use Rattle.header_code.specs.Code.Syndrome.{syndrome-xor, syndrome-codeword, codeword-of}
-use Rattle.header_code.specs.Code.Examples.{octets, rate-1}
+use Rattle.header_code.specs.Code.{codeword, flipsTo}
+use Rattle.header_code.specs.Code.Distance.{codeword-lt}
+use Rattle.header_code.specs.Code.Syndrome.{codeword-xor}
+use Rattle.header_code.specs.Code.Examples.{codeword-1}
 use Rattle.header.specs.Message.{message, rateOf, typeOf, countOf, expOf, commonBits}
 use Rattle.header.specs.Message.Laws.{message-lt, message-back, rate-back, type-back, count-back, exp-back, rate-masked, type-masked, count-masked, exp-shifted, count-mod}
 use Rattle.header.specs.Reading.Laws.{flips-of}
@@ -37,7 +37,7 @@ use Rattle.header.specs.declared.Header.{Header}
 use Rattle.header.specs.declared.Header.the-variants.{Codeword, Lost}
 use Rattle.settling.specs.Settling.{readings, settling, headerNote}
 use Rattle.settling.specs.Laws.{Has, read-has}
-use Rattle.settling.specs.declared.Settings.the-variants.{Settled}
+use Rattle.settling.specs.declared.Settlement.the-variants.{Settled}
 use Rattle.cutting.specs.Laws.{every-length}
 use Rattle.pairs.specs.Pairs.{pairCount, pairFails, pairOdd, framesOf, pairNotes}
 use Rattle.pairs.specs.Laws.{length-notes}
@@ -221,14 +221,6 @@ written-11 u =
 abbrev pub at11 : Utterance → Utterance
 at11 u = record { rate = 1; kind = u .kind; indices = u .indices; small = u .small; written = written-11 u }
 
--- the sum of two codewords is the codeword of the sum
-pub codeword-xor : (a b : ℕ) → a < 2 ^ 16 → b < 2 ^ 16 → codeword (bitXor a b) ≡ bitXor (codeword a) (codeword b)
-codeword-xor a b ha hb =
-    let w = bitXor (codeword a) (codeword b) in
-    let low : w % 2 ^ 16 ≡ bitXor a b = xor-mod (codeword a) (codeword b) 16 ∙ ap₂ bitXor (codeword-low a ha) (codeword-low b hb) in
-    let fine : syndrome w ≡ 0 = syndrome-xor (codeword a) (codeword b) ∙ ap₂ bitXor (syndrome-codeword a ha) (syndrome-codeword b hb) in
-    ap codeword (sym low) ∙ codeword-of w (xor-lt 32 (codeword a) (codeword b) (codeword-lt a ha) (codeword-lt b hb)) fine
-
 -- one more: SampRate 1 for 0
 rate-on : (a : ℕ) → a < 2 ^ 16 → rateOf a ≡ 0 → (rateOf (a + 1) ≡ 1) × (typeOf (a + 1) ≡ typeOf a) × (countOf (a + 1) ≡ countOf a) × (expOf (a + 1) ≡ expOf a)
 rate-on a h z =
@@ -272,19 +264,7 @@ six-flipped = sym (ones-in 32 rateBits (lit< tt))
 
 -- it is that
 pub rate-codeword : codeword 1 ≡ rateBits
-rate-codeword = by (codeword 1) rate-1
-  where
-    -- from its four octets
-    sum : (w x y z a b c : ℕ) → x * 256 + a ≡ w → y * 256 + b ≡ x → z * 256 + c ≡ y → a ≡ 0x01 → b ≡ 0x00 → c ≡ 0x01 → z ≡ 0xD1 → w ≡ rateBits
-    sum w x y z a b c f g h ea eb ec ez = omega arith
-
-    by : (w : ℕ) → octets w ≡ 0x01 ∷ 0x00 ∷ 0x01 ∷ 0xD1 ∷ [] → w ≡ rateBits
-    by w e =
-        let y : w / 256 / 256 ≡ w / 65536 = div-div-eq-div-mul w 256 256 in
-        let z : w / 256 / 256 / 256 ≡ w / 16777216 = ap (λ (n : ℕ). n / 256) y ∙ div-div-eq-div-mul w 65536 256 in
-        sum w (w / 256) (w / 256 / 256) (w / 256 / 256 / 256) (w % 256) (w / 256 % 256) (w / 256 / 256 % 256) (div-add-mod' w 256) (div-add-mod' (w / 256) 256)
-        (div-add-mod' (w / 256 / 256) 256) (ap (λ (l : List ℕ). getD l 0 0) e) (ap (λ (l : List ℕ). getD l 1 0) e)
-        (ap (λ (n : ℕ). n % 256) y ∙ ap (λ (l : List ℕ). getD l 2 0) e) (z ∙ ap (λ (l : List ℕ). getD l 3 0) e)
+rate-codeword = codeword-1
 
 module _ (u : Utterance) (eight : u .rate ≡ 0) where
   -- each header of 11 kHz is that of 8 kHz with these bits flipped
@@ -314,9 +294,10 @@ module _ (u : Utterance) (eight : u .rate ≡ 0) where
       ∙ flips-are (at11 u) (λ k. bitXor (e k) rateBits) f (λ k. xor-lt 32 (e k) rateBits (small k) (lit< tt)) k h
 
   -- a header that is read as that of 11 kHz is noted for it
-  pub noted-11 : (k n : ℕ) → headerNote (sentCommon u) k (Codeword (sentMessage (at11 u) k) n) ≡ n + 8
+  pub noted-11 : (k w : ℕ) → headerNote (sentCommon u) k (Codeword (H.decodedAs w (sentMessage (at11 u) k))) ≡ flipsTo w (sentMessage (at11 u) k) + 8
   unfolding headerNote
-  noted-11 k n =
+  noted-11 k w =
+      let n = flipsTo w (sentMessage (at11 u) k) in
       let z : n + 0 + 8 ≡ n + 8 = omega arith in
       rw (
         eq-eqb (countOf (sentMessage (at11 u) k)) ((k + 1) % 16) (count-back 1 (u .kind) (k + 1) 0),
@@ -333,7 +314,7 @@ header-at s m k h = ap (λ (l : List Header). getD l k Lost) (readings-are s m) 
 pub has-common : (u : Utterance) (s : List ℕ) (k : ℕ) → k < multiframesOf u → headerFlips (imageOf u) s k ≤ 2 → Has (readings s (rowOf (multiframesOf u))) k (sentCommon u)
 has-common u s k h few =
     subst (Has (readings s (rowOf (multiframesOf u))) k) (common-sent u k)
-    (read-has (readings s (rowOf (multiframesOf u))) k (sentMessage u k) (headerFlips (imageOf u) s k) (header-at s (multiframesOf u) k h ∙ header-read u s k h few))
+    (read-has (readings s (rowOf (multiframesOf u))) k (H.decodedAs (wordIn s k) (sentMessage u k)) (header-at s (multiframesOf u) k h ∙ header-read u s k h few))
 
 -- and these are settings that can be used
 pub usable : (u : Utterance) → Usable (sentCommon u)

@@ -15,7 +15,7 @@ use Rattle.layout.specs.Layout.{indexOctets, reportOctets, sync}
 use Rattle.cutting.specs.Cutting.{Cutting, cutting}
 use Rattle.cutting.specs.Laws.{every-length}
 use Rattle.settling.specs.Settling.{readings, settling}
-use Rattle.settling.specs.declared.Settings.the-variants.{Settled}
+use Rattle.settling.specs.declared.Settlement.the-variants.{Settled}
 use Rattle.pairs.specs.Pairs.{pairCount, pairNotes}
 use Rattle.pairs.specs.Laws.{length-notes}
 use Rattle.judging.specs.Judging.{bad, badPairs}

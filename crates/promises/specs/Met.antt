@@ -27,19 +27,20 @@ use Rattle.packet.specs.Laws.{length-packetOf, packetOf-good}
 use Rattle.cutting.specs.Laws.{every-length}
 use Rattle.header_code.specs.Code.{codeword}
 use Rattle.header.specs.Message.{message}
+use Rattle.header.specs.Reading.{decodedAs}
 use Rattle.header.specs.declared.Header.the-variants.{Codeword, Lost}
 use Rattle.settling.specs.Settling.{readings, settling, headerNote}
 use Rattle.settling.specs.Laws.{two-settle}
-use Rattle.settling.specs.declared.Settings.the-variants.{Settled}
+use Rattle.settling.specs.declared.Settlement.the-variants.{Settled}
 use Rattle.pairs.specs.Laws.{length-notes}
 use Rattle.reader.specs.Reading.{indexPart, reportPart, summary, Outcome, outcome, reading}
 use Rattle.reader.specs.declared.Summary.{Summary}
 use Rattle.reader.specs.declared.Answer.the-variants.{Read}
 use Rattle.writer.specs.Writing.{verdict, roomAnswer, firstFrom, frameCount, needed}
-use Rattle.writer.specs.Made.{Small, packetIn, framed, made}
+use Rattle.writer.specs.Made.{Small, wordIn, packetIn, framed, made}
 use Rattle.writer.specs.Image.{image-packet, Utterance, multiframesOf, pairsOf, imageOf}
 use Rattle.writer.specs.declared.Answer.the-variants.{Written}
-use Rattle.demands.specs.Damage.{DamageUpTo, Damage, headerBits, Touched, differs, headerFlips, sentMessage, header-read}
+use Rattle.demands.specs.Damage.{DamageUpTo, Damage, headerBits, Touched, differs, headerFlips, sentMessage, header-near, header-read}
 use Rattle.demands.specs.Damages.{unharmed}
 use Rattle.demands.specs.Headers.{sentCommon, others-sent, TwoReadable}
 use Rattle.demands.specs.Received.{BadPair}
@@ -138,10 +139,11 @@ module _ (u : Utterance) (b c : ℕ) (lb : b < 2 ^ 32) (lc : c < 2 ^ 32) (f : �
       (has-common u s 0 (omega arith) (others 0 (omega arith) (λ e. omega arith))) (has-common u s 2 (omega arith) (others 2 (omega arith) (λ e. omega arith)))
 
   -- the second is read as one of 11 kHz
-  second : getD (readings s (rowOf m)) 1 Lost ≡ Codeword (sentMessage (at11 u) 1) n
-  second =
-      let e = flips-at-11 u eight (inSecond b c) f (in-second-lt b c lb lc) 1 (omega arith) ∙ near in
-      header-at s m 1 (omega arith) ∙ header-read (at11 u) s 1 (omega arith) (omega arith) ∙ ap (Codeword (sentMessage (at11 u) 1)) e
+  far-11 : headerFlips (imageOf (at11 u)) s 1 ≡ n
+  far-11 = flips-at-11 u eight (inSecond b c) f (in-second-lt b c lb lc) 1 (omega arith) ∙ near
+
+  second : getD (readings s (rowOf m)) 1 Lost ≡ Codeword (decodedAs (wordIn s 1) (sentMessage (at11 u) 1))
+  second = header-at s m 1 (omega arith) ∙ header-read (at11 u) s 1 (omega arith) (omega (arith, far-11))
 
   read-is : zeroRead u s
       ≡ outcome (Read (summary s (rowOf m) (zeroNotes u s) (sentCommon u))) (over (indexFor m) 0 (indexOctets * length (rowOf m)) (indexPart s (rowOf m) (zeroNotes u s)))
@@ -159,7 +161,7 @@ module _ (u : Utterance) (b c : ℕ) (lb : b < 2 ^ 32) (lc : c < 2 ^ 32) (f : �
     noted = ap (λ (o : Outcome). headerNoteIn (o .report) 1) read-is
         ∙ header-note-is s (rowOf m) (zeroNotes u s) (reportFor m) (sentCommon u) (reportOctets * length (rowOf m)) (length-notes s (rowOf m) zeroBook zeroThresholds) 1
         (omega (arith, every-length 0 m))
-        ∙ ap (headerNote (sentCommon u) 1) second ∙ noted-11 u eight 1 n;
+        ∙ ap (headerNote (sentCommon u) 1) second ∙ noted-11 u eight 1 (wordIn s 1) ∙ ap (λ (x : ℕ). x + 8) (header-near (at11 u) s 1 (omega arith) ∙ far-11);
   }
 
 -- so the incident's header: 48 frames, two flips in each other header, any bits for the first packet, and all other packets as they were sent

@@ -16,12 +16,12 @@ use Rattle.header_code.specs.Code.Distance.{far-from-one}
 use Rattle.header.specs.Message.{rateOf, typeOf, commonBits}
 use Rattle.header.specs.Message.Laws.{message-lt}
 use Rattle.header.specs.Reading as H
-use Rattle.header.specs.Reading.Laws.{reads}
+use Rattle.header.specs.Reading.Laws.{flips-counted, reads}
 use Rattle.header.specs.declared.Header.{Header}
 use Rattle.header.specs.declared.Header.the-variants.{Codeword}
 use Rattle.settling.specs.Settling.{readings, settling}
 use Rattle.settling.specs.Laws.{only-settles}
-use Rattle.settling.specs.declared.Settings.the-variants.{Settled}
+use Rattle.settling.specs.declared.Settlement.the-variants.{Settled}
 use Rattle.reader.specs.Reading.{reading}
 use Rattle.reader.specs.declared.Summary.{Summary}
 use Rattle.reader.specs.declared.Answer.the-variants.{Read}
@@ -72,18 +72,19 @@ module _ (u : Utterance) (s : List ℕ) where
     only-sent : OnlyFive → (d : ℕ) → settling (readings s (rowOf m)) ≡ Settled d → d ≡ sentCommon u
     only-sent o d e =
         let x = only-settles (H.reading (wordIn s 0)) d (sym (ap settling (readings-are s m) ∙ ap (λ (n : ℕ). settling (each (λ k. H.reading (wordIn s k)) n)) (o .single)) ∙ e) in
-        let r : H.ReadAs (wordIn s 0) (Codeword (x .0) 0) = read (x .1 .0) in
-        sym (x .1 .1)
-        ∙ elim (ℕ-discrete (x .0) (sentMessage u 0)) [
+        let r : H.ReadAs (wordIn s 0) (Codeword (x .0)) = read (x .1 .0) in
+        sym (x .1 .1 .1)
+        ∙ elim (ℕ-discrete (x .0 .message) (sentMessage u 0)) [
           | yes y ↦ ap commonBits y ∙ common-sent u 0
           | no n ↦
               absurd
               (omega (
                 arith,
-                r .1,
+                flips-counted (wordIn s 0) (x .0) (r .1),
+                x .1 .1 .0,
                 o .five,
                 header-near u s 0 (omega arith),
-                far-from-one (wordIn s 0) (x .0) (sentMessage u 0) (r .0) (message-lt (u .rate) (u .kind) 1 0) n,
+                far-from-one (wordIn s 0) (x .0 .message) (sentMessage u 0) (r .0) (message-lt (u .rate) (u .kind) 1 0) n,
               ))
         ]
       where

@@ -30,11 +30,13 @@ use Rattle.cutting.specs.Cutting.{Cutting, whole, cutting}
 use Rattle.cutting.specs.Laws.{every-length, multiframe, inverse, octetsOf, placesOf, Proper, cut-chunks}
 use Rattle.header_code.specs.Code.{codeword}
 use Rattle.header.specs.Message.{message}
+use Rattle.header.specs.Reading.{decodedAs}
+use Rattle.header.specs.declared.Decoded.{Decoded}
 use Rattle.header.specs.declared.Header.{Header}
 use Rattle.header.specs.declared.Header.the-variants.{Codeword, Lost}
 use Rattle.settling.specs.Settling.{readings, settling, firstAgreeing, onlyOne}
 use Rattle.settling.specs.Laws.{only-clean}
-use Rattle.settling.specs.declared.Settings.the-variants as Set
+use Rattle.settling.specs.declared.Settlement.the-variants as Set
 use Rattle.pairs.specs.Pairs.{pairCount, allFrames, pairNotes}
 use Rattle.pairs.specs.Laws.{length-notes, length-all}
 use Rattle.judging.specs.Judging.{badPairs}
@@ -52,9 +54,9 @@ use Rattle.writer.specs.Writing.{frameCount, needed, image}
 use Rattle.writer.specs.Laws.{few-multiframes, length-image}
 use Rattle.writer.specs.Made.{syncIn, wordIn, packetIn}
 use Rattle.writer.specs.Image.{image-sync, image-word, image-packet, image-small, last-speaks, Utterance, multiframesOf, pairsOf, imageOf, is-accepted, whole-frames}
-use Rattle.demands.specs.Damage.{DamageUpTo, headerBits, loosened, headerFlips, sentMessage, header-read}
+use Rattle.demands.specs.Damage.{DamageUpTo, headerBits, loosened, headerFlips, sentMessage, header-near, header-read}
 use Rattle.demands.specs.Whole.{rowOf, Lent, headerNoteIn, pairNoteIn, readings-are, refuses-16}
-use Rattle.demands.specs.Headers.{sentCommon, common-sent, TwoReadable, heardAs, headers-read}
+use Rattle.demands.specs.Headers.{sentCommon, common-sent, TwoReadable, heardAs, heard-read, heard-lost, headers-read}
 use Rattle.demands.specs.Received.{BadPair, touched-note}
 use Rattle.demands.specs.NamesTheDamage as N
 use Rattle.demands.specs.ReadsBack.{spoken, reads-image, reads-mended}
@@ -279,9 +281,9 @@ pub record Unsettles (u : Utterance) (s : List ℕ) : Type 0 where
   pub refused : zeroRead u s ≡ outcome (Refused Unsettled) (indexFor (multiframesOf u)) (reportFor (multiframesOf u))
   pub not-named : N.Named u s zeroBook zeroThresholds (indexFor (multiframesOf u)) (reportFor (multiframesOf u)) → ⊥
 
-one-settles-nothing : (m : ℕ) → settling (Codeword m 2 ∷ Lost ∷ []) ≡ Set.Unsettled
+one-settles-nothing : (d : Decoded) → settling (Codeword d ∷ Lost ∷ []) ≡ Set.Unsettled
 unfolding settling firstAgreeing onlyOne
-one-settles-nothing m = refl
+one-settles-nothing d = refl
 
 module _ (u : Utterance) (two : multiframesOf u ≡ 2) where
   abbrev s : List ℕ
@@ -296,17 +298,17 @@ module _ (u : Utterance) (two : multiframesOf u ≡ 2) where
   flips : (k : ℕ) → k < m → headerFlips (imageOf u) s k ≡ ones (oneReadable k)
   flips k h = flips-are u oneReadable (packetOf (u .indices)) one-lt k h
 
-  two-heard : heardAs (sentMessage u 0) (headerFlips (imageOf u) s 0) ≡ Codeword (sentMessage u 0) 2
-  two-heard = ap (heardAs (sentMessage u 0)) (flips 0 (omega arith) ∙ two-flipped)
+  two-heard : heardAs (wordIn s 0) (sentMessage u 0) ≡ Codeword (decodedAs (wordIn s 0) (sentMessage u 0))
+  two-heard = heard-read (wordIn s 0) (sentMessage u 0) (omega (arith, header-near u s 0 (omega arith), flips 0 (omega arith), two-flipped))
 
-  three-heard : heardAs (sentMessage u 1) (headerFlips (imageOf u) s 1) ≡ Lost
-  three-heard = ap (heardAs (sentMessage u 1)) (flips 1 (omega arith) ∙ three-flipped)
+  three-heard : heardAs (wordIn s 1) (sentMessage u 1) ≡ Lost
+  three-heard = heard-lost (wordIn s 1) (sentMessage u 1) (omega (arith, header-near u s 1 (omega arith), flips 1 (omega arith), three-flipped))
 
   unsettled : settling (readings s (rowOf m)) ≡ Set.Unsettled
   unsettled =
       ap settling (headers-read u s (damaged .headers))
-      ∙ ap (λ (n : ℕ). settling (each (λ k. heardAs (sentMessage u k) (headerFlips (imageOf u) s k)) n)) two
-      ∙ ap₂ (λ (a b : Header). settling (a ∷ b ∷ [])) two-heard three-heard ∙ one-settles-nothing (sentMessage u 0)
+      ∙ ap (λ (n : ℕ). settling (each (λ k. heardAs (wordIn s k) (sentMessage u k)) n)) two
+      ∙ ap₂ (λ (a b : Header). settling (a ∷ b ∷ [])) two-heard three-heard ∙ one-settles-nothing (decodedAs (wordIn s 0) (sentMessage u 0))
 
   refused : zeroRead u s ≡ outcome (Refused Unsettled) (indexFor m) (reportFor m)
   refused =
@@ -754,8 +756,8 @@ module _ (u : Utterance) (twice : multiframesOf u ≡ 2) where
   settled-once : settling (readings cutUp (rowOf 1)) ≡ Set.Settled (sentCommon u)
   settled-once =
       ap settling (readings-are cutUp 1)
-      ∙ ap (λ (h : Header). settling (h ∷ [])) (header-read u cutUp 0 (omega arith) (omega (arith, no-flip)) ∙ ap (Codeword (sentMessage u 0)) no-flip)
-      ∙ only-clean (sentMessage u 0) ∙ ap Set.Settled (common-sent u 0)
+      ∙ ap (λ (h : Header). settling (h ∷ [])) (header-read u cutUp 0 (omega arith) (omega (arith, no-flip)))
+      ∙ only-clean (decodedAs (wordIn cutUp 0) (sentMessage u 0)) (header-near u cutUp 0 (omega arith) ∙ no-flip) ∙ ap Set.Settled (common-sent u 0)
 
   good-once : Good (pairNotes cutUp (rowOf 1) zeroBook zeroThresholds)
   good-once = good-pair cutUp 1 0 (lit< tt) (ap (right dataBits) packet-there ∙ packetOf-good (u .indices) 0)

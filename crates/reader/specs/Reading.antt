@@ -14,8 +14,8 @@ use Rattle.cutting.specs.Cutting.{Ending, whole, refused, cutting}
 use Rattle.header.specs.Message.{rateOf, typeOf, expOf}
 use Rattle.header.specs.declared.Header.the-variants.{Lost}
 use Rattle.settling.specs.Settling.{readings, settling, headerNote}
-use Rattle.settling.specs.declared.Settings.{Settings}
-use Rattle.settling.specs.declared.Settings.the-variants as S
+use Rattle.settling.specs.declared.Settlement.{Settlement}
+use Rattle.settling.specs.declared.Settlement.the-variants as S
 use Rattle.pairs.specs.Pairs.{pairCount, allFrames, pairNotes}
 use Rattle.judging.specs.Judging.{badPairs}
 use Rattle.replacing.specs.Replacing.{replaced}
@@ -98,7 +98,7 @@ roomVerdict m bad pairs index report c =
     (when (eqb bad pairs) (Refuse AllBad) (Accept c)))
 
 -- 16: settings not settled. 17: settled rate is 2 or any EXP is 1
-unfoldable pub settledVerdict : (m bad pairs index report : ℕ) → Settings → Verdict
+unfoldable pub settledVerdict : (m bad pairs index report : ℕ) → Settlement → Verdict
 settledVerdict m bad pairs index report S.Unsettled = Refuse Unsettled
 settledVerdict m bad pairs index report (S.Settled c) =
     when (eqb (rateOf c) 2) (Refuse Unfit) (when (eqb (expOf c) 0) (roomVerdict m bad pairs index report c) (Refuse Unfit))

@@ -16,8 +16,8 @@ use Rattle.cutting.specs.Cutting.{Ending, whole, refused, cutting}
 use Rattle.header.specs.Message.{rateOf, expOf}
 use Rattle.header.specs.declared.Header.the-variants.{Lost}
 use Rattle.settling.specs.Settling.{readings, settling, headerNote}
-use Rattle.settling.specs.declared.Settings.{Settings}
-use Rattle.settling.specs.declared.Settings.the-variants as S
+use Rattle.settling.specs.declared.Settlement.{Settlement}
+use Rattle.settling.specs.declared.Settlement.the-variants as S
 use Rattle.pairs.specs.Pairs.{pairCount, allFrames, pairNotes}
 use Rattle.judging.specs.Judging.{badPairs}
 use Rattle.replacing.specs.Replacing.{pairsOctets}
@@ -60,16 +60,16 @@ pub record Usable (c : ℕ) : Type 0 where
   pub rate : rateOf c ≡ 2 → ⊥
   pub exp : expOf c ≡ 0
 
-pub record Fitting (m bad pairs index report : ℕ) (s : Settings) (c : ℕ) : Type 0 where
+pub record Fitting (m bad pairs index report : ℕ) (s : Settlement) (c : ℕ) : Type 0 where
   pub settles : s ≡ S.Settled c
   pub usable : Usable c
   pub roomy : Roomy m bad pairs index report
 
-abbrev SettledSays : (m bad pairs index report : ℕ) → Settings → Verdict → Type 0
+abbrev SettledSays : (m bad pairs index report : ℕ) → Settlement → Verdict → Type 0
 SettledSays m bad pairs index report s (Refuse r) = Unit
 SettledSays m bad pairs index report s (Accept c) = Fitting m bad pairs index report s c
 
-settled-says : (m bad pairs index report : ℕ) (s : Settings) → SettledSays m bad pairs index report s (settledVerdict m bad pairs index report s)
+settled-says : (m bad pairs index report : ℕ) (s : Settlement) → SettledSays m bad pairs index report s (settledVerdict m bad pairs index report s)
 unfolding settledVerdict
 settled-says m bad pairs index report S.Unsettled = tt
 settled-says m bad pairs index report (S.Settled c) =

@@ -20,9 +20,9 @@ use Rattle.header.specs.Reading.{reading as readHeader}
 use Rattle.header.specs.declared.Header.{Header}
 use Rattle.header.specs.declared.Header.the-variants.{Lost}
 use Rattle.settling.specs.Settling.{headerWord, readings, settling, headerNote}
-use Rattle.settling.specs.declared.Settings.{Settings}
+use Rattle.settling.specs.declared.Settlement.{Settlement}
 use Rattle.settling.specs.Stored.{opened, openAll, packAll, packed, Mended, mended, opened-packed, stored-back}
-use Rattle.settling.specs.declared.Settings.the-variants as S
+use Rattle.settling.specs.declared.Settlement.the-variants as S
 use Rattle.pairs.specs.Pairs.{pairCount, allFrames, pairNotes}
 use Rattle.pairs.specs.Laws.{length-all, length-notes, over-all}
 use borrow.Author.Tests.{eq-eqb, ne-eqb}
@@ -221,7 +221,7 @@ module _ (octets : List ℕ) (codebook thresholds : List ℤ) (index report : �
   decided-empty z = rw (eq-eqb (length places) 0 z)
 
   -- what the stored headers settle decides the rest
-  module _ (some : length places ≡ 0 → ⊥) (headers : List ℕ) (eh : headers ≡ packAll octets places (length places)) (s : Settings) (es : s ≡ settling (openAll headers)) where
+  module _ (some : length places ≡ 0 → ⊥) (headers : List ℕ) (eh : headers ≡ packAll octets places (length places)) (s : Settlement) (es : s ≡ settling (openAll headers)) where
     settles : settling (readings octets places) ≡ s
     settles = sym (es ∙ ap (λ (l : List ℕ). settling (openAll l)) eh ∙ ap settling (stored-back octets places))
 

@@ -4,7 +4,7 @@ use cutting::Cut;
 use layout::MultiframeLayout;
 use layout::ReadingLayout;
 use layout::UtteranceLayout;
-use settling::Settings;
+use settling::Settlement;
 ghost use mathlib.Core.Path.{_≡_};
 ghost use Prim.Native.Nat.{_+_, _*_, _≤_, _<_};
 ghost use lib.ListN.{length, getD};
@@ -17,7 +17,7 @@ ghost use Rattle.judging.specs.Judging.{badPairs};
 ghost use Rattle.judging.specs.Laws.{Good};
 ghost use Rattle.reader.specs.Reading.{numberOf, placeOf, answerNumber, answerValues, indexPart, reportPart, summary, cutRefusal, wholeVerdict, settledVerdict, outcome, finished, reading};
 ghost use Rattle.reader.specs.Steps.{earlyVerdict, Kept, section, sections};
-ghost use Rattle.settling.specs.declared.Settings.the-variants.{Settled};
+ghost use Rattle.settling.specs.declared.Settlement.the-variants.{Settled};
 
 // Success: the settings (sample rate code and front-end type), the number of multiframes, speech, the number of bad pairs, and end.
 pub struct Summary {
@@ -174,8 +174,8 @@ fn decide(
     }
     settling::read_headers(octets, places, headers);
     match settling::settle(headers) {
-        Settings::Unsettled => Verdict::Refuse(Refusal::Unsettled),
-        Settings::Settled { common } => decide_pairs(
+        Settlement::Unsettled => Verdict::Refuse(Refusal::Unsettled),
+        Settlement::Settled { common } => decide_pairs(
             octets,
             places,
             codebook,

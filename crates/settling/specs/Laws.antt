@@ -12,14 +12,19 @@ use native.Mathlib.Omega.{arith}
 use borrow.Author.Tests.{eq-eqb, ne-eqb, eqb-true}
 use Rattle.lists.specs.Tests.{when, true-false}
 use Rattle.header.specs.Message.{countOf, commonBits}
+use Rattle.header.specs.Reading.Laws.{lost-not-read, same-message}
+use Rattle.header.specs.declared.Decoded.{Decoded}
 use Rattle.header.specs.declared.Header.{Header}
 use Rattle.header.specs.declared.Header.the-variants.{Codeword, Lost}
 use Rattle.settling.specs.Settling.{among, firstAgreeing, onlyOne, orElse, settling, headerNote}
-use Rattle.settling.specs.declared.Settings.{Settings}
-use Rattle.settling.specs.declared.Settings.the-variants.{Settled, Unsettled}
+use Rattle.settling.specs.declared.Settlement.{Settlement}
+use Rattle.settling.specs.declared.Settlement.the-variants.{Settled, Unsettled}
 
 -- the note says how many flips were mended, whether the counter is in step and whether the common bits are the settled ones
-module _ (c k m f : ℕ) (mended : f ≤ 2) where
+module _ (c k : ℕ) (d : Decoded) (mended : d .flips ≤ 2) where
+  abbrev f : ℕ
+  f = d .flips
+
   flips-by : (s t : Bool) → (f + when s 0 4 + when t 0 8) % 4 ≡ f
   flips-by true true = omega arith
   flips-by true false = omega arith
@@ -38,17 +43,17 @@ module _ (c k m f : ℕ) (mended : f ≤ 2) where
   same-by false true = omega arith
   same-by false false = omega arith
 
-  pub note-flips : headerNote c k (Codeword m f) % 4 ≡ f
+  pub note-flips : headerNote c k (Codeword d) % 4 ≡ d .flips
   unfolding headerNote
-  note-flips = flips-by (eqb (countOf m) ((k + 1) % 16)) (eqb (commonBits m) c)
+  note-flips = flips-by (eqb (countOf (d .message)) ((k + 1) % 16)) (eqb (commonBits (d .message)) c)
 
-  pub note-counter : headerNote c k (Codeword m f) / 4 % 2 ≡ when (eqb (countOf m) ((k + 1) % 16)) 0 1
+  pub note-counter : headerNote c k (Codeword d) / 4 % 2 ≡ when (eqb (countOf (d .message)) ((k + 1) % 16)) 0 1
   unfolding headerNote
-  note-counter = step-by (eqb (countOf m) ((k + 1) % 16)) (eqb (commonBits m) c)
+  note-counter = step-by (eqb (countOf (d .message)) ((k + 1) % 16)) (eqb (commonBits (d .message)) c)
 
-  pub note-common : headerNote c k (Codeword m f) / 8 ≡ when (eqb (commonBits m) c) 0 1
+  pub note-common : headerNote c k (Codeword d) / 8 ≡ when (eqb (commonBits (d .message)) c) 0 1
   unfolding headerNote
-  note-common = same-by (eqb (countOf m) ((k + 1) % 16)) (eqb (commonBits m) c)
+  note-common = same-by (eqb (countOf (d .message)) ((k + 1) % 16)) (eqb (commonBits (d .message)) c)
 
   zero-by : (s t : Bool) → f + when s 0 4 + when t 0 8 ≡ 0 → (f ≡ 0) × (s ≡ true) × (t ≡ true)
   zero-by true true e = (omega arith, refl, refl)
@@ -57,16 +62,16 @@ module _ (c k m f : ℕ) (mended : f ≤ 2) where
   zero-by false false e = absurd (omega arith)
 
   -- a note of 0: clean, in step, and as settled
-  pub note-zero : headerNote c k (Codeword m f) ≡ 0 → (f ≡ 0) × (countOf m ≡ (k + 1) % 16) × (commonBits m ≡ c)
+  pub note-zero : headerNote c k (Codeword d) ≡ 0 → (d .flips ≡ 0) × (countOf (d .message) ≡ (k + 1) % 16) × (commonBits (d .message) ≡ c)
   unfolding headerNote
   note-zero e =
-      let z = zero-by (eqb (countOf m) ((k + 1) % 16)) (eqb (commonBits m) c) e in
-      (z .0, eqb-true (countOf m) ((k + 1) % 16) (z .1), eqb-true (commonBits m) c (z .2))
+      let z = zero-by (eqb (countOf (d .message)) ((k + 1) % 16)) (eqb (commonBits (d .message)) c) e in
+      (z .0, eqb-true (countOf (d .message)) ((k + 1) % 16) (z .1), eqb-true (commonBits (d .message)) c (z .2))
 
 -- and a clean header that is in step and as settled has the note 0
-pub clean-note : (c k m : ℕ) → countOf m ≡ (k + 1) % 16 → commonBits m ≡ c → headerNote c k (Codeword m 0) ≡ 0
+pub clean-note : (c k : ℕ) (d : Decoded) → d .flips ≡ 0 → countOf (d .message) ≡ (k + 1) % 16 → commonBits (d .message) ≡ c → headerNote c k (Codeword d) ≡ 0
 unfolding headerNote
-clean-note c k m e s = rw (eq-eqb (countOf m) ((k + 1) % 16) e, eq-eqb (commonBits m) c s)
+clean-note c k d z e s = rw (z, eq-eqb (countOf (d .message)) ((k + 1) % 16) e, eq-eqb (commonBits (d .message)) c s)
 
 -- a lost header is noted as lost, and no other is: its note is 3, where a readable one's flips are at most 2
 pub note-lost : (c k : ℕ) → headerNote c k Lost ≡ 3
@@ -79,7 +84,7 @@ note-lost c k = refl
 abbrev pub Has : List Header → ℕ → ℕ → Type 0
 Has [] k c = ⊥
 Has (Lost ∷ hs) zero c = ⊥
-Has (Codeword m f ∷ hs) zero c = commonBits m ≡ c
+Has (Codeword d ∷ hs) zero c = commonBits (d .message) ≡ c
 Has (h ∷ hs) (suc k) c = Has hs k c
 
 -- header k agrees in its common bits c with an earlier readable one, or with those already seen
@@ -99,23 +104,23 @@ pub record First (seen : List ℕ) (hs : List Header) (c : ℕ) : Type 0 where
   pub none : (i d : ℕ) → i < at → Agrees seen hs i d → ⊥
 
 -- one header on, with its common bits seen
-module _ (m f : ℕ) (seen : List ℕ) (hs : List Header) where
-  among-more : (c : ℕ) → (c ≡ commonBits m) ⊎ (among c seen ≡ true) → among c (commonBits m ∷ seen) ≡ true
-  among-more c (inl e) = rw (eq-eqb c (commonBits m) e)
-  among-more c (inr h) = by (eqb c (commonBits m))
+module _ (x : Decoded) (seen : List ℕ) (hs : List Header) where
+  among-more : (c : ℕ) → (c ≡ commonBits (x .message)) ⊎ (among c seen ≡ true) → among c (commonBits (x .message) ∷ seen) ≡ true
+  among-more c (inl e) = rw (eq-eqb c (commonBits (x .message)) e)
+  among-more c (inr h) = by (eqb c (commonBits (x .message)))
     where
       by : (t : Bool) → when t true (among c seen) ≡ true
       by true = refl
       by false = h
 
-  among-less : (c : ℕ) → among c (commonBits m ∷ seen) ≡ true → (c ≡ commonBits m) ⊎ (among c seen ≡ true)
-  among-less c h = by (eqb c (commonBits m)) refl h
+  among-less : (c : ℕ) → among c (commonBits (x .message) ∷ seen) ≡ true → (c ≡ commonBits (x .message)) ⊎ (among c seen ≡ true)
+  among-less c h = by (eqb c (commonBits (x .message))) refl h
     where
-      by : (t : Bool) → eqb c (commonBits m) ≡ t → when t true (among c seen) ≡ true → (c ≡ commonBits m) ⊎ (among c seen ≡ true)
-      by true e h = inl (eqb-true c (commonBits m) e)
+      by : (t : Bool) → eqb c (commonBits (x .message)) ≡ t → when t true (among c seen) ≡ true → (c ≡ commonBits (x .message)) ⊎ (among c seen ≡ true)
+      by true e h = inl (eqb-true c (commonBits (x .message)) e)
       by false e h = inr h
 
-  back : (k c : ℕ) → Agrees (commonBits m ∷ seen) hs k c → Agrees seen (Codeword m f ∷ hs) (suc k) c
+  back : (k c : ℕ) → Agrees (commonBits (x .message) ∷ seen) hs k c → Agrees seen (Codeword x ∷ hs) (suc k) c
   back k c a =
       record {
         has = a .has;
@@ -123,15 +128,15 @@ module _ (m f : ℕ) (seen : List ℕ) (hs : List Header) where
             (λ e. inr (record { at = suc (e .at); less = omega (arith, e .less); has = e .has })) (a .with);
       }
 
-  ahead : (k c : ℕ) → Agrees seen (Codeword m f ∷ hs) (suc k) c → Agrees (commonBits m ∷ seen) hs k c
+  ahead : (k c : ℕ) → Agrees seen (Codeword x ∷ hs) (suc k) c → Agrees (commonBits (x .message) ∷ seen) hs k c
   ahead k c a = record { has = a .has; with = ⊎-elim (λ h. inl (among-more c (inr h))) (λ e. from (e .at) (e .less) (e .has)) (a .with) }
     where
-      from : (j : ℕ) → j < suc k → Has (Codeword m f ∷ hs) j c → (among c (commonBits m ∷ seen) ≡ true) ⊎ Earlier hs k c
+      from : (j : ℕ) → j < suc k → Has (Codeword x ∷ hs) j c → (among c (commonBits (x .message) ∷ seen) ≡ true) ⊎ Earlier hs k c
       from zero l h = inl (among-more c (inl (sym h)))
       from (suc j) l h = inr (record { at = j; less = omega arith; has = h })
 
   -- the header itself agrees only with what was seen
-  itself : (c : ℕ) → Agrees seen (Codeword m f ∷ hs) 0 c → among (commonBits m) seen ≡ true
+  itself : (c : ℕ) → Agrees seen (Codeword x ∷ hs) 0 c → among (commonBits (x .message)) seen ≡ true
   itself c a = ⊎-elim (λ h. ap (λ (x : ℕ). among x seen) (a .has) ∙ h) (λ e. absurd (omega (arith, e .less))) (a .with)
 
 -- past a lost header
@@ -147,11 +152,11 @@ module _ (seen : List ℕ) (hs : List Header) where
       from (suc j) l h = inr (record { at = j; less = omega arith; has = h })
 
 -- what `firstAgreeing` gives
-abbrev pub Says : List ℕ → List Header → Settings → Type 0
+abbrev pub Says : List ℕ → List Header → Settlement → Type 0
 Says seen hs (Settled c) = First seen hs c
 Says seen hs Unsettled = (k d : ℕ) → Agrees seen hs k d → ⊥
 
-lost-on : (seen : List ℕ) (hs : List Header) (s : Settings) → Says seen hs s → Says seen (Lost ∷ hs) s
+lost-on : (seen : List ℕ) (hs : List Header) (s : Settlement) → Says seen hs s → Says seen (Lost ∷ hs) s
 lost-on seen hs (Settled c) r = record { at = suc (r .at); agrees = past seen hs (r .at) c (r .agrees); none = λ i d h a. before i d h a }
   where
     before : (i d : ℕ) → i < suc (r .at) → Agrees seen (Lost ∷ hs) i d → ⊥
@@ -163,29 +168,30 @@ lost-on seen hs Unsettled r = λ k d a. nowhere k d a
     nowhere zero d a = a .has
     nowhere (suc k) d a = r k d (over-lost seen hs k d a)
 
-read-on : (m f : ℕ) (seen : List ℕ) (hs : List Header) (s : Settings) → among (commonBits m) seen ≡ false → Says (commonBits m ∷ seen) hs s → Says seen (Codeword m f ∷ hs) s
-read-on m f seen hs (Settled c) new r = record { at = suc (r .at); agrees = back m f seen hs (r .at) c (r .agrees); none = λ i d h a. before i d h a }
+read-on : (x : Decoded) (seen : List ℕ) (hs : List Header) (s : Settlement) → among (commonBits (x .message)) seen ≡ false → Says (commonBits (x .message) ∷ seen) hs s
+    → Says seen (Codeword x ∷ hs) s
+read-on x seen hs (Settled c) new r = record { at = suc (r .at); agrees = back x seen hs (r .at) c (r .agrees); none = λ i d h a. before i d h a }
   where
-    before : (i d : ℕ) → i < suc (r .at) → Agrees seen (Codeword m f ∷ hs) i d → ⊥
-    before zero d h a = true-false (sym (itself m f seen hs d a) ∙ new)
-    before (suc i) d h a = r .none i d (omega arith) (ahead m f seen hs i d a)
-read-on m f seen hs Unsettled new r = λ k d a. nowhere k d a
+    before : (i d : ℕ) → i < suc (r .at) → Agrees seen (Codeword x ∷ hs) i d → ⊥
+    before zero d h a = true-false (sym (itself x seen hs d a) ∙ new)
+    before (suc i) d h a = r .none i d (omega arith) (ahead x seen hs i d a)
+read-on x seen hs Unsettled new r = λ k d a. nowhere k d a
   where
-    nowhere : (k d : ℕ) → Agrees seen (Codeword m f ∷ hs) k d → ⊥
-    nowhere zero d a = true-false (sym (itself m f seen hs d a) ∙ new)
-    nowhere (suc k) d a = r k d (ahead m f seen hs k d a)
+    nowhere : (k d : ℕ) → Agrees seen (Codeword x ∷ hs) k d → ⊥
+    nowhere zero d a = true-false (sym (itself x seen hs d a) ∙ new)
+    nowhere (suc k) d a = r k d (ahead x seen hs k d a)
 
 -- THE FIRST READABLE HEADER THAT AGREES WITH AN EARLIER READABLE ONE; unsettled exactly if none does
 pub first-agreeing : (seen : List ℕ) (hs : List Header) → Says seen hs (firstAgreeing seen hs)
 unfolding firstAgreeing
 first-agreeing seen [] = λ k d a. a .has
 first-agreeing seen (Lost ∷ hs) = lost-on seen hs (firstAgreeing seen hs) (first-agreeing seen hs)
-first-agreeing seen (Codeword m f ∷ hs) = by (among (commonBits m) seen) refl (first-agreeing (commonBits m ∷ seen) hs)
+first-agreeing seen (Codeword x ∷ hs) = by (among (commonBits (x .message)) seen) refl (first-agreeing (commonBits (x .message) ∷ seen) hs)
   where
-    by : (t : Bool) → among (commonBits m) seen ≡ t → Says (commonBits m ∷ seen) hs (firstAgreeing (commonBits m ∷ seen) hs)
-        → Says seen (Codeword m f ∷ hs) (when t (Settled (commonBits m)) (firstAgreeing (commonBits m ∷ seen) hs))
+    by : (t : Bool) → among (commonBits (x .message)) seen ≡ t → Says (commonBits (x .message) ∷ seen) hs (firstAgreeing (commonBits (x .message) ∷ seen) hs)
+        → Says seen (Codeword x ∷ hs) (when t (Settled (commonBits (x .message))) (firstAgreeing (commonBits (x .message) ∷ seen) hs))
     by true e r = record { at = 0; agrees = record { has = refl; with = inl e }; none = λ i d h a. absurd (omega arith) }
-    by false e r = read-on m f seen hs (firstAgreeing (commonBits m ∷ seen) hs) e r
+    by false e r = read-on x seen hs (firstAgreeing (commonBits (x .message) ∷ seen) hs) e r
 
 seen-true : (x : ℕ) (l : List ℕ) (y : ℕ) → x ≡ y → among x (y ∷ l) ≡ true
 seen-true x l y e = rw (eq-eqb x y e)
@@ -194,14 +200,14 @@ seen-true x l y e = rw (eq-eqb x y e)
 abbrev pub AllHave : List Header → ℕ → Type 0
 AllHave [] c = Unit
 AllHave (Lost ∷ hs) c = ⊥
-AllHave (Codeword m f ∷ hs) c = (commonBits m ≡ c) × AllHave hs c
+AllHave (Codeword d ∷ hs) c = (commonBits (d .message) ≡ c) × AllHave hs c
 
 again : (hs : List Header) (seen : List ℕ) (c : ℕ) → 0 < length hs → AllHave hs c → among c seen ≡ true → firstAgreeing seen hs ≡ Settled c
 unfolding firstAgreeing
 again [] seen c n a e = absurd (omega arith)
 again (Lost ∷ hs) seen c n a e = absurd a
-again (Codeword m f ∷ hs) seen c n a e =
-    let t : among (commonBits m) seen ≡ true = ap (λ (x : ℕ). among x seen) (a .0) ∙ e in
+again (Codeword d ∷ hs) seen c n a e =
+    let t : among (commonBits (d .message)) seen ≡ true = ap (λ (x : ℕ). among x seen) (a .0) ∙ e in
     rw t (ap Settled (a .0))
 
 -- two headers or more, all read with the same common bits, settle them
@@ -209,25 +215,25 @@ pub all-agree : (hs : List Header) (c : ℕ) → 2 ≤ length hs → AllHave hs 
 unfolding settling firstAgreeing
 all-agree [] c n a = absurd (omega arith)
 all-agree (Lost ∷ hs) c n a = absurd a
-all-agree (Codeword m f ∷ hs) c n a =
-    ap (λ (s : Settings). orElse s (onlyOne (Codeword m f ∷ hs)))
-    (again hs (commonBits m ∷ []) c (omega arith) (a .1) (seen-true c [] (commonBits m) (sym (a .0))))
+all-agree (Codeword d ∷ hs) c n a =
+    ap (λ (s : Settlement). orElse s (onlyOne (Codeword d ∷ hs)))
+    (again hs (commonBits (d .message) ∷ []) c (omega arith) (a .1) (seen-true c [] (commonBits (d .message)) (sym (a .0))))
 
 -- an only header settles them exactly if it is a codeword
-pub only-clean : (m : ℕ) → settling (Codeword m 0 ∷ []) ≡ Settled (commonBits m)
+pub only-clean : (d : Decoded) → d .flips ≡ 0 → settling (Codeword d ∷ []) ≡ Settled (commonBits (d .message))
 unfolding settling firstAgreeing onlyOne
-only-clean m = refl
+only-clean d z = rw (eq-eqb (d .flips) 0 z)
 
-pub only-mended : (m f : ℕ) → (f ≡ 0 → ⊥) → settling (Codeword m f ∷ []) ≡ Unsettled
+pub only-mended : (d : Decoded) → (d .flips ≡ 0 → ⊥) → settling (Codeword d ∷ []) ≡ Unsettled
 unfolding settling firstAgreeing onlyOne
-only-mended m f n = rw (ne-eqb f 0 n)
+only-mended d n = rw (ne-eqb (d .flips) 0 n)
 
 pub only-lost : settling (Lost ∷ []) ≡ Unsettled
 unfolding settling firstAgreeing onlyOne
 only-lost = refl
 
 -- ---- what is settled
-isSettled : Settings → Bool
+isSettled : Settlement → Bool
 isSettled (Settled c) = true
 isSettled Unsettled = false
 
@@ -235,7 +241,7 @@ not-settled : (d : ℕ) → Unsettled ≡ Settled d → ⊥
 unfolding isSettled
 not-settled d e = true-false (sym (ap isSettled e))
 
-bitsIn : Settings → ℕ
+bitsIn : Settlement → ℕ
 bitsIn (Settled c) = c
 bitsIn Unsettled = 0
 
@@ -248,15 +254,15 @@ more-than-one : (hs : List Header) → 2 ≤ length hs → onlyOne hs ≡ Unsett
 unfolding onlyOne
 more-than-one [] h = absurd (omega arith)
 more-than-one (Lost ∷ hs) h = refl
-more-than-one (Codeword m f ∷ []) h = absurd (omega arith)
-more-than-one (Codeword m f ∷ x ∷ hs) h = refl
+more-than-one (Codeword d ∷ []) h = absurd (omega arith)
+more-than-one (Codeword d ∷ x ∷ hs) h = refl
 
 -- what two headers or more settle comes from the first of them that agrees with an earlier one
 pub settled-first : (hs : List Header) (c : ℕ) → 2 ≤ length hs → settling hs ≡ Settled c → First [] hs c
 unfolding settling
 settled-first hs c two e = by (firstAgreeing [] hs) (first-agreeing [] hs) e
   where
-    by : (s : Settings) → Says [] hs s → orElse s (onlyOne hs) ≡ Settled c → First [] hs c
+    by : (s : Settlement) → Says [] hs s → orElse s (onlyOne hs) ≡ Settled c → First [] hs c
     by Unsettled x e = absurd (not-settled c (sym (more-than-one hs two) ∙ e))
     by (Settled x) f e = subst (First [] hs) (settled-bits x c e) f
 
@@ -282,42 +288,30 @@ module _ (hs : List Header) (c j : ℕ) (same : (k d : ℕ) → (k ≡ j → ⊥
   unfolding settling
   two-settle a b h ha hb = by (firstAgreeing [] hs) (first-agreeing [] hs)
     where
-      by : (s : Settings) → Says [] hs s → orElse s (onlyOne hs) ≡ Settled c
+      by : (s : Settlement) → Says [] hs s → orElse s (onlyOne hs) ≡ Settled c
       by Unsettled x = absurd (x b c (record { has = hb; with = inr (record { at = a; less = h; has = ha }) }))
       by (Settled x) f = ap Settled (agreed x f)
 
 -- an only header settles nothing but its own common bits, and only if it is a codeword
-pub only-settles : (h : Header) (d : ℕ) → settling (h ∷ []) ≡ Settled d → (m : ℕ) × ((h ≡ Codeword m 0) × (commonBits m ≡ d))
-only-settles Lost d e = absurd (not-settled d (sym only-lost ∙ e))
-only-settles (Codeword m f) d e =
-    elim (ℕ-discrete f 0) [
-      | yes z ↦ (m, (ap (Codeword m) z, settled-bits (commonBits m) d (sym (ap (λ (n : ℕ). settling (Codeword m n ∷ [])) z ∙ only-clean m) ∙ e)))
-      | no n ↦ absurd (not-settled d (sym (only-mended m f n) ∙ e))
+pub only-settles : (h : Header) (c : ℕ) → settling (h ∷ []) ≡ Settled c → (d : Decoded) × ((h ≡ Codeword d) × ((d .flips ≡ 0) × (commonBits (d .message) ≡ c)))
+only-settles Lost c e = absurd (not-settled c (sym only-lost ∙ e))
+only-settles (Codeword d) c e =
+    elim (ℕ-discrete (d .flips) 0) [
+      | yes z ↦ (d, (refl, (z, settled-bits (commonBits (d .message)) c (sym (only-clean d z) ∙ e))))
+      | no n ↦ absurd (not-settled c (sym (only-mended d n) ∙ e))
     ]
 
 -- ---- header k of a list, as `Has` and as `getD` take it
-isRead : Header → Bool
-isRead (Codeword m f) = true
-isRead Lost = false
-
-pub has-read : (hs : List Header) (k c : ℕ) → Has hs k c → (m : ℕ) × ((f : ℕ) × ((getD hs k Lost ≡ Codeword m f) × (commonBits m ≡ c)))
+pub has-read : (hs : List Header) (k c : ℕ) → Has hs k c → (d : Decoded) × ((getD hs k Lost ≡ Codeword d) × (commonBits (d .message) ≡ c))
 has-read [] k c x = absurd x
 has-read (Lost ∷ hs) zero c x = absurd x
-has-read (Codeword m f ∷ hs) zero c x = (m, (f, (refl, x)))
+has-read (Codeword d ∷ hs) zero c x = (d, (refl, x))
 has-read (Lost ∷ hs) (suc k) c x = has-read hs k c x
-has-read (Codeword m f ∷ hs) (suc k) c x = has-read hs k c x
+has-read (Codeword d ∷ hs) (suc k) c x = has-read hs k c x
 
-pub read-has : (hs : List Header) (k m f : ℕ) → getD hs k Lost ≡ Codeword m f → Has hs k (commonBits m)
-unfolding isRead
-read-has [] k m f e = absurd (true-false (sym (ap isRead e)))
-read-has (Lost ∷ hs) zero m f e = absurd (true-false (sym (ap isRead e)))
-read-has (Codeword n g ∷ hs) zero m f e = ap commonBits (messageOf e)
-  where
-    messageIn : Header → ℕ
-    messageIn (Codeword a b) = a
-    messageIn Lost = 0
-
-    messageOf : Codeword n g ≡ Codeword m f → n ≡ m
-    messageOf q = ap messageIn q
-read-has (Lost ∷ hs) (suc k) m f e = read-has hs k m f e
-read-has (Codeword n g ∷ hs) (suc k) m f e = read-has hs k m f e
+pub read-has : (hs : List Header) (k : ℕ) (d : Decoded) → getD hs k Lost ≡ Codeword d → Has hs k (commonBits (d .message))
+read-has [] k d e = absurd (lost-not-read d e)
+read-has (Lost ∷ hs) zero d e = absurd (lost-not-read d e)
+read-has (Codeword x ∷ hs) zero d e = ap commonBits (same-message x d e)
+read-has (Lost ∷ hs) (suc k) d e = read-has hs k d e
+read-has (Codeword x ∷ hs) (suc k) d e = read-has hs k d e

@@ -14,8 +14,8 @@ use Rattle.header.specs.Message.{countOf, commonBits}
 use Rattle.header.specs.Reading.{reading}
 use Rattle.header.specs.declared.Header.{Header}
 use Rattle.header.specs.declared.Header.the-variants.{Codeword, Lost}
-use Rattle.settling.specs.declared.Settings.{Settings}
-use Rattle.settling.specs.declared.Settings.the-variants.{Settled, Unsettled}
+use Rattle.settling.specs.declared.Settlement.{Settlement}
+use Rattle.settling.specs.declared.Settlement.the-variants.{Settled, Unsettled}
 
 -- ---- the headers of the multiframes at places of the octets
 
@@ -23,7 +23,7 @@ use Rattle.settling.specs.declared.Settings.the-variants.{Settled, Unset
 abbrev pub headerWord : List ℕ → ℕ → ℕ
 headerWord octets place = value (bits (part (place + syncOctets) headerOctets octets))
 
--- every header's reading, in order: a codeword's message and the number of its flips, or lost
+-- every header's reading, in order
 unfoldable pub readings : List ℕ → List ℕ → List Header
 readings octets places = each (λ k. reading (headerWord octets (getD places k 0))) (length places)
 
@@ -35,28 +35,29 @@ among x [] = false
 among x (y ∷ l) = when (eqb x y) true (among x l)
 
 -- the common bits of the first readable header that agrees in them with an earlier readable one, of which `seen` are the common bits
-unfoldable pub firstAgreeing : List ℕ → List Header → Settings
+unfoldable pub firstAgreeing : List ℕ → List Header → Settlement
 firstAgreeing seen [] = Unsettled
 firstAgreeing seen (Lost ∷ hs) = firstAgreeing seen hs
-firstAgreeing seen (Codeword m f ∷ hs) = when (among (commonBits m) seen) (Settled (commonBits m)) (firstAgreeing (commonBits m ∷ seen) hs)
+firstAgreeing seen (Codeword d ∷ hs) =
+    when (among (commonBits (d .message)) seen) (Settled (commonBits (d .message))) (firstAgreeing (commonBits (d .message) ∷ seen) hs)
 
 -- an only multiframe whose header is itself a codeword (house)
-unfoldable pub onlyOne : List Header → Settings
+unfoldable pub onlyOne : List Header → Settlement
 onlyOne [] = Unsettled
 onlyOne (Lost ∷ hs) = Unsettled
-onlyOne (Codeword m f ∷ []) = when (eqb f 0) (Settled (commonBits m)) Unsettled
-onlyOne (Codeword m f ∷ h ∷ hs) = Unsettled
+onlyOne (Codeword d ∷ []) = when (eqb (d .flips) 0) (Settled (commonBits (d .message))) Unsettled
+onlyOne (Codeword d ∷ h ∷ hs) = Unsettled
 
 -- if none agrees
-abbrev pub orElse : Settings → Settings → Settings
+abbrev pub orElse : Settlement → Settlement → Settlement
 orElse (Settled c) other = Settled c
 orElse Unsettled other = other
 
-unfoldable pub settling : List Header → Settings
+unfoldable pub settling : List Header → Settlement
 settling hs = orElse (firstAgreeing [] hs) (onlyOne hs)
 
 -- ---- header notes: 0 clean, 1 or 2 flips mended, 3 lost; a readable one adds 4 if its counter is not (position from 1) mod 16, and 8 if
 -- its common bits differ from the settled, c. k counts from 0
 unfoldable pub headerNote : ℕ → ℕ → Header → ℕ
 headerNote c k Lost = 3
-headerNote c k (Codeword m f) = f + when (eqb (countOf m) ((k + 1) % 16)) 0 4 + when (eqb (commonBits m) c) 0 8
+headerNote c k (Codeword d) = d .flips + when (eqb (countOf (d .message)) ((k + 1) % 16)) 0 4 + when (eqb (commonBits (d .message)) c) 0 8

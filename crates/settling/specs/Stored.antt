@@ -21,43 +21,44 @@ use Rattle.bits.specs.Bits.{value, bits}
 use Rattle.bits.specs.Laws.{in-word, bits-part}
 use Rattle.lists.specs.Rows.{each, length-each, each-at, same-each, each-more}
 use Rattle.header.specs.Message.{countOf, commonBits}
-use Rattle.header.specs.Reading.{ReadAs, reading}
+use Rattle.header.specs.Reading.{mendable, ReadAs, reading}
 use Rattle.header.specs.Reading.Laws.{reads}
+use Rattle.header.specs.declared.Decoded.{Decoded}
 use Rattle.header.specs.declared.Header.{Header}
 use Rattle.header.specs.declared.Header.the-variants.{Codeword, Lost}
 use Rattle.settling.specs.Settling.{headerWord, readings, among, firstAgreeing, onlyOne, orElse, headerNote}
-use Rattle.settling.specs.declared.Settings.{Settings}
-use Rattle.settling.specs.declared.Settings.the-variants.{Settled, Unsettled}
+use Rattle.settling.specs.declared.Settlement.{Settlement}
+use Rattle.settling.specs.declared.Settlement.the-variants.{Settled, Unsettled}
 
 -- ---- a reading as one number: the message, and above it the flips, of which a lost header has three
 abbrev pub packed : Header → ℕ
 packed Lost = 3 * 2 ^ 16
-packed (Codeword m f) = f * 2 ^ 16 + m
+packed (Codeword d) = d .flips * 2 ^ 16 + d .message
 
 unfoldable pub opened : ℕ → Header
-opened x = when (eqb (x / 2 ^ 16) 3) Lost (Codeword (x % 2 ^ 16) (x / 2 ^ 16))
+opened x = when (eqb (x / 2 ^ 16) 3) Lost (Codeword (record { message = x % 2 ^ 16; flips = x / 2 ^ 16 }))
 
 -- what every reading keeps to
 abbrev pub Mended : Header → Type 0
 Mended Lost = Unit
-Mended (Codeword m f) = (m < 2 ^ 16) × (f ≤ 2)
+Mended (Codeword d) = (d .message < 2 ^ 16) × (d .flips ≤ mendable)
 
 pub mended : (w : ℕ) → Mended (reading w)
 mended w = from (reading w) (reads w)
   where
     from : (h : Header) → ReadAs w h → Mended h
     from Lost r = tt
-    from (Codeword m f) r = (r .0, r .2)
+    from (Codeword d) r = (r .0, r .2)
 
 pub opened-packed : (h : Header) → Mended h → opened (packed h) ≡ h
 unfolding opened
 opened-packed Lost h = refl
-opened-packed (Codeword m f) h =
+opened-packed (Codeword d) h =
     let l = h .0 in
     let n = h .1 in
-    let d : (f * 2 ^ 16 + m) / 2 ^ 16 ≡ f = omega arith in
-    let r : (f * 2 ^ 16 + m) % 2 ^ 16 ≡ m = omega arith in
-    rw (d, r, ne-eqb f 3 (λ e. omega arith))
+    let f : (d .flips * 2 ^ 16 + d .message) / 2 ^ 16 ≡ d .flips = omega arith in
+    let m : (d .flips * 2 ^ 16 + d .message) % 2 ^ 16 ≡ d .message = omega arith in
+    rw (f, m, ne-eqb (d .flips) 3 (λ e. omega arith))
 
 -- ---- an array of them
 unfoldable pub openAll : List ℕ → List Header
@@ -89,7 +90,7 @@ stored-back octets places =
 -- the common bits seen so far, with one header more
 abbrev pub withSeen : Header → List ℕ → List ℕ
 withSeen Lost seen = seen
-withSeen (Codeword m f) seen = commonBits m ∷ seen
+withSeen (Codeword d) seen = commonBits (d .message) ∷ seen
 
 -- the common bits of the readable ones among the first k headers, the last one first
 unfoldable pub seenBefore : List Header → ℕ → List ℕ
@@ -97,27 +98,27 @@ seenBefore hs zero = []
 seenBefore hs (suc k) = withSeen (getD hs k Lost) (seenBefore hs k)
 
 -- what one header settles
-abbrev pub settledBy : Header → List ℕ → Settings
+abbrev pub settledBy : Header → List ℕ → Settlement
 settledBy Lost seen = Unsettled
-settledBy (Codeword m f) seen = when (among (commonBits m) seen) (Settled (commonBits m)) Unsettled
+settledBy (Codeword d) seen = when (among (commonBits (d .message)) seen) (Settled (commonBits (d .message))) Unsettled
 
 -- whether a header has these common bits
 abbrev pub hasCommon : Header → ℕ → Bool
 hasCommon Lost c = false
-hasCommon (Codeword m f) c = eqb c (commonBits m)
+hasCommon (Codeword d) c = eqb c (commonBits (d .message))
 
 pub agreeing-step : (h : Header) (hs : List Header) (seen : List ℕ) → firstAgreeing seen (h ∷ hs) ≡ orElse (settledBy h seen) (firstAgreeing (withSeen h seen) hs)
 unfolding firstAgreeing
 agreeing-step Lost hs seen = refl
-agreeing-step (Codeword m f) hs seen = by (among (commonBits m) seen)
+agreeing-step (Codeword d) hs seen = by (among (commonBits (d .message)) seen)
   where
-    by : (t : Bool) → when t (Settled (commonBits m)) (firstAgreeing (commonBits m ∷ seen) hs)
-        ≡ orElse (when t (Settled (commonBits m)) Unsettled) (firstAgreeing (commonBits m ∷ seen) hs)
+    by : (t : Bool) → when t (Settled (commonBits (d .message))) (firstAgreeing (commonBits (d .message) ∷ seen) hs)
+        ≡ orElse (when t (Settled (commonBits (d .message))) Unsettled) (firstAgreeing (commonBits (d .message) ∷ seen) hs)
     by true = refl
     by false = refl
 
 -- what is left to settle from header k on
-pub agreeing-on : (hs : List Header) (k : ℕ) (s : Settings) → k < length hs → s ≡ settledBy (getD hs k Lost) (seenBefore hs k)
+pub agreeing-on : (hs : List Header) (k : ℕ) (s : Settlement) → k < length hs → s ≡ settledBy (getD hs k Lost) (seenBefore hs k)
     → firstAgreeing (seenBefore hs k) (drop k hs) ≡ orElse s (firstAgreeing (seenBefore hs (k + 1)) (drop (k + 1) hs))
 unfolding seenBefore
 agreeing-on hs k s h e = rw (drop-cons hs k Lost h, add-one k, e) (agreeing-step (getD hs k Lost) (drop (suc k) hs) (seenBefore hs k))
@@ -133,30 +134,30 @@ among-step hs c k t e = from (getD hs k Lost) t e
   where
     from : (h : Header) (t : Bool) → t ≡ hasCommon h c → among c (withSeen h (seenBefore hs k)) ≡ when t true (among c (seenBefore hs k))
     from Lost t e = rw e
-    from (Codeword m f) t e = rw e
+    from (Codeword d) t e = rw e
 
 pub among-none : (hs : List Header) (c : ℕ) → among c (seenBefore hs 0) ≡ false
 unfolding seenBefore
 among-none hs c = refl
 
 -- ---- an only header
-abbrev pub onlyBy : Header → Settings
+abbrev pub onlyBy : Header → Settlement
 onlyBy Lost = Unsettled
-onlyBy (Codeword m f) = when (eqb f 0) (Settled (commonBits m)) Unsettled
+onlyBy (Codeword d) = when (eqb (d .flips) 0) (Settled (commonBits (d .message))) Unsettled
 
 pub only-is : (hs : List Header) → length hs ≡ 1 → onlyOne hs ≡ onlyBy (getD hs 0 Lost)
 unfolding onlyOne
 only-is [] e = absurd (omega arith)
 only-is (Lost ∷ hs) e = refl
-only-is (Codeword m f ∷ []) e = refl
-only-is (Codeword m f ∷ h ∷ hs) e = absurd (omega arith)
+only-is (Codeword d ∷ []) e = refl
+only-is (Codeword d ∷ h ∷ hs) e = absurd (omega arith)
 
 pub not-only : (hs : List Header) → (length hs ≡ 1 → ⊥) → onlyOne hs ≡ Unsettled
 unfolding onlyOne
 not-only [] n = refl
 not-only (Lost ∷ hs) n = refl
-not-only (Codeword m f ∷ []) n = absurd (n refl)
-not-only (Codeword m f ∷ h ∷ hs) n = refl
+not-only (Codeword d ∷ []) n = absurd (n refl)
+not-only (Codeword d ∷ h ∷ hs) n = refl
 
 -- ---- header notes: what a readable header's flips are added to
 unfoldable pub stepNote : ℕ → ℕ → ℕ
@@ -181,9 +182,10 @@ common-note-le a b = by (eqb a b)
     by true = omega arith
     by false = omega arith
 
-pub note-sum : (c k m f s t : ℕ) (h : Header) → h ≡ Codeword m f → s ≡ stepNote (countOf m) k → t ≡ commonNote (commonBits m) c → f + s + t ≡ headerNote c k h
+pub note-sum : (c k s t : ℕ) (d : Decoded) (h : Header) → h ≡ Codeword d → s ≡ stepNote (countOf (d .message)) k → t ≡ commonNote (commonBits (d .message)) c
+    → d .flips + s + t ≡ headerNote c k h
 unfolding stepNote commonNote headerNote
-note-sum c k m f s t h e es et = rw (e, es, et)
+note-sum c k s t d h e es et = rw (e, es, et)
 
 pub note-lost : (c k : ℕ) (h : Header) → h ≡ Lost → 3 ≡ headerNote c k h
 unfolding headerNote
@@ -214,16 +216,16 @@ module _ (l : List ℕ) (k : ℕ) (h : k < length l) (r : Header) (e : r ≡ ope
   pub lost-settles-nothing : (seen : List ℕ) → r ≡ Lost → Unsettled ≡ settledBy (getD (openAll l) k Lost) seen
   lost-settles-nothing seen q = rw (found-at, q)
 
-  pub seen-settles : (seen : List ℕ) (m f c : ℕ) (t : Bool) → r ≡ Codeword m f → c ≡ commonBits m → t ≡ among c seen → t ≡ true
+  pub seen-settles : (seen : List ℕ) (d : Decoded) (c : ℕ) (t : Bool) → r ≡ Codeword d → c ≡ commonBits (d .message) → t ≡ among c seen → t ≡ true
       → Settled c ≡ settledBy (getD (openAll l) k Lost) seen
-  seen-settles seen m f c t q ec et y =
-      let s : among (commonBits m) seen ≡ true = ap (λ (x : ℕ). among x seen) (sym ec) ∙ sym et ∙ y in
+  seen-settles seen d c t q ec et y =
+      let s : among (commonBits (d .message)) seen ≡ true = ap (λ (x : ℕ). among x seen) (sym ec) ∙ sym et ∙ y in
       rw (found-at, q, s) (ap Settled ec)
 
-  pub new-settles-nothing : (seen : List ℕ) (m f c : ℕ) (t : Bool) → r ≡ Codeword m f → c ≡ commonBits m → t ≡ among c seen → t ≡ false
+  pub new-settles-nothing : (seen : List ℕ) (d : Decoded) (c : ℕ) (t : Bool) → r ≡ Codeword d → c ≡ commonBits (d .message) → t ≡ among c seen → t ≡ false
       → Unsettled ≡ settledBy (getD (openAll l) k Lost) seen
-  new-settles-nothing seen m f c t q ec et y =
-      let s : among (commonBits m) seen ≡ false = ap (λ (x : ℕ). among x seen) (sym ec) ∙ sym et ∙ y in
+  new-settles-nothing seen d c t q ec et y =
+      let s : among (commonBits (d .message)) seen ≡ false = ap (λ (x : ℕ). among x seen) (sym ec) ∙ sym et ∙ y in
       rw (found-at, q, s)
 
   -- looking back: from header k + 1 to header k
@@ -238,8 +240,8 @@ module _ (l : List ℕ) (one : length l ≡ 1) (r : Header) (e : r ≡ opened (g
   pub only-lost : r ≡ Lost → Unsettled ≡ onlyOne (openAll l)
   only-lost q = rw (only-found, q)
 
-  pub only-clean : (m f c : ℕ) → r ≡ Codeword m f → f ≡ 0 → c ≡ commonBits m → Settled c ≡ onlyOne (openAll l)
-  only-clean m f c q z ec = rw (only-found, q, eq-eqb f 0 z) (ap Settled ec)
+  pub only-clean : (d : Decoded) (c : ℕ) → r ≡ Codeword d → d .flips ≡ 0 → c ≡ commonBits (d .message) → Settled c ≡ onlyOne (openAll l)
+  only-clean d c q z ec = rw (only-found, q, eq-eqb (d .flips) 0 z) (ap Settled ec)
 
-  pub only-mended : (m f : ℕ) → r ≡ Codeword m f → (f ≡ 0 → ⊥) → Unsettled ≡ onlyOne (openAll l)
-  only-mended m f q n = rw (only-found, q, ne-eqb f 0 n)
+  pub only-mended : (d : Decoded) → r ≡ Codeword d → (d .flips ≡ 0 → ⊥) → Unsettled ≡ onlyOne (openAll l)
+  only-mended d q n = rw (only-found, q, ne-eqb (d .flips) 0 n)

@@ -1,4 +1,5 @@
 // Settings and header notes: every header of an utterance read once, what the readings settle, and what the report says of each.
+use header::Decoded;
 use header::Header;
 use layout::MultiframeLayout;
 ghost use mathlib.Core.Path.{_≡_};
@@ -13,7 +14,7 @@ ghost use Rattle.settling.specs.Settling.{headerWord, among, firstAgreei
 ghost use Rattle.settling.specs.Stored.{packed, opened, Mended, openAll, packAll, seenBefore, settledBy, hasCommon, stepNote, commonNote};
 
 // What the headers settle: common bits, SampRate, feType and EXP, as a message with its counter 0; or nothing.
-pub enum Settings {
+pub enum Settlement {
     Settled { common: u16 },
     Unsettled,
 }
@@ -45,10 +46,10 @@ fn pack_reading(h: Header) -> u32
     requires { ⌜ Mended h ⌝ }
     ensures { λ r. ⌜ r ≡ packed h ⌝ }
 {
-    let Header::Codeword { message, flips } = h else {
+    let Header::Codeword(d) = h else {
         return LOST_FLIPS * ABOVE;
     };
-    flips * ABOVE + message as u32
+    d.flips * ABOVE + d.message as u32
 }
 
 fn open_reading(x: u32) -> Header
@@ -58,10 +59,10 @@ fn open_reading(x: u32) -> Header
     if flips == LOST_FLIPS {
         return Header::Lost;
     }
-    Header::Codeword {
+    Header::Codeword(Decoded {
         message: (x % ABOVE) as u16,
         flips,
-    }
+    })
 }
 
 // read_headers puts the reading of every header to the front of headers; the rest of headers stays.
@@ -83,10 +84,10 @@ pub fn read_headers(octets: &[u8], places: &[usize], headers: &mut [u32])
 fn has_common(h: Header, common: u16) -> bool
     ensures { λ r. ⌜ r ≡ hasCommon h common ⌝ }
 {
-    let Header::Codeword { message, flips: _ } = h else {
+    let Header::Codeword(d) = h else {
         return false;
     };
-    common == header::common_of(message)
+    common == header::common_of(d.message)
 }
 
 // Whether one of the first k headers was read with these common bits: the nearest is tried first.
@@ -105,58 +106,58 @@ fn was_seen(headers: &[u32], k: usize, common: u16) -> bool
 }
 
 // What header k settles: its common bits, if an earlier readable one has the same.
-fn agreed(headers: &[u32], k: usize) -> Settings
+fn agreed(headers: &[u32], k: usize) -> Settlement
     requires { ⌜ k < length (now headers) ⌝ }
     ensures { λ r. ⌜ r ≡ settledBy (getD (openAll (now (headers .entry))) k Lost) (seenBefore (openAll (now (headers .entry))) k) ⌝ }
 {
-    let Header::Codeword { message, flips: _ } = open_reading(headers[k]) else {
-        return Settings::Unsettled;
+    let Header::Codeword(d) = open_reading(headers[k]) else {
+        return Settlement::Unsettled;
     };
-    let common = header::common_of(message);
+    let common = header::common_of(d.message);
     if was_seen(headers, k, common) {
-        return Settings::Settled { common };
+        return Settlement::Settled { common };
     }
-    Settings::Unsettled
+    Settlement::Unsettled
 }
 
-fn first_agreeing(headers: &[u32]) -> Settings
+fn first_agreeing(headers: &[u32]) -> Settlement
     ensures { λ r. ⌜ r ≡ firstAgreeing [] (openAll (now (headers .entry))) ⌝ }
 {
     let mut k = 0;
     while k < headers.len() {
-        if let Settings::Settled { common } = agreed(headers, k) {
-            return Settings::Settled { common };
+        if let Settlement::Settled { common } = agreed(headers, k) {
+            return Settlement::Settled { common };
         }
         k += 1;
     }
-    Settings::Unsettled
+    Settlement::Unsettled
 }
 
 // An only header settles its common bits if it is itself a codeword (house).
-fn only_one(headers: &[u32]) -> Settings
+fn only_one(headers: &[u32]) -> Settlement
     ensures { λ r. ⌜ r ≡ onlyOne (openAll (now (headers .entry))) ⌝ }
 {
     if headers.len() != 1 {
-        return Settings::Unsettled;
+        return Settlement::Unsettled;
     }
-    let Header::Codeword { message, flips } = open_reading(headers[0]) else {
-        return Settings::Unsettled;
+    let Header::Codeword(d) = open_reading(headers[0]) else {
+        return Settlement::Unsettled;
     };
-    if flips == 0 {
-        return Settings::Settled {
-            common: header::common_of(message),
+    if d.flips == 0 {
+        return Settlement::Settled {
+            common: header::common_of(d.message),
         };
     }
-    Settings::Unsettled
+    Settlement::Unsettled
 }
 
 // settle gives what the readings of all headers settle.
-pub fn settle(headers: &[u32]) -> Settings
+pub fn settle(headers: &[u32]) -> Settlement
     ensures { λ r. ⌜ r ≡ settling (openAll (now (headers .entry))) ⌝ }
 {
     match first_agreeing(headers) {
-        Settings::Settled { common } => Settings::Settled { common },
-        Settings::Unsettled => only_one(headers),
+        Settlement::Settled { common } => Settlement::Settled { common },
+        Settlement::Unsettled => only_one(headers),
     }
 }
 
@@ -186,12 +187,12 @@ fn note_of(h: Header, k: usize, common: u16) -> u8
     requires { ⌜ Mended h × (k < 65536) ⌝ }
     ensures { λ r. ⌜ r ≡ headerNote common k h ⌝ }
 {
-    let Header::Codeword { message, flips } = h else {
+    let Header::Codeword(d) = h else {
         return LOST;
     };
-    let step = step_note(header::fields_of(message).count, k);
-    let like = common_note(header::common_of(message), common);
-    flips as u8 + step + like
+    let step = step_note(header::fields_of(d.message).count, k);
+    let like = common_note(header::common_of(d.message), common);
+    d.flips as u8 + step + like
 }
 
 // note_at gives the note of header k of the readings in an array, as read_headers puts them there.

@@ -1,14 +1,12 @@
 -- Each loop shows that the patterns it passed miss; the way out of the search brings a pattern that fits, and past all of them the word is lost.
 -- Assumes nothing.
-use mathlib.Core.Path.{_≡_, refl, sym, ap, ap₂, _∙_}
+use mathlib.Core.Path.{refl}
 use mathlib.Core.Logic.{⊎-elim}
-use Prim.Native.Nat.{ℕ, _+_, _-_, _%_, _^_, _≤_, _<_}
+use Prim.Native.Nat.{ℕ, _-_, _^_, _≤_, _<_}
 use native.Mathlib.Omega.{arith}
 use borrow.Author.Count.{below-none, below-more}
 use lib.Bits.{bitXor, mask-lt, and-mask}
-use lib.Count.{ones}
 use Rattle.header.specs.Reading.Search.{Misses, miss-none, miss-one, miss-two, lost, found, fit-none, fit-one, fit-two}
-use Rattle.header.specs.declared.Header.the-variants.{Codeword}
 use borrow.Author.Needs.{needs}
 use Rattle.header.proofs.read.Statement.{statement}
 use Rattle.header.proofs.read.Tie as tie
@@ -205,8 +203,7 @@ returns-2 c =
     let w = s .before .args .word in
     let e = c .before .if1 .pattern in
     let wrong = s .syndrome-of .ensures in
-    ap (λ (m : ℕ). Codeword m (ones (bitXor w (bitXor w e)))) (and-mask (bitXor w e) 16)
-    ∙ found w e (s .before .fits .word .fits)
+    found w e _ (s .before .fits .word .fits)
     (⊎-elim (λ v. fit-none w e _ (v .1) wrong (v .0 .taken))
     (⊎-elim
     (λ v.
@@ -217,6 +214,7 @@ returns-2 c =
     let g : v .6 .j < 32 = omega (arith, v .7) in
     fit-two w e _ _ (v .4 .i) (v .6 .j) _ _ _ h g (v .11) (v .9 .ensures) (v .10 .ensures) wrong (v .1 .ensures (v .4 .i) h) (v .1 .ensures (v .6 .j) g) (v .8 .taken)))
     (c .before .if1 .came))
+    (and-mask (bitXor w e) 16) refl
 
 pub read-spec : {M : Type 1} → statement M
 read-spec =

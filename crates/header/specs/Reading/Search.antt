@@ -14,8 +14,9 @@ use Rattle.gf2.specs.Xor.{digit, low, xor-shl, xor-assoc, xor-twice, ones-xor-l
 use Rattle.header_code.specs.Code.{codeword, flipsTo, syndrome}
 use Rattle.header_code.specs.Code.Distance.{codeword-lt}
 use Rattle.header_code.specs.Code.Syndrome.{syndrome-xor, syndrome-zero, syndrome-codeword, codeword-of}
-use Rattle.header.specs.Reading.{ReadAs, reading}
+use Rattle.header.specs.Reading.{decodedAs, reading}
 use Rattle.header.specs.Reading.Laws.{reading-only}
+use Rattle.header.specs.declared.Decoded.{Decoded}
 use Rattle.header.specs.declared.Header.the-variants.{Codeword, Lost}
 
 -- ---- the words with at most two ones are none, one flip, or two
@@ -98,15 +99,19 @@ pub record Fit (w e : ℕ) : Type 0 where
   pub few : ones e ≤ 2
   pub bits : e < 2 ^ 32
 
-pub found : (w e : ℕ) → w < 2 ^ 32 → Fit w e → Codeword (bitXor w e % 2 ^ 16) (ones (bitXor w (bitXor w e))) ≡ reading w
+-- what the code puts together from the word and the pattern
+pub found : (w e : ℕ) (d : Decoded) → w < 2 ^ 32 → Fit w e → d .message ≡ bitXor w e % 2 ^ 16 → d .flips ≡ ones (bitXor w (bitXor w e)) → Codeword d ≡ reading w
 unfolding flipsTo
-found w e h f = reading-only w (Codeword (bitXor w e % 2 ^ 16) (ones (bitXor w (bitXor w e)))) (omega arith, counted, omega (arith, ap ones (back w e), f .few))
+found w e d h f em ef = reading-only w (Codeword d) (omega arith, taken, omega (arith, ef, ap ones (back w e), f .few))
   where
     none : syndrome (bitXor w e) ≡ 0
     none = syndrome-xor w e ∙ ap (bitXor (syndrome w)) (f .fits) ∙ xor-self (syndrome w)
 
-    counted : ones (bitXor w (bitXor w e)) ≡ flipsTo w (bitXor w e % 2 ^ 16)
-    counted = ap (λ (c : ℕ). ones (bitXor w c)) (sym (codeword-of (bitXor w e) (xor-lt 32 w e h (f .bits)) none))
+    counted : d .flips ≡ flipsTo w (d .message)
+    counted = ef ∙ ap (λ (c : ℕ). ones (bitXor w c)) (sym (ap codeword em ∙ codeword-of (bitXor w e) (xor-lt 32 w e h (f .bits)) none))
+
+    taken : d ≡ decodedAs w (d .message)
+    taken = let with : ℕ → Decoded = λ n. record { message = d .message; flips = n } in ap with counted
 
 ones-pow : (i : ℕ) → ones (2 ^ i) ≡ 1
 unfolding ones onesIn

@@ -6,9 +6,10 @@ use mathlib.Core.Bool.{Bool, true}
 use Prim.Native.Nat.{ℕ, zero, suc, _+_, _*_, _%_, _^_, _≤_, _<_}
 use native.Mathlib.Decide.{decLe, ℕ-discrete}
 use native.Mathlib.Omega.{arith}
-use lib.Bits.{bitXor, xor-block, xor-lt}
-use lib.Count.{ones, onesIn, ones-cat}
-use lib.Dec.{T, leb, leb→le}
+use lib.Arith.{bin-ind}
+use lib.Bits.{bitXor, xor-block, xor-lt, xor-self}
+use lib.Count.{ones, onesIn, ones-cat, ones-le, ones-step}
+use lib.Dec.{T, leb, leb→le, lit<}
 use Rattle.gf2.specs.Gf2.{remainder}
 use Rattle.gf2.specs.Xor.{digit, low, xor-twice, between, ones-xor, ones-xor-le}
 use Rattle.gf2.specs.Light.{light, light-holds, ones-in}
@@ -98,3 +99,17 @@ far-from-one w a b ha hb d =
 -- so at most one codeword is within two bits of a word
 pub nearest : (w a b : ℕ) → a < 2 ^ 16 → b < 2 ^ 16 → flipsTo w a ≤ 2 → flipsTo w b ≤ 2 → a ≡ b
 nearest w a b ha hb la lb = elim (ℕ-discrete a b) [ yes e ↦ e | no d ↦ absurd (omega (arith, far-from-one w a b ha hb d)) ]
+
+-- ---- no flips at all
+no-ones : (n : ℕ) → ones n ≡ 0 → n ≡ 0
+no-ones = bin-ind (λ (n : ℕ). ones n ≡ 0 → n ≡ 0) (λ e. refl) (λ n ih e. let z = ih (omega (arith, ones-step n)) in omega (arith, ones-step n))
+
+-- a word that differs from a codeword in no bit is that codeword
+pub no-flips : (w m : ℕ) → flipsTo w m ≡ 0 → w ≡ codeword m
+unfolding flipsTo
+no-flips w m e = sym (xor-twice w (codeword m)) ∙ ap (λ (x : ℕ). bitXor x (codeword m)) (no-ones (bitXor w (codeword m)) e)
+
+-- and a codeword differs from itself in none
+pub itself-near : (w m : ℕ) → codeword m ≡ w → flipsTo w m ≡ 0
+unfolding flipsTo
+itself-near w m e = let z = ap ones (ap (bitXor w) e ∙ xor-self w) in omega (arith, ones-le 0 0 (lit< tt))

@@ -2,9 +2,11 @@
 use mathlib.Core.Path.{_≡_, sym, ap, _∙_}
 use mathlib.Core.List.{List, [], _∷_}
 use Prim.Native.Nat.{ℕ, _+_, _*_, _/_, _%_, _^_, _<_}
+use native.Mathlib.Omega.{arith}
 use lib.Bits.{bitXor}
 use lib.Count.{ones, onesIn}
 use lib.Dec.{lit<}
+use lib.ListN.{getD}
 use Rattle.gf2.specs.Gf2.{remainder}
 use Rattle.gf2.specs.Light.{ones-in}
 use Rattle.header_code.specs.Code.{parity, front, codeword, flipsTo}
@@ -13,6 +15,15 @@ use Rattle.header_code.specs.Code.Distance.{front-lt}
 -- the four octets of a word, in sending order
 abbrev pub octets : ℕ → List ℕ
 octets w = w % 256 ∷ w / 256 % 256 ∷ w / 65536 % 256 ∷ w / 16777216 ∷ []
+
+-- a word from its octets
+pub of-octets : (w a b c d : ℕ) → octets w ≡ a ∷ b ∷ c ∷ d ∷ [] → w ≡ a + 256 * b + 65536 * c + 16777216 * d
+of-octets w a b c d e =
+    let x : w % 256 ≡ a = ap (λ (l : List ℕ). getD l 0 0) e in
+    let y : w / 256 % 256 ≡ b = ap (λ (l : List ℕ). getD l 1 0) e in
+    let z : w / 65536 % 256 ≡ c = ap (λ (l : List ℕ). getD l 2 0) e in
+    let t : w / 16777216 ≡ d = ap (λ (l : List ℕ). getD l 3 0) e in
+    omega arith
 
 -- the codeword in a form that is computed quickly
 fast : ℕ → ℕ
@@ -48,7 +59,7 @@ pub codeword-0 : codeword 0 ≡ 0
 unfolding fast front parity remainder onesIn
 codeword-0 = fast-is 0 (lit< tt)
 
-codeword-1 : codeword 1 ≡ 0xD1010001
+pub codeword-1 : codeword 1 ≡ 0xD1010001
 unfolding fast front parity remainder onesIn
 codeword-1 = fast-is 1 (lit< tt)
 

@@ -20,7 +20,7 @@ use Rattle.gf2.specs.Xor.{digit, low, xor-swap, xor-twice, ones-xor}
 use Rattle.gf2.specs.Light.{ones-in}
 use Rattle.header_code.specs.Code.{parity, front, codeword, syndrome}
 use Rattle.header_code.specs.Code.Parity.{parity-lt, parity-xor, words}
-use Rattle.header_code.specs.Code.Distance.{codeword-even, codeword-low, front-lt}
+use Rattle.header_code.specs.Code.Distance.{codeword-even, codeword-low, codeword-lt, front-lt}
 
 -- the evenness of a sum
 odd-digits : (x y z : ℕ) → x < 2 → y < 2 → (z % 2 ≡ (x + y) % 2) → z % 2 ≡ bitXor x y
@@ -94,6 +94,14 @@ codeword-of w h z =
   where
     last : (a b t : ℕ) → a ≡ t + b → a % 2 ≡ 0 → t < 2 → b % 2 ≡ t
     last a b t e z h = omega arith
+
+-- the sum of two codewords is the codeword of the sum
+pub codeword-xor : (a b : ℕ) → a < 2 ^ 16 → b < 2 ^ 16 → codeword (bitXor a b) ≡ bitXor (codeword a) (codeword b)
+codeword-xor a b ha hb =
+    let w = bitXor (codeword a) (codeword b) in
+    let low : w % 2 ^ 16 ≡ bitXor a b = xor-mod (codeword a) (codeword b) 16 ∙ ap₂ bitXor (codeword-low a ha) (codeword-low b hb) in
+    let fine : syndrome w ≡ 0 = syndrome-xor (codeword a) (codeword b) ∙ ap₂ bitXor (syndrome-codeword a ha) (syndrome-codeword b hb) in
+    ap codeword (sym low) ∙ codeword-of w (xor-lt 32 (codeword a) (codeword b) (codeword-lt a ha) (codeword-lt b hb)) fine
 
 -- ---- the columns: the syndromes of the 32 single flips
 -- a message bit flips the parity of its word and the evenness; P1 to P15 flip themselves and the evenness; P16 the evenness alone

@@ -13,8 +13,8 @@ shared-slice-read-open-reading c = search needs
 open-reading-requires : tie.Need-open-reading-requires
 open-reading-requires c κs = search needs
 
-enum-known-message : tie.Need-enum-known-message
-enum-known-message c = search needs
+enum-known-d : tie.Need-enum-known-d
+enum-known-d c = search needs
 
 enum-told : tie.Need-enum-told
 enum-told c = search needs
@@ -37,7 +37,7 @@ returns-2 c =
     let m = w .before .before .before in
     let o = m .before .before in
     let st = o .before .before .before in
-    seen-settles _ (st .args .k) (st .pre) (o .open-reading .result) (o .open-reading .ensures) _ _ _ _ (w .was-seen .result) (m .message .given .1) (w .before .common-of .ensures) (w .was-seen .ensures) (c .if1 .taken)
+    seen-settles _ (st .args .k) (st .pre) (o .open-reading .result) (o .open-reading .ensures) _ _ _ (w .was-seen .result) (m .d .given .1) (w .before .common-of .ensures) (w .was-seen .ensures) (c .if1 .taken)
 
 returns-3 : tie.Need-returns-3
 returns-3 c =
@@ -45,7 +45,7 @@ returns-3 c =
     let m = w .before .before .before in
     let o = m .before .before in
     let st = o .before .before .before in
-    new-settles-nothing _ (st .args .k) (st .pre) (o .open-reading .result) (o .open-reading .ensures) _ _ _ _ (w .was-seen .result) (m .message .given .1) (w .before .common-of .ensures) (w .was-seen .ensures) (c .if1 .left)
+    new-settles-nothing _ (st .args .k) (st .pre) (o .open-reading .result) (o .open-reading .ensures) _ _ _ (w .was-seen .result) (m .d .given .1) (w .before .common-of .ensures) (w .was-seen .ensures) (c .if1 .left)
 
 pub agreed-spec : {M : Type 1} → statement M
 agreed-spec =
@@ -54,7 +54,7 @@ agreed-spec =
     mul-open-reading
     shared-slice-read-open-reading
     open-reading-requires
-    enum-known-message
+    enum-known-d
     enum-told
     returns
     common-of-requires

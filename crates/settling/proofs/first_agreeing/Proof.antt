@@ -5,7 +5,7 @@ use mathlib.Core.List.{[]}
 use native.Mathlib.Omega.{arith}
 use lib.ListN.{length, drop}
 use Rattle.settling.specs.Settling.{firstAgreeing, orElse}
-use Rattle.settling.specs.declared.Settings.{Settings}
+use Rattle.settling.specs.declared.Settlement.{Settlement}
 use Rattle.settling.specs.Stored.{openAll, seenBefore, length-open, agreeing-on, agreeing-end}
 use borrow.Author.Needs.{needs}
 use Rattle.settling.proofs.first_agreeing.Statement.{statement}
@@ -37,7 +37,7 @@ returns c =
     let k = a .loop .k in
     let hs = openAll l in
     let h : k < length hs = rw length-open (omega arith) in
-    sym (a .loop .inv .1 ∙ agreeing-on hs k (g .agreed .result) h (g .agreed .ensures) ∙ ap (λ (s : Settings). orElse s (firstAgreeing (seenBefore hs (k + 1)) (drop (k + 1) hs))) (b .common .given .1))
+    sym (a .loop .inv .1 ∙ agreeing-on hs k (g .agreed .result) h (g .agreed .ensures) ∙ ap (λ (s : Settlement). orElse s (firstAgreeing (seenBefore hs (k + 1)) (drop (k + 1) hs))) (b .common .given .1))
 
 enum-told : tie.Need-enum-told Inv-loop μ-loop
 enum-told c = search needs
@@ -56,7 +56,7 @@ loop-again c =
     let k = a .loop .k in
     let hs = openAll l in
     let h : k < length hs = rw length-open (omega arith) in
-    (omega arith, a .loop .inv .1 ∙ agreeing-on hs k (g .agreed .result) h (g .agreed .ensures) ∙ ap (λ (s : Settings). orElse s (firstAgreeing (seenBefore hs (k + 1)) (drop (k + 1) hs))) (c .enum-told .given .1))
+    (omega arith, a .loop .inv .1 ∙ agreeing-on hs k (g .agreed .result) h (g .agreed .ensures) ∙ ap (λ (s : Settlement). orElse s (firstAgreeing (seenBefore hs (k + 1)) (drop (k + 1) hs))) (c .enum-told .given .1))
 
 returns-2 : tie.Need-returns-2 Inv-loop μ-loop
 returns-2 c =

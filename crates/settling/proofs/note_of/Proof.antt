@@ -31,38 +31,41 @@ common-note-requires c κs = search needs
 
 cast-result : tie.Need-cast-result
 cast-result c =
-    let d = c .before .before .before .before .before in
+    let d = c .before .before .before .before .before .before in
     let h = subst Mended (d .h .given .1) (d .before .before .pre .0) in
     record { fits = omega (arith, h .1) }
 
 add-result : tie.Need-add-result
 add-result c =
-    let f = c .before .before .before in
+    let n = c .before in
+    let f = n .before .before .before in
     let d = f .before .before in
     let st = d .before .before in
     let h = subst Mended (d .h .given .1) (st .pre .0) in
-    let s = c .before .before .step-note in
+    let s = n .before .before .step-note in
     record { fits = omega (arith, h .1, s .ensures, step-note-le (f .fields-of .result .count) (st .args .k)) }
 
 add-result-2 : tie.Need-add-result-2
 add-result-2 c =
-    let f = c .before .before .before in
+    let n = c .before in
+    let f = n .before .before .before in
     let d = f .before .before in
     let st = d .before .before in
     let h = subst Mended (d .h .given .1) (st .pre .0) in
-    let s = c .before .before .step-note in
-    let w = c .before .common-of in
-    record { fits = omega (arith, h .1, s .ensures, step-note-le (f .fields-of .result .count) (st .args .k), c .common-note .ensures, common-note-le (w .result) (st .args .common)) }
+    let s = n .before .before .step-note in
+    let w = n .before .common-of in
+    record { fits = omega (arith, h .1, s .ensures, step-note-le (f .fields-of .result .count) (st .args .k), n .common-note .ensures, common-note-le (w .result) (st .args .common)) }
 
 returns-2 : tie.Need-returns-2
 returns-2 c =
-    let s = c .before .before in
+    let n = c .before in
+    let s = n .before .before in
     let f = s .before in
     let d = f .before .before in
     let st = d .before .before in
-    note-sum (st .args .common) (st .args .k) _ _ _ _ _ (d .h .given .1)
-    (s .step-note .ensures ∙ ap (λ (n : ℕ). stepNote n (st .args .k)) (f .fields-of .ensures .1 .1 .0))
-    (c .common-note .ensures ∙ ap (λ (n : ℕ). commonNote n (st .args .common)) (c .before .common-of .ensures))
+    note-sum (st .args .common) (st .args .k) _ _ _ _ (d .h .given .1)
+    (s .step-note .ensures ∙ ap (λ (x : ℕ). stepNote x (st .args .k)) (f .fields-of .ensures .1 .1 .0))
+    (n .common-note .ensures ∙ ap (λ (x : ℕ). commonNote x (st .args .common)) (n .before .common-of .ensures))
 
 pub note-of-spec : {M : Type 1} → statement M
 note-of-spec =

@@ -16,8 +16,8 @@ shared-slice-read-open-reading c = search needs
 open-reading-requires : tie.Need-open-reading-requires
 open-reading-requires c κs = search needs
 
-enum-known-message : tie.Need-enum-known-message
-enum-known-message c = search needs
+enum-known-d : tie.Need-enum-known-d
+enum-known-d c = search needs
 
 enum-told : tie.Need-enum-told
 enum-told c = search needs
@@ -34,17 +34,17 @@ common-of-requires c κs = search needs
 returns-3 : tie.Need-returns-3
 returns-3 c =
     let t = c .before in
-    let m = t .before .before in
+    let m = t .before .before .before in
     let o = m .before .before in
     let i = o .before .before in
-    only-clean _ (i .if1 .left) (o .open-reading .result) (o .open-reading .ensures) _ _ _ (m .message .given .1) (t .if2 .taken) (c .common-of .ensures)
+    only-clean _ (i .if1 .left) (o .open-reading .result) (o .open-reading .ensures) _ _ (m .d .given .1) (t .if2 .taken) (c .common-of .ensures)
 
 returns-4 : tie.Need-returns-4
 returns-4 c =
-    let m = c .before .before in
+    let m = c .before .before .before in
     let o = m .before .before in
     let i = o .before .before in
-    only-mended _ (i .if1 .left) (o .open-reading .result) (o .open-reading .ensures) _ _ (m .message .given .1) (c .if2 .left)
+    only-mended _ (i .if1 .left) (o .open-reading .result) (o .open-reading .ensures) _ (m .d .given .1) (c .if2 .left)
 
 pub only-one-spec : {M : Type 1} → statement M
 only-one-spec =
@@ -53,7 +53,7 @@ only-one-spec =
     returns
     shared-slice-read-open-reading
     open-reading-requires
-    enum-known-message
+    enum-known-d
     enum-told
     returns-2
     common-of-requires

@@ -21,7 +21,8 @@ returns c =
 
 mul-result-2 : tie.Need-mul-result-2
 mul-result-2 c =
-    let h = subst Mended (c .before .h .given .1) (c .before .before .before .pre) in
+    let d = c .before .before in
+    let h = subst Mended (d .h .given .1) (d .before .before .pre) in
     record { fits = omega (arith, h .1) }
 
 cast-result : tie.Need-cast-result
@@ -29,12 +30,13 @@ cast-result c = search needs
 
 add-result : tie.Need-add-result
 add-result c =
-    let h = subst Mended (c .before .h .given .1) (c .before .before .before .pre) in
+    let d = c .before .before .before in
+    let h = subst Mended (d .h .given .1) (d .before .before .pre) in
     record { fits = omega (arith, h .0, h .1) }
 
 returns-2 : tie.Need-returns-2
 returns-2 c =
-    rw (c .before .h .given .1)
+    rw (c .before .before .before .h .given .1)
 
 pub pack-reading-spec : {M : Type 1} → statement M
 pack-reading-spec =
