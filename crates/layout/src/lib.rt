@@ -160,16 +160,16 @@ pub struct Pair(pub usize);
 pub struct Multiframe(pub usize);
 
 impl Pair {
-    // A pair of a recording: far more than an utterance has, few enough that its frames' numbers fit.
+    // Of any pair whose frames' numbers fit.
     pub fn first(self) -> Frame
-        requires { ⌜ self .0 < 1048576 ⌝ }
+        requires { ⌜ secondFrame (self .0) < 2 ^ 64 ⌝ }
         ensures { λ r. ⌜ r .0 ≡ firstFrame (self .0) ⌝ }
     {
         Frame(PacketLayout::FRAMES * self.0)
     }
 
     pub fn second(self) -> Frame
-        requires { ⌜ self .0 < 1048576 ⌝ }
+        requires { ⌜ secondFrame (self .0) < 2 ^ 64 ⌝ }
         ensures { λ r. ⌜ r .0 ≡ secondFrame (self .0) ⌝ }
     {
         Frame(PacketLayout::FRAMES * self.0 + 1)

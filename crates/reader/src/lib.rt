@@ -1,6 +1,7 @@
 // The reader: received octets become indices and a report, or a refusal that changes nothing.
 // `reading` in specs/ says what it answers and leaves in both buffers, for every input.
 use cutting::Cut;
+use layout::Multiframe;
 use layout::MultiframeLayout;
 use layout::ReadingLayout;
 use layout::UtteranceLayout;
@@ -177,7 +178,7 @@ fn put_section(headers: &[u32], notes: &[u8], common: u16, report: &mut [u8], k:
     ensures { λ _. ⌜ now (report .exit) ≡ over (now (report .entry)) (reportOctets * k) reportOctets (section (now (headers .entry)) (now (notes .entry)) common k) ⌝ }
 {
     let at = ReadingLayout::REPORT * k;
-    report[at] = settling::note_at(headers, k, common);
+    report[at] = settling::note_at(headers, Multiframe(k), common);
     put_notes(notes, MultiframeLayout::PAIRS * k, report, at + 1);
 }
 

@@ -15,7 +15,7 @@ use borrow.Author.Tests.{eq-eqb, ne-eqb, lt-ltb, le-ltb}
 use Rattle.lists.specs.Parts.{over, length-over, over-in, over-behind}
 use Rattle.layout.specs.Layout.{frameIndices, pairOf, firstFrame}
 use Rattle.judging.specs.Laws.{Good}
-use Rattle.replacing.specs.Replacing.{runStart, runEnd, sourceBy, source, taken, pairsOctets, replaced}
+use Rattle.replacing.specs.Replacing.{runStart, runEnd, middleFrame, sourceBy, source, taken, pairsOctets, replaced}
 use Rattle.replacing.specs.Laws.{Run, run-of, in-run, good-stays, good-source, run-stop, replaced-at, replaced-length}
 use Rattle.replacing.specs.Steps.{Changed, Spread, Filled}
 
@@ -53,26 +53,26 @@ pub read-on : (l m : List ℕ) (first t : ℕ) → 1 ≤ first → frameIndices 
     → Changed l m (frameIndices * first) t (λ u. frameIndices * (first - 1) + u % frameIndices)
     → getD m (t - frameIndices) 0 ≡ getD l (frameIndices * (first - 1) + t % frameIndices) 0
 read-on l m first t h k c =
-    elim (decLt (t - 7) (7 * first)) [
+    elim (decLt (t - frameIndices) (frameIndices * first)) [
       | yes y ↦
-          let e : t - 7 ≡ 7 * (first - 1) + t % 7 = omega arith in
-          c .before (t - 7) y ∙ ap (λ (i : ℕ). getD l i 0) e
+          let e : t - frameIndices ≡ frameIndices * (first - 1) + t % frameIndices = omega arith in
+          c .before (t - frameIndices) y ∙ ap (λ (i : ℕ). getD l i 0) e
       | no n ↦
-          let e : (t - 7) % 7 ≡ t % 7 = omega arith in
-          c .inside (t - 7) (omega arith) (omega arith) ∙ ap (λ (i : ℕ). getD l (7 * (first - 1) + i) 0) e
+          let e : (t - frameIndices) % frameIndices ≡ t % frameIndices = omega arith in
+          c .inside (t - frameIndices) (omega arith) (omega arith) ∙ ap (λ (i : ℕ). getD l (frameIndices * (first - 1) + i) 0) e
     ]
 
 pub read-back : (l m : List ℕ) (past t : ℕ) → t < frameIndices * past
     → Changed l m (t + 1) (frameIndices * past) (λ u. frameIndices * past + u % frameIndices)
     → getD m (t + frameIndices) 0 ≡ getD l (frameIndices * past + t % frameIndices) 0
 read-back l m past t k c =
-    elim (decLt (t + 7) (7 * past)) [
+    elim (decLt (t + frameIndices) (frameIndices * past)) [
       | yes y ↦
-          let e : (t + 7) % 7 ≡ t % 7 = omega arith in
-          c .inside (t + 7) (omega arith) y ∙ ap (λ (i : ℕ). getD l (7 * past + i) 0) e
+          let e : (t + frameIndices) % frameIndices ≡ t % frameIndices = omega arith in
+          c .inside (t + frameIndices) (omega arith) y ∙ ap (λ (i : ℕ). getD l (frameIndices * past + i) 0) e
       | no n ↦
-          let e : t + 7 ≡ 7 * past + t % 7 = omega arith in
-          c .behind (t + 7) (omega arith) ∙ ap (λ (i : ℕ). getD l i 0) e
+          let e : t + frameIndices ≡ frameIndices * past + t % frameIndices = omega arith in
+          c .behind (t + frameIndices) (omega arith) ∙ ap (λ (i : ℕ). getD l i 0) e
     ]
 
 -- ---- one change after another, behind it
@@ -103,29 +103,38 @@ refit l m x y u v f g eu ev e c =
 
 -- ---- a run: at the start of the utterance, at its end, and between two good pairs
 module _ (l m : List ℕ) (a b pairs : ℕ) where
-  pub fill-start : a ≡ 0 → Spread l m (2 * b) 0 (2 * b) → Filled l m a b pairs
+  -- x and y are the run's first frame and the first behind it, as the code computes them
+  pub fill-start : (x y : ℕ) → x ≡ firstFrame a → y ≡ firstFrame b → a ≡ 0 → Spread l m y x y → Filled l m a b pairs
   unfolding sourceBy
-  fill-start z c =
-      refit l m (frameIndices * 0) (frameIndices * (2 * b)) (pairsOctets a) (pairsOctets b) (λ t. frameIndices * (2 * b) + t % frameIndices)
-      (λ t. frameIndices * sourceBy a b pairs (t / frameIndices) + t % frameIndices) (omega arith) refl (λ t h k. rw (eq-eqb a 0 z)) c
+  fill-start x y ex ey z c =
+      refit l m (frameIndices * x) (frameIndices * y) (pairsOctets a) (pairsOctets b) (λ t. frameIndices * y + t % frameIndices)
+      (λ t. frameIndices * sourceBy a b pairs (t / frameIndices) + t % frameIndices) (omega arith) (omega arith) (λ t h k. rw (eq-eqb a 0 z, ey)) c
 
-  pub fill-end : (a ≡ 0 → ⊥) → b ≡ pairs → Spread l m (2 * a - 1) (2 * a) (2 * b) → Filled l m a b pairs
+  pub fill-end : (x y : ℕ) → x ≡ firstFrame a → y ≡ firstFrame b → (a ≡ 0 → ⊥) → b ≡ pairs → Spread l m (x - 1) x y → Filled l m a b pairs
   unfolding sourceBy
-  fill-end n z c =
-      refit l m (frameIndices * (2 * a)) (frameIndices * (2 * b)) (pairsOctets a) (pairsOctets b) (λ t. frameIndices * (2 * a - 1) + t % frameIndices)
-      (λ t. frameIndices * sourceBy a b pairs (t / frameIndices) + t % frameIndices) refl refl (λ t h k. rw (ne-eqb a 0 n, eq-eqb b pairs z)) c
+  fill-end x y ex ey n z c =
+      refit l m (frameIndices * x) (frameIndices * y) (pairsOctets a) (pairsOctets b) (λ t. frameIndices * (x - 1) + t % frameIndices)
+      (λ t. frameIndices * sourceBy a b pairs (t / frameIndices) + t % frameIndices) (omega arith) (omega arith) (λ t h k. rw (ne-eqb a 0 n, eq-eqb b pairs z, ex)) c
 
-  pub fill-between : (n : List ℕ) → a < b → (a ≡ 0 → ⊥) → (b ≡ pairs → ⊥) → Spread l n (2 * a - 1) (2 * a) (a + b) → Spread n m (2 * b) (a + b) (2 * b) → Filled l m a b pairs
+  -- and p, q the frame behind its first half
+  pub fill-between : (n : List ℕ) (x y p q : ℕ) → x ≡ firstFrame a → y ≡ firstFrame b → p ≡ middleFrame a b → q ≡ middleFrame a b → a < b → (a ≡ 0 → ⊥) → (b ≡ pairs → ⊥)
+      → Spread l n (x - 1) x p → Spread n m y q y → Filled l m a b pairs
   unfolding sourceBy
-  fill-between n h na nb c d =
-      then l n m (pairsOctets a) (frameIndices * (a + b)) (pairsOctets b) (λ t. frameIndices * (2 * a - 1) + t % frameIndices) (λ t. frameIndices * (2 * b) + t % frameIndices)
-      (λ t. frameIndices * sourceBy a b pairs (t / frameIndices) + t % frameIndices) (omega arith) (omega arith) c d
+  fill-between n x y p q ex ey ep eq h na nb c d =
+      let c′ : Changed l n (pairsOctets a) (frameIndices * middleFrame a b) (λ t. frameIndices * (firstFrame a - 1) + t % frameIndices) =
+      refit l n (frameIndices * x) (frameIndices * p) (pairsOctets a) (frameIndices * middleFrame a b) (λ t. frameIndices * (x - 1) + t % frameIndices)
+      (λ t. frameIndices * (firstFrame a - 1) + t % frameIndices) (omega arith) (omega arith) (λ t i j. rw ex) c in
+      let d′ : Changed n m (frameIndices * middleFrame a b) (pairsOctets b) (λ t. frameIndices * (firstFrame b) + t % frameIndices) =
+      refit n m (frameIndices * q) (frameIndices * y) (frameIndices * middleFrame a b) (pairsOctets b) (λ t. frameIndices * y + t % frameIndices)
+      (λ t. frameIndices * (firstFrame b) + t % frameIndices) (omega arith) (omega arith) (λ t i j. rw ey) d in
+      then l n m (pairsOctets a) (frameIndices * middleFrame a b) (pairsOctets b) (λ t. frameIndices * (firstFrame a - 1) + t % frameIndices) (λ t. frameIndices * (firstFrame b) + t % frameIndices)
+      (λ t. frameIndices * sourceBy a b pairs (t / frameIndices) + t % frameIndices) (omega arith) (omega arith) c′ d′
       (λ t j k.
-      let e : ltb (t / 7 - firstFrame a) (b - a) ≡ true = lt-ltb (t / 7 - firstFrame a) (b - a) (omega arith) in
+      let e : ltb (t / frameIndices - firstFrame a) (b - a) ≡ true = lt-ltb (t / frameIndices - firstFrame a) (b - a) (omega arith) in
       rw (ne-eqb a 0 na, ne-eqb b pairs nb, e))
       (λ t j k.
-      let e : ltb (t / 7 - firstFrame a) (b - a) ≡ false = le-ltb (t / 7 - firstFrame a) (b - a) (omega arith) in
-      c .behind (frameIndices * (2 * b) + t % frameIndices) (omega arith) ∙ rw (ne-eqb a 0 na, ne-eqb b pairs nb, e))
+      let e : ltb (t / frameIndices - firstFrame a) (b - a) ≡ false = le-ltb (t / frameIndices - firstFrame a) (b - a) (omega arith) in
+      c′ .behind (frameIndices * (firstFrame b) + t % frameIndices) (omega arith) ∙ rw (ne-eqb a 0 na, ne-eqb b pairs nb, e))
 
 -- ---- all pairs before k are done in m, which was l
 pub record Going (notes l m : List ℕ) (k : ℕ) : Type 0 where
@@ -139,7 +148,7 @@ begun notes l = record { within = omega arith; so-far = unchanged l 0 (taken not
 
 -- an octet of a good pair is taken from its own place
 own-place : (notes : List ℕ) (t : ℕ) → getD notes (pairOf (t / frameIndices)) 0 ≡ 0 → taken notes t ≡ t
-own-place notes t g = let e = good-stays notes (t / 7) g in omega arith
+own-place notes t g = let e = good-stays notes (t / frameIndices) g in omega arith
 
 module _ (notes l m : List ℕ) (k : ℕ) (here : k < length notes) (go : Going notes l m k) where
   -- and stands there
@@ -160,7 +169,7 @@ module _ (notes l m : List ℕ) (k : ℕ) (here : k < length notes) (go : Going 
           inside = λ t h j. elim (decLt t (pairsOctets k)) [
             | yes y ↦ go .so-far .inside t h y
             | no n ↦
-                let q : t / 7 / 2 ≡ k = omega arith in
+                let q : pairOf (t / frameIndices) ≡ k = omega arith in
                 go .so-far .behind t (omega arith) ∙ ap (λ (i : ℕ). getD l i 0) (sym (own-place notes t (ap (λ (i : ℕ). getD notes i 0) q ∙ g)))
           ];
           behind = λ t h. go .so-far .behind t (omega arith);
@@ -180,11 +189,11 @@ module _ (notes l m : List ℕ) (k : ℕ) (here : k < length notes) (go : Going 
           within = r .within;
           so-far = then l m n 0 (pairsOctets k) (pairsOctets b) (taken notes) (λ t. frameIndices * sourceBy k b (length notes) (t / frameIndices) + t % frameIndices) (taken notes)
               (omega arith) (omega arith) (go .so-far) f (λ t h j. refl) (λ t h j.
-              let e : source notes (t / 7) ≡ sourceBy k b (length notes) (t / 7) = in-run notes k b r (t / 7) (omega arith) (omega arith) in
+              let e : source notes (t / frameIndices) ≡ sourceBy k b (length notes) (t / frameIndices) = in-run notes k b r (t / frameIndices) (omega arith) (omega arith) in
               let w = r .within in
-              let g = good-source notes good (t / 7) (omega arith) in
-              let d : taken notes t / 7 ≡ source notes (t / 7) = omega arith in
-              ap (λ (i : ℕ). getD m (7 * i + t % 7) 0) (sym e) ∙ good-there (taken notes t) (ap (λ (i : ℕ). getD notes (pairOf i) 0) d ∙ g .1));
+              let g = good-source notes good (t / frameIndices) (omega arith) in
+              let d : taken notes t / frameIndices ≡ source notes (t / frameIndices) = omega arith in
+              ap (λ (i : ℕ). getD m (frameIndices * i + t % frameIndices) 0) (sym e) ∙ good-there (taken notes t) (ap (λ (i : ℕ). getD notes (pairOf i) 0) d ∙ g .1));
           fresh = λ h x. absurd (⊎-elim (λ z. omega (arith, z)) x (r .stop));
         }
 

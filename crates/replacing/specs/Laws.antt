@@ -17,7 +17,7 @@ use Rattle.lists.specs.Parts.{part, length-part}
 use Rattle.lists.specs.Rows.{each, length-each, each-at, same-each}
 use Rattle.layout.specs.Layout.{frameIndices, pairOf, firstFrame}
 use Rattle.judging.specs.Laws.{Good}
-use Rattle.replacing.specs.Replacing.{runStart, leading, runEnd, frameBefore, frameAfter, sourceBy, source, taken, pairsOctets, replaced}
+use Rattle.replacing.specs.Replacing.{runStart, leading, runEnd, frameBefore, frameAfter, middleFrame, sourceBy, source, taken, pairsOctets, replaced}
 
 -- ---- where a run begins and ends
 pub run-back : (l : List ℕ) (a : ℕ) → (getD l a 0 ≡ 0 → ⊥) → runStart l (suc a) ≡ runStart l a
@@ -85,9 +85,9 @@ module _ (notes : List ℕ) (a b : ℕ) (run : Run notes a b) where
   pub in-run : (i : ℕ) → firstFrame a ≤ i → i < firstFrame b → source notes i ≡ sourceBy a b (length notes) i
   unfolding source
   in-run i h k =
-      let p : a ≤ i / 2 = omega arith in
-      let q : i / 2 < b = omega arith in
-      rw (ne-eqb (getD notes (i / 2) 0) 0 (run .bad (i / 2) p q), start-is (i / 2) p q, end-is (i / 2) p q)
+      let p : a ≤ pairOf i = omega arith in
+      let q : pairOf i < b = omega arith in
+      rw (ne-eqb (getD notes (pairOf i) 0) 0 (run .bad (pairOf i) p q), start-is (pairOf i) p q, end-is (pairOf i) p q)
 
   -- at the start of an utterance all take the frame after (house)
   pub at-the-start : (i : ℕ) → a ≡ 0 → i < firstFrame b → source notes i ≡ frameAfter b
@@ -100,13 +100,13 @@ module _ (notes : List ℕ) (a b : ℕ) (run : Run notes a b) where
   at-the-end i z e h k = in-run i h k ∙ rw (ne-eqb a 0 (λ y. omega arith), eq-eqb b (length notes) e)
 
   -- between two good pairs the first B frames become the good frame before, and the last B the good frame after
-  pub first-half : (i : ℕ) → 0 < a → b < length notes → firstFrame a ≤ i → i < firstFrame a + (b - a) → source notes i ≡ frameBefore a
+  pub first-half : (i : ℕ) → 0 < a → b < length notes → firstFrame a ≤ i → i < middleFrame a b → source notes i ≡ frameBefore a
   unfolding sourceBy
   first-half i z e h k =
       let s = run .some in
       in-run i h (omega arith) ∙ rw (ne-eqb a 0 (λ y. omega arith), ne-eqb b (length notes) (λ y. omega arith), lt-ltb (i - firstFrame a) (b - a) (omega arith))
 
-  pub second-half : (i : ℕ) → 0 < a → b < length notes → firstFrame a + (b - a) ≤ i → i < firstFrame b → source notes i ≡ frameAfter b
+  pub second-half : (i : ℕ) → 0 < a → b < length notes → middleFrame a b ≤ i → i < firstFrame b → source notes i ≡ frameAfter b
   unfolding sourceBy
   second-half i z e h k =
       let s = run .some in
@@ -213,14 +213,14 @@ module _ (notes : List ℕ) (g : Good notes) where
 
     after-good : b < length notes → OfGood (frameAfter b)
     after-good h =
-        let e : firstFrame b / 2 ≡ b = omega arith in
+        let e : pairOf (firstFrame b) ≡ b = omega arith in
         (omega arith, ⊎-elim (λ z. absurd (omega (arith, z))) (λ y. ap (λ (k : ℕ). getD notes k 0) e ∙ y) (run .stop))
 
     before-good : 0 < a → OfGood (frameBefore a)
     before-good h =
         let s = run .some in
         let w = run .within in
-        let e : (firstFrame a - 1) / 2 ≡ a - 1 = omega arith in
+        let e : pairOf (firstFrame a - 1) ≡ a - 1 = omega arith in
         (omega arith, ⊎-elim (λ z. absurd (omega (arith, z))) (λ y. ap (λ (k : ℕ). getD notes k 0) e ∙ y) (run .start))
 
     by-good : (i : ℕ) → OfGood (sourceBy a b (length notes) i)
@@ -252,8 +252,8 @@ module _ (notes : List ℕ) (g : Good notes) where
   unfolding replaced
   same-replaced l m agree =
       same-each (λ t. getD l (taken notes t) 0) (λ t. getD m (taken notes t) 0) (pairsOctets (length notes)) (λ t h.
-      let s = good-source (t / 7) (omega arith) in
-      let e : taken notes t / 7 ≡ source notes (t / 7) = omega arith in
+      let s = good-source (t / frameIndices) (omega arith) in
+      let e : taken notes t / frameIndices ≡ source notes (t / frameIndices) = omega arith in
       agree (taken notes t) (omega arith) (ap (λ (k : ℕ). getD notes (pairOf k) 0) e ∙ s .1))
 
   -- each frame after replacing is the frame that stands in for it
@@ -264,19 +264,19 @@ module _ (notes : List ℕ) (g : Good notes) where
       let f : ℕ → ℕ = λ t. getD l (taken notes t) 0 in
       let n = pairsOctets (length notes) in
       let s = good-source i h in
-      let la : length (part (7 * i) 7 (each f n)) ≡ 7 = length-part (each f n) (7 * i) 7 (omega (arith, length-each f n)) in
-      let lb : length (part (7 * source notes i) 7 l) ≡ 7 = length-part l (7 * source notes i) 7 (omega (arith, s .0)) in
-      ext-getD 0 (part (7 * i) 7 (each f n)) (part (7 * source notes i) 7 l) (la ∙ sym lb) (λ k z.
-      let d : (7 * i + k) / 7 ≡ i = omega (arith, la) in
-      let r : (7 * i + k) % 7 ≡ k = omega (arith, la) in
-      getD-take 7 (drop (7 * i) (each f n)) k 0 (omega (arith, la)) ∙ getD-drop (7 * i) (each f n) k 0 ∙ each-at f n (7 * i + k) 0 (omega (arith, la))
-      ∙ ap (λ (j : ℕ). getD l (7 * source notes j + (7 * i + k) % 7) 0) d ∙ ap (λ (j : ℕ). getD l (7 * source notes i + j) 0) r
-      ∙ sym (getD-drop (7 * source notes i) l k 0) ∙ sym (getD-take 7 (drop (7 * source notes i) l) k 0 (omega (arith, la))))
+      let la : length (part (frameIndices * i) frameIndices (each f n)) ≡ frameIndices = length-part (each f n) (frameIndices * i) frameIndices (omega (arith, length-each f n)) in
+      let lb : length (part (frameIndices * source notes i) frameIndices l) ≡ frameIndices = length-part l (frameIndices * source notes i) frameIndices (omega (arith, s .0)) in
+      ext-getD 0 (part (frameIndices * i) frameIndices (each f n)) (part (frameIndices * source notes i) frameIndices l) (la ∙ sym lb) (λ k z.
+      let d : (frameIndices * i + k) / frameIndices ≡ i = omega (arith, la) in
+      let r : (frameIndices * i + k) % frameIndices ≡ k = omega (arith, la) in
+      getD-take frameIndices (drop (frameIndices * i) (each f n)) k 0 (omega (arith, la)) ∙ getD-drop (frameIndices * i) (each f n) k 0 ∙ each-at f n (frameIndices * i + k) 0 (omega (arith, la))
+      ∙ ap (λ (j : ℕ). getD l (frameIndices * source notes j + (frameIndices * i + k) % frameIndices) 0) d ∙ ap (λ (j : ℕ). getD l (frameIndices * source notes i + j) 0) r
+      ∙ sym (getD-drop (frameIndices * source notes i) l k 0) ∙ sym (getD-take frameIndices (drop (frameIndices * source notes i) l) k 0 (omega (arith, la))))
 
   -- a good pair's frames stand at their places as they stood
   pub good-kept : (l : List ℕ) (i : ℕ) → pairsOctets (length notes) ≤ length l → pairOf i < length notes → getD notes (pairOf i) 0 ≡ 0
       → part (frameIndices * i) frameIndices (replaced notes l) ≡ part (frameIndices * i) frameIndices l
-  good-kept l i room h z = frame-replaced l i room h ∙ ap (λ (k : ℕ). part (7 * k) 7 l) (good-stays notes i z)
+  good-kept l i room h z = frame-replaced l i room h ∙ ap (λ (k : ℕ). part (frameIndices * k) frameIndices l) (good-stays notes i z)
 
 pub replaced-length : (notes l : List ℕ) → length (replaced notes l) ≡ pairsOctets (length notes)
 unfolding replaced

@@ -30,6 +30,10 @@ frameBefore a = firstFrame a - 1
 abbrev pub frameAfter : ℕ → ℕ
 frameAfter b = firstFrame b
 
+-- the frame behind its first half: B pairs have 2B frames
+abbrev pub middleFrame : ℕ → ℕ → ℕ
+middleFrame a b = firstFrame a + (b - a)
+
 -- In a run of B bad pairs the first B frames become the good frame before the run, the last B the good frame after it.
 -- At the start of an utterance all take the frame after; at the end, the one before (house)
 unfoldable pub sourceBy : ℕ → ℕ → ℕ → ℕ → ℕ

@@ -4,39 +4,40 @@ use layout::Frame;
 use layout::FrameLayout;
 use layout::Multiframe;
 use layout::MultiframeLayout;
-use layout::PacketLayout;
+use layout::Pair;
 ghost use mathlib.Core.Path.{_≡_};
-ghost use Prim.Native.Nat.{_+_, _-_, _*_, _≤_, _<_};
+ghost use Prim.Native.Nat.{_+_, _-_, _*_, _^_, _≤_, _<_};
 ghost use lib.ListN.{length};
 ghost use Rattle.lists.specs.Parts.{over};
-ghost use Rattle.layout.specs.Layout.{frameIndices, indexOctets, mostMultiframes};
-ghost use Rattle.replacing.specs.Replacing.{runEnd, pairsOctets, replaced};
+ghost use Rattle.layout.specs.Layout.{frameIndices, indexOctets, mostMultiframes, secondFrame};
+ghost use Rattle.replacing.specs.Replacing.{runEnd, middleFrame, pairsOctets, replaced};
 ghost use Rattle.judging.specs.Laws.{Good};
 ghost use Rattle.replacing.specs.Steps.{Spread, Filled};
 ghost use Rattle.replacing.specs.Speech.{speechOf, endOf};
 
 // The first good pair from q on, or the number of pairs.
-fn run_end(notes: &[u8], q: usize) -> usize
-    requires { ⌜ q ≤ length (now notes) ⌝ }
-    ensures { λ r. ⌜ r ≡ runEnd (now (notes .entry)) q ⌝ }
+fn run_end(notes: &[u8], q: Pair) -> Pair
+    requires { ⌜ q .0 ≤ length (now notes) ⌝ }
+    ensures { λ r. ⌜ r .0 ≡ runEnd (now (notes .entry)) (q .0) ⌝ }
 {
-    let mut b = q;
+    let mut b = q.0;
     while b < notes.len() {
         if notes[b] == GOOD {
-            return b;
+            return Pair(b);
         }
         b += 1;
     }
-    b
+    Pair(b)
 }
 
 // The frame before frame first goes over the frames from first to past - 1.
-fn spread_on(index: &mut [u8], first: usize, past: usize)
-    requires { ⌜ (1 ≤ first) × (first ≤ past) × (frameIndices * past ≤ length (now index)) ⌝ }
-    ensures { λ _. ⌜ Spread (now (index .entry)) (now (index .exit)) (first - 1) first past ⌝ }
+fn spread_on(index: &mut [u8], first: Frame, past: Frame)
+    requires { ⌜ (1 ≤ first .0) × (first .0 ≤ past .0) × (frameIndices * past .0 ≤ length (now index)) ⌝ }
+    ensures { λ _. ⌜ Spread (now (index .entry)) (now (index .exit)) (first .0 - 1) (first .0) (past .0) ⌝ }
 {
-    let end = FrameLayout::INDICES * past;
-    let mut t = FrameLayout::INDICES * first;
+    let from = first.0;
+    let end = FrameLayout::INDICES * past.0;
+    let mut t = FrameLayout::INDICES * from;
     while t < end {
         index[t] = index[t - FrameLayout::INDICES];
         t += 1;
@@ -44,30 +45,39 @@ fn spread_on(index: &mut [u8], first: usize, past: usize)
 }
 
 // Frame past goes over the frames from first to past - 1.
-fn spread_back(index: &mut [u8], first: usize, past: usize)
-    requires { ⌜ (first ≤ past) × (frameIndices * (past + 1) ≤ length (now index)) ⌝ }
-    ensures { λ _. ⌜ Spread (now (index .entry)) (now (index .exit)) past first past ⌝ }
+fn spread_back(index: &mut [u8], first: Frame, past: Frame)
+    requires { ⌜ (first .0 ≤ past .0) × (frameIndices * (past .0 + 1) ≤ length (now index)) ⌝ }
+    ensures { λ _. ⌜ Spread (now (index .entry)) (now (index .exit)) (past .0) (first .0) (past .0) ⌝ }
 {
-    let start = FrameLayout::INDICES * first;
-    let mut t = FrameLayout::INDICES * past;
+    let start = FrameLayout::INDICES * first.0;
+    let mut t = FrameLayout::INDICES * past.0;
     while start < t {
         t -= 1;
         index[t] = index[t + FrameLayout::INDICES];
     }
 }
 
-// The frames of the run of bad pairs from a to b - 1, of so many pairs, are replaced.
-fn fill_run(index: &mut [u8], a: usize, b: usize, pairs: usize)
-    requires { ⌜ (a < b) × (b ≤ pairs) × (pairsOctets pairs ≤ length (now index)) × (a ≡ 0 → b < pairs) ⌝ }
-    ensures { λ _. ⌜ Filled (now (index .entry)) (now (index .exit)) a b pairs ⌝ }
+// The frame behind the first half of the run of pairs a to b - 1: of its B pairs' frames, B make a half.
+fn middle(a: Pair, b: Pair) -> Frame
+    requires { ⌜ (a .0 ≤ b .0) × (secondFrame (b .0) < 2 ^ 64) ⌝ }
+    ensures { λ r. ⌜ r .0 ≡ middleFrame (a .0) (b .0) ⌝ }
 {
-    if a == 0 {
-        spread_back(index, 0, PacketLayout::FRAMES * b);
-    } else if b == pairs {
-        spread_on(index, PacketLayout::FRAMES * a, PacketLayout::FRAMES * b);
+    let half = b.0 - a.0;
+    Frame(a.first().0 + half)
+}
+
+// The frames of the run of bad pairs from a to b - 1, of so many pairs, are replaced.
+fn fill_run(index: &mut [u8], a: Pair, b: Pair, pairs: usize)
+    requires { ⌜ (a .0 < b .0) × (b .0 ≤ pairs) × (pairsOctets pairs ≤ length (now index)) × (a .0 ≡ 0 → b .0 < pairs) ⌝ }
+    ensures { λ _. ⌜ Filled (now (index .entry)) (now (index .exit)) (a .0) (b .0) pairs ⌝ }
+{
+    if a.0 == 0 {
+        spread_back(index, a.first(), b.first());
+    } else if b.0 == pairs {
+        spread_on(index, a.first(), b.first());
     } else {
-        spread_on(index, PacketLayout::FRAMES * a, a + b);
-        spread_back(index, a + b, PacketLayout::FRAMES * b);
+        spread_on(index, a.first(), middle(a, b));
+        spread_back(index, middle(a, b), b.first());
     }
 }
 
@@ -82,9 +92,9 @@ pub fn replace(notes: &[u8], index: &mut [u8])
         if notes[k] == GOOD {
             k += 1;
         } else {
-            let b = run_end(notes, k);
-            fill_run(index, k, b, notes.len());
-            k = b;
+            let b = run_end(notes, Pair(k));
+            fill_run(index, Pair(k), b, notes.len());
+            k = b.0;
         }
     }
 }

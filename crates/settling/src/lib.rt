@@ -80,12 +80,12 @@ fn has_common(h: Header, common: u16) -> bool
     common == header::common_of(d.message)
 }
 
-// Whether one of the first k headers was read with these common bits: the nearest is tried first.
-fn was_seen(headers: &[u32], k: usize, common: u16) -> bool
-    requires { ⌜ k ≤ length (now headers) ⌝ }
-    ensures { λ r. ⌜ r ≡ among common (seenBefore (openAll (now (headers .entry))) k) ⌝ }
+// Whether a header before that of multiframe k was read with these common bits: the nearest is tried first.
+fn was_seen(headers: &[u32], k: Multiframe, common: u16) -> bool
+    requires { ⌜ k .0 ≤ length (now headers) ⌝ }
+    ensures { λ r. ⌜ r ≡ among common (seenBefore (openAll (now (headers .entry))) (k .0)) ⌝ }
 {
-    let mut j = k;
+    let mut j = k.0;
     while 0 < j {
         j -= 1;
         if has_common(open_reading(headers[j]), common) {
@@ -95,12 +95,13 @@ fn was_seen(headers: &[u32], k: usize, common: u16) -> bool
     false
 }
 
-// What header k settles: its common bits, if an earlier readable one has the same.
-fn agreed(headers: &[u32], k: usize) -> Settlement
-    requires { ⌜ k < length (now headers) ⌝ }
-    ensures { λ r. ⌜ r ≡ settledBy (getD (openAll (now (headers .entry))) k Lost) (seenBefore (openAll (now (headers .entry))) k) ⌝ }
+// What the header of multiframe k settles: its common bits, if an earlier readable one has the same.
+fn agreed(headers: &[u32], k: Multiframe) -> Settlement
+    requires { ⌜ k .0 < length (now headers) ⌝ }
+    ensures { λ r. ⌜ r ≡ settledBy (getD (openAll (now (headers .entry))) (k .0) Lost) (seenBefore (openAll (now (headers .entry))) (k .0)) ⌝ }
 {
-    let Header::Codeword(d) = open_reading(headers[k]) else {
+    let at = k.0;
+    let Header::Codeword(d) = open_reading(headers[at]) else {
         return Settlement::Unsettled;
     };
     let common = header::common_of(d.message);
@@ -115,7 +116,7 @@ fn first_agreeing(headers: &[u32]) -> Settlement
 {
     let mut k = 0;
     while k < headers.len() {
-        if let Settlement::Settled { common } = agreed(headers, k) {
+        if let Settlement::Settled { common } = agreed(headers, Multiframe(k)) {
             return Settlement::Settled { common };
         }
         k += 1;
@@ -151,12 +152,12 @@ pub fn settle(headers: &[u32]) -> Settlement
     }
 }
 
-// What the note of a readable header adds if its counter is out of step at position k (from 0).
-fn step_note(count: u8, k: usize) -> u8
-    requires { ⌜ k < 65536 ⌝ }
-    ensures { λ r. ⌜ r ≡ stepNote count k ⌝ }
+// What the note of a readable header adds if its counter is out of step in multiframe k.
+fn step_note(count: u8, k: Multiframe) -> u8
+    requires { ⌜ k .0 < 65536 ⌝ }
+    ensures { λ r. ⌜ r ≡ stepNote count (k .0) ⌝ }
 {
-    if count as usize == (k + 1) % COUNTS {
+    if count as usize == (k.0 + 1) % COUNTS {
         return 0;
     }
     OUT_OF_STEP
@@ -172,10 +173,10 @@ fn common_note(found: u16, common: u16) -> u8
     UNLIKE_SETTLED
 }
 
-// The note of a header's reading at position k (from 0). It asks for a reading as header::read gives it.
-fn note_of(h: Header, k: usize, common: u16) -> u8
-    requires { ⌜ Mended h × (k < 65536) ⌝ }
-    ensures { λ r. ⌜ r ≡ headerNote common k h ⌝ }
+// The note of a reading of multiframe k's header. It asks for a reading as header::read gives it.
+fn note_of(h: Header, k: Multiframe, common: u16) -> u8
+    requires { ⌜ Mended h × (k .0 < 65536) ⌝ }
+    ensures { λ r. ⌜ r ≡ headerNote common (k .0) h ⌝ }
 {
     let Header::Codeword(d) = h else {
         return LOST;
@@ -185,11 +186,12 @@ fn note_of(h: Header, k: usize, common: u16) -> u8
     d.flips as u8 + step + like
 }
 
-// note_at gives the note of header k of the readings in an array, as read_headers puts them there.
-pub fn note_at(headers: &[u32], k: usize, common: u16) -> u8
-    requires { ⌜ (k < length (now headers)) × (k < 65536) ⌝ }
-    requires { ⌜ Mended (opened (getD (now headers) k 0)) ⌝ }
-    ensures { λ r. ⌜ r ≡ headerNote common k (opened (getD (now (headers .entry)) k 0)) ⌝ }
+// note_at gives the note of multiframe k's header, of the readings in an array, as read_headers puts them there.
+pub fn note_at(headers: &[u32], k: Multiframe, common: u16) -> u8
+    requires { ⌜ (k .0 < length (now headers)) × (k .0 < 65536) ⌝ }
+    requires { ⌜ Mended (opened (getD (now headers) (k .0) 0)) ⌝ }
+    ensures { λ r. ⌜ r ≡ headerNote common (k .0) (opened (getD (now (headers .entry)) (k .0) 0)) ⌝ }
 {
-    note_of(open_reading(headers[k]), k, common)
+    let at = k.0;
+    note_of(open_reading(headers[at]), k, common)
 }

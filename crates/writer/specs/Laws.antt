@@ -59,6 +59,24 @@ pub search-end : (f : ℕ → Bool) (k n i : ℕ) → Passed f k n i → n ≤ i
 unfolding firstFrom
 search-end f k n i p h = let e : n - i ≡ 0 = omega arith in p .1 ∙ ap (firstFrom f (k + i)) e
 
+-- ---- a loop over all frames that stops at the first that passes a test, whatever the test: k of them did not
+abbrev pub PassedFrames : (List ℕ → ℕ → Bool) → List ℕ → ℕ → ℕ → Type 0
+PassedFrames test idx frames k = (frameIndices * frames ≤ length idx) × Passed (test idx) 0 frames k
+
+pub frames-begin : (test : List ℕ → ℕ → Bool) (idx : List ℕ) → PassedFrames test idx (frameCount idx) 0
+frames-begin test idx = (omega arith, search-begin (test idx) 0 (frameCount idx))
+
+-- r is what the code's test says of frame k
+module _ (test : List ℕ → ℕ → Bool) (idx : List ℕ) (frames k : ℕ) (p : PassedFrames test idx frames k) where
+  pub frame-hit : k < frames → (r : Bool) → r ≡ test idx k → r ≡ true → at k ≡ firstFrom (test idx) 0 frames
+  frame-hit h r e t = let z : 0 + k ≡ k = omega arith in sym (search-hit (test idx) 0 frames k (p .1) h (ap (test idx) z ∙ sym e ∙ t) ∙ ap at z)
+
+  pub frame-on : k < frames → (r : Bool) → r ≡ test idx k → r ≡ false → PassedFrames test idx frames (k + 1)
+  frame-on h r e t = let z : 0 + k ≡ k = omega arith in (p .0, search-on (test idx) 0 frames k (p .1) h (ap (test idx) z ∙ sym e ∙ t))
+
+  pub frames-end : frames ≤ k → nowhere ≡ firstFrom (test idx) 0 frames
+  frames-end h = sym (search-end (test idx) 0 frames k (p .1) h)
+
 -- ---- when a zero frame ends the utterance too early
 module _ (idx : List ℕ) (k : ℕ) where
   pub early-last : k + 1 ≡ frameCount idx → endsEarly idx k ≡ zeroFrame idx k

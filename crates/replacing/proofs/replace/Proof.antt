@@ -32,10 +32,10 @@ loop-again : tie.Need-loop-again Inv-loop μ-loop
 loop-again c = good-turn _ _ _ _ (omega arith) (c .before .before .before .loop .inv) (c .if1 .taken)
 
 -- the run that was met
-met : (c : tie.After-run-end Inv-loop μ-loop) → Run (c .before .before .before .before .before .before .before .args .notes .now) (c .before .before .before .before .loop .k) (c .run-end .result)
+met : (c : tie.After-run-end Inv-loop μ-loop) → Run (c .before .before .before .before .before .before .before .args .notes .now) (c .before .before .before .before .loop .k) (c .run-end .result .0)
 met c =
     let d = c .before .before .before .before in
-    the-run _ _ (d .loop .index) (d .loop .k) (omega arith) (d .loop .inv) (d .before .before .before .pre .1) (c .before .if1 .left) (c .run-end .result) (c .run-end .ensures)
+    the-run _ _ (d .loop .index) (d .loop .k) (omega arith) (d .loop .inv) (d .before .before .before .pre .1) (c .before .if1 .left) (c .run-end .result .0) (c .run-end .ensures)
 
 run-end-requires : tie.Need-run-end-requires Inv-loop μ-loop
 run-end-requires c κs = search needs
@@ -47,7 +47,7 @@ fill-run-requires c κs =
     let s = d .loop .inv .so-far .same in
     let start = d .before .before .before in
     let room = start .pre .0 in
-    (r .some, r .within, omega arith, not-all-bad (start .args .notes .now) (start .pre .1) (d .loop .k) (c .before .run-end .result) r)
+    (r .some, r .within, omega arith, not-all-bad (start .args .notes .now) (start .pre .1) (d .loop .k) (c .before .run-end .result .0) r)
 
 loop-less-2 : tie.Need-loop-less-2 Inv-loop μ-loop
 loop-less-2 c = let r = met (c .before .before .before .before) in omega (arith, r .some, r .within)
@@ -56,7 +56,7 @@ loop-again-2 : tie.Need-loop-again-2 Inv-loop μ-loop
 loop-again-2 c =
     let d = c .before .before .before .before .before .before .before .before in
     let e = c .before .before .before .before in
-    run-turn _ _ (d .loop .index) (d .loop .k) (omega arith) (d .loop .inv) (d .before .before .before .pre .1) (e .before .if1 .left) (e .run-end .result) (e .run-end .ensures) _ (c .before .before .fill-run .ensures)
+    run-turn _ _ (d .loop .index) (d .loop .k) (omega arith) (d .loop .inv) (d .before .before .before .pre .1) (e .before .if1 .left) (e .run-end .result .0) (e .run-end .ensures) _ (c .before .before .fill-run .ensures)
 
 same-length : tie.Need-same-length Inv-loop μ-loop
 same-length c = c .before .loop .inv .so-far .same

@@ -11,10 +11,10 @@ use Rattle.replacing.proofs.run_end.Statement.{statement}
 use Rattle.replacing.proofs.run_end.Tie as tie
 
 abbrev Inv-loop : tie.InvT-loop
-Inv-loop notes q b₀ b = (b ≤ length notes) × (runEnd notes b ≡ runEnd notes q)
+Inv-loop notes b₀ b = (b ≤ length notes) × (runEnd notes b ≡ runEnd notes b₀)
 
 abbrev μ-loop : tie.MeasureT-loop
-μ-loop notes q b₀ b = length notes - b
+μ-loop notes b₀ b = length notes - b
 
 loop-holds : tie.Need-loop-holds Inv-loop μ-loop
 loop-holds c = search needs

@@ -11,11 +11,10 @@ use Rattle.replacing.proofs.spread_back.Statement.{statement}
 use Rattle.replacing.proofs.spread_back.Tie as tie
 
 abbrev Inv-loop : tie.InvT-loop
-Inv-loop index₀ first past start t₀ index t =
-    (frameIndices * first ≤ t) × (t ≤ frameIndices * past) × Changed index₀ index t (frameIndices * past) (λ u. frameIndices * past + u % frameIndices)
+Inv-loop index₀ start t₀ index t = (start ≤ t) × (t ≤ t₀) × Changed index₀ index t t₀ (λ u. t₀ + u % frameIndices)
 
 abbrev μ-loop : tie.MeasureT-loop
-μ-loop index₀ first past start t₀ index t = t
+μ-loop index₀ start t₀ index t = t
 
 mul-start : tie.Need-mul-start Inv-loop μ-loop
 mul-start c = search needs
@@ -44,17 +43,17 @@ loop-less c = search needs
 loop-again : tie.Need-loop-again Inv-loop μ-loop
 loop-again c =
     let d = c .before .before in
-    let a = d .before .args in
+    let a = d .before .before .before .args in
     let l = a .index .now in
     let t = d .loop .t - 1 in
     let inv = d .loop .inv in
     let g = inv .2 .same in
-    let f : ℕ → ℕ = λ u. frameIndices * a .past + u % frameIndices in
+    let f : ℕ → ℕ = λ u. frameIndices * a .past .0 + u % frameIndices in
     let e : d .loop .t ≡ t + 1 = omega arith in
-    let h = subst (λ (x : ℕ). Changed l (d .loop .index) x (frameIndices * a .past) f) e (inv .2) in (
+    let h = subst (λ (x : ℕ). Changed l (d .loop .index) x (frameIndices * a .past .0) f) e (inv .2) in (
       omega arith,
       omega arith,
-      one-back l (d .loop .index) 0 (frameIndices * a .past) t _ f (omega arith) (read-back l (d .loop .index) (a .past) t (omega arith) h) h (omega arith),
+      one-back l (d .loop .index) 0 (frameIndices * a .past .0) t _ f (omega arith) (read-back l (d .loop .index) (a .past .0) t (omega arith) h) h (omega arith),
     )
 
 same-length : tie.Need-same-length Inv-loop μ-loop
@@ -62,9 +61,9 @@ same-length c = search needs
 
 returns : tie.Need-returns Inv-loop μ-loop
 returns c =
-    let a = c .before .before .args in
-    let e : c .before .loop .t ≡ frameIndices * a .first = omega arith in
-    subst (λ (x : ℕ). Changed (a .index .now) (c .before .loop .index) x (frameIndices * a .past) (λ u. frameIndices * a .past + u % frameIndices)) e (c .before .loop .inv .2)
+    let a = c .before .before .before .before .args in
+    let e : c .before .loop .t ≡ frameIndices * a .first .0 = omega arith in
+    subst (λ (x : ℕ). Changed (a .index .now) (c .before .loop .index) x (frameIndices * a .past .0) (λ u. frameIndices * a .past .0 + u % frameIndices)) e (c .before .loop .inv .2)
 
 pub spread-back-spec : {M : Type 1} → statement M
 spread-back-spec =

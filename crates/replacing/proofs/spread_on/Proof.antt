@@ -11,11 +11,11 @@ use Rattle.replacing.proofs.spread_on.Statement.{statement}
 use Rattle.replacing.proofs.spread_on.Tie as tie
 
 abbrev Inv-loop : tie.InvT-loop
-Inv-loop index₀ first past end t₀ index t =
-    (frameIndices * first ≤ t) × (t ≤ frameIndices * past) × Changed index₀ index (frameIndices * first) t (λ u. frameIndices * (first - 1) + u % frameIndices)
+Inv-loop index₀ from end t₀ index t =
+    (frameIndices * from ≤ t) × (t ≤ end) × Changed index₀ index (frameIndices * from) t (λ u. frameIndices * (from - 1) + u % frameIndices)
 
 abbrev μ-loop : tie.MeasureT-loop
-μ-loop index₀ first past end t₀ index t = frameIndices * past - t
+μ-loop index₀ from end t₀ index t = end - t
 
 mul-end : tie.Need-mul-end Inv-loop μ-loop
 mul-end c = search needs
@@ -44,15 +44,15 @@ loop-less c = search needs
 loop-again : tie.Need-loop-again Inv-loop μ-loop
 loop-again c =
     let d = c .before .before in
-    let a = d .before .args in
+    let a = d .before .before .args in
     let l = a .index .now in
     let t = d .loop .t in
     let inv = d .loop .inv in
     let g = inv .2 .same in (
       omega arith,
       omega arith,
-      one-on l (d .loop .index) (frameIndices * a .first) 0 t _ (λ u. frameIndices * (a .first - 1) + u % frameIndices) (omega arith)
-          (read-on l (d .loop .index) (a .first) t (d .before .pre .0) (inv .0) (inv .2)) (inv .2) (inv .0),
+      one-on l (d .loop .index) (frameIndices * a .first .0) 0 t _ (λ u. frameIndices * (a .first .0 - 1) + u % frameIndices) (omega arith)
+          (read-on l (d .loop .index) (a .first .0) t (d .before .before .pre .0) (inv .0) (inv .2)) (inv .2) (inv .0),
     )
 
 same-length : tie.Need-same-length Inv-loop μ-loop
@@ -60,9 +60,9 @@ same-length c = search needs
 
 returns : tie.Need-returns Inv-loop μ-loop
 returns c =
-    let a = c .before .before .args in
-    let e : c .before .loop .t ≡ frameIndices * a .past = omega arith in
-    subst (λ (y : ℕ). Changed (a .index .now) (c .before .loop .index) (frameIndices * a .first) y (λ u. frameIndices * (a .first - 1) + u % frameIndices)) e (c .before .loop .inv .2)
+    let a = c .before .before .before .args in
+    let e : c .before .loop .t ≡ frameIndices * a .past .0 = omega arith in
+    subst (λ (y : ℕ). Changed (a .index .now) (c .before .loop .index) (frameIndices * a .first .0) y (λ u. frameIndices * (a .first .0 - 1) + u % frameIndices)) e (c .before .loop .inv .2)
 
 pub spread-on-spec : {M : Type 1} → statement M
 spread-on-spec =

@@ -23,7 +23,7 @@ returns : tie.Need-returns
 returns c =
     let o = c .before .before in
     let st = o .before .before .before in
-    lost-settles-nothing _ (st .args .k) (st .pre) (o .open-reading .result) (o .open-reading .ensures) _ (c .enum-told .given .1)
+    lost-settles-nothing _ (st .args .k .0) (st .pre) (o .open-reading .result) (o .open-reading .ensures) _ (c .enum-told .given .1)
 
 common-of-requires : tie.Need-common-of-requires
 common-of-requires c κs = search needs
@@ -37,7 +37,7 @@ returns-2 c =
     let m = w .before .before .before in
     let o = m .before .before in
     let st = o .before .before .before in
-    seen-settles _ (st .args .k) (st .pre) (o .open-reading .result) (o .open-reading .ensures) _ _ _ (w .was-seen .result) (m .d .given .1) (w .before .common-of .ensures) (w .was-seen .ensures) (c .if1 .taken)
+    seen-settles _ (st .args .k .0) (st .pre) (o .open-reading .result) (o .open-reading .ensures) _ _ _ (w .was-seen .result) (m .d .given .1) (w .before .common-of .ensures) (w .was-seen .ensures) (c .if1 .taken)
 
 returns-3 : tie.Need-returns-3
 returns-3 c =
@@ -45,7 +45,7 @@ returns-3 c =
     let m = w .before .before .before in
     let o = m .before .before in
     let st = o .before .before .before in
-    new-settles-nothing _ (st .args .k) (st .pre) (o .open-reading .result) (o .open-reading .ensures) _ _ _ (w .was-seen .result) (m .d .given .1) (w .before .common-of .ensures) (w .was-seen .ensures) (c .if1 .left)
+    new-settles-nothing _ (st .args .k .0) (st .pre) (o .open-reading .result) (o .open-reading .ensures) _ _ _ (w .was-seen .result) (m .d .given .1) (w .before .common-of .ensures) (w .was-seen .ensures) (c .if1 .left)
 
 pub agreed-spec : {M : Type 1} → statement M
 agreed-spec =

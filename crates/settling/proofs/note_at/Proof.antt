@@ -24,7 +24,7 @@ note-of-requires c κs =
 returns : tie.Need-returns
 returns c =
     let st = c .before .before .before .before in
-    c .note-of .ensures ∙ ap (λ (h : Header). headerNote (st .args .common) (st .args .k) h) (c .before .open-reading .ensures)
+    c .note-of .ensures ∙ ap (λ (h : Header). headerNote (st .args .common) (st .args .k .0) h) (c .before .open-reading .ensures)
 
 pub note-at-spec : {M : Type 1} → statement M
 note-at-spec =

@@ -43,7 +43,7 @@ add-result c =
     let st = d .before .before in
     let h = subst Mended (d .h .given .1) (st .pre .0) in
     let s = n .before .before .step-note in
-    record { fits = omega (arith, h .1, s .ensures, step-note-le (f .fields-of .result .count) (st .args .k)) }
+    record { fits = omega (arith, h .1, s .ensures, step-note-le (f .fields-of .result .count) (st .args .k .0)) }
 
 add-result-2 : tie.Need-add-result-2
 add-result-2 c =
@@ -54,7 +54,7 @@ add-result-2 c =
     let h = subst Mended (d .h .given .1) (st .pre .0) in
     let s = n .before .before .step-note in
     let w = n .before .common-of in
-    record { fits = omega (arith, h .1, s .ensures, step-note-le (f .fields-of .result .count) (st .args .k), n .common-note .ensures, common-note-le (w .result) (st .args .common)) }
+    record { fits = omega (arith, h .1, s .ensures, step-note-le (f .fields-of .result .count) (st .args .k .0), n .common-note .ensures, common-note-le (w .result) (st .args .common)) }
 
 returns-2 : tie.Need-returns-2
 returns-2 c =

@@ -12,12 +12,12 @@ add-if1 c = search needs
 returns : tie.Need-returns
 unfolding stepNote
 returns c =
-    rw (eq-eqb (c .before .args .count) ((c .before .args .k + 1) % 16) (c .if1 .taken))
+    rw (eq-eqb (c .before .before .args .count) ((c .before .before .args .k .0 + 1) % 16) (c .if1 .taken))
 
 returns-2 : tie.Need-returns-2
 unfolding stepNote
 returns-2 c =
-    rw (ne-eqb (c .before .args .count) ((c .before .args .k + 1) % 16) (c .if1 .left))
+    rw (ne-eqb (c .before .before .args .count) ((c .before .before .args .k .0 + 1) % 16) (c .if1 .left))
 
 pub step-note-spec : {M : Type 1} → statement M
 step-note-spec = tie.close (tie.spec add-if1 returns returns-2)

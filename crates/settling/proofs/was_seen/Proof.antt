@@ -13,10 +13,10 @@ use Rattle.settling.proofs.was_seen.Statement.{statement}
 use Rattle.settling.proofs.was_seen.Tie as tie
 
 abbrev Inv-loop : tie.InvT-loop
-Inv-loop headers k common j₀ j = (j ≤ length headers) × (among common (seenBefore (openAll headers) k) ≡ among common (seenBefore (openAll headers) j))
+Inv-loop headers common j₀ j = (j ≤ length headers) × (among common (seenBefore (openAll headers) j₀) ≡ among common (seenBefore (openAll headers) j))
 
 abbrev μ-loop : tie.MeasureT-loop
-μ-loop headers k common j₀ j = j
+μ-loop headers common j₀ j = j
 
 loop-holds : tie.Need-loop-holds Inv-loop μ-loop
 loop-holds c = search needs
