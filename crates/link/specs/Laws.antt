@@ -13,7 +13,6 @@ use Rattle.packet.specs.Packet.{stream}
 use Rattle.refusals.specs.Refusals.{success, noRoom, readingNumber, readingPlace}
 use Rattle.pairs.specs.Pairs.{allFrames, crcNotes}
 use Rattle.pairs.specs.Laws.{over-all}
-use Rattle.refusals.specs.Refusals.{success, noRoom, readingNumber, readingPlace}
 use Rattle.reader.specs.Reading.{Outcome, outcome}
 use Rattle.reader.specs.declared.Summary.{Summary}
 use Rattle.refusals.specs.declared.Reading.{Reading as Refusal}
