@@ -1,6 +1,7 @@
 // Settings and header notes: every header of an utterance read once, what the readings settle, and what the report says of each.
 use header::Decoded;
 use header::Header;
+use layout::Multiframe;
 ghost use mathlib.Core.Path.{_≡_};
 ghost use mathlib.Core.List.{[]};
 ghost use Prim.Native.Nat.{_+_, _≤_, _<_};
