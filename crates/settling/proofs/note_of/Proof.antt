@@ -63,8 +63,8 @@ returns-2 c =
     let f = s .before in
     let d = f .before .before in
     let st = d .before .before in
-    note-sum (st .args .common) (st .args .k) _ _ _ _ (d .h .given .1)
-    (s .step-note .ensures ∙ ap (λ (x : ℕ). stepNote x (st .args .k)) (f .fields-of .ensures .1 .0))
+    note-sum (st .args .common) (st .args .k .0) _ _ _ _ (d .h .given .1)
+    (s .step-note .ensures ∙ ap (λ (x : ℕ). stepNote x (st .args .k .0)) (f .fields-of .ensures .1 .0))
     (n .common-note .ensures ∙ ap (λ (x : ℕ). commonNote x (st .args .common)) (n .before .common-of .ensures))
 
 pub note-of-spec : {M : Type 1} → statement M
