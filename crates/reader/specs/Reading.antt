@@ -119,5 +119,15 @@ module _ (octets : List ℕ) (codebook thresholds : List ℤ) (index report : Li
       (over index 0 (indexOctets * length places) (indexPart octets places (receivedNotes octets places codebook thresholds)))
       (over report 0 (reportOctets * length places) (reportPart octets places (receivedNotes octets places codebook thresholds) c))
 
+  -- the reading of multiframes already found: 14 and 16 to 20, or what is read
+  abbrev pub readingFound : List ℕ → Outcome
+  readingFound places = finished places (wholeVerdict octets codebook thresholds (length index) (length report) places)
+
+  -- what cutting refuses, else the reading of what it found
+  abbrev pub endReading : List ℕ → Ending → Outcome
+  endReading places whole = readingFound places
+  endReading places (refused r) = outcome (Refused r) index report
+
+  -- decided first, then finished; `in-order` says it by its parts: 11, what cutting refuses, else `readingFound`
   unfoldable pub reading : Outcome
   reading = finished (cutting octets .places) (verdict octets codebook thresholds (length index) (length report))

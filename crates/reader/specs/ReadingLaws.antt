@@ -4,11 +4,12 @@ use Prim.Native.Nat.{ℕ, suc, _*_, _≤_, _<_}
 use native.Mathlib.Omega.{arith}
 use mathlib.Core.Path.{_≡_, refl, ap, sym, subst, _∙_}
 use mathlib.Core.List.{List, _∷_}
+use mathlib.Core.Bool.{Bool, true, false}
 use lib.ListN.{length, getD}
 use lib.IntN.{ℤ}
 use lib.Dec.{ltb, eqb}
 use borrow.Author.Tests.{eq-eqb, ne-eqb, le-ltb, ltb-false, eqb-true, eqb-false}
-use Rattle.lists.specs.Tests.{by-test}
+use Rattle.lists.specs.Tests.{when, by-test}
 use Rattle.lists.specs.Parts.{part, over, length-part}
 use Rattle.lists.specs.Rows.{length-joined, joined-part}
 use Rattle.layout.specs.Layout.{multiframePairs, firstPair, indexOctets, reportOctets, codebookNumbers, thresholdNumbers}
@@ -22,8 +23,9 @@ use Rattle.settling.specs.declared.Settlement.the-variants as S
 use Rattle.judging.specs.Judging.{badPairs}
 use Rattle.replacing.specs.Replacing.{pairsOctets}
 use Rattle.replacing.specs.Laws.{replaced-length}
-use Rattle.reader.specs.Reading.{indexPart, reportPart, summary, roomVerdict, settledVerdict, wholeVerdict, endVerdict, verdict, finished, outcome, reading, receivedFrames, receivedNotes}
+use Rattle.reader.specs.Reading.{indexPart, reportPart, summary, roomVerdict, settledVerdict, wholeVerdict, endVerdict, verdict, finished, outcome, endReading, reading, receivedFrames, receivedNotes}
 use Rattle.refusals.specs.declared.Reading.{Reading as Refusal}
+use Rattle.refusals.specs.declared.Reading.the-variants.{WrongTables}
 use Rattle.reader.specs.declared.Summary.{Summary}
 use Rattle.reader.specs.declared.Answer.{Answer}
 use Rattle.reader.specs.declared.Answer.the-variants.{Read, Refused}
@@ -188,6 +190,23 @@ module _ (octets : List ℕ) (codebook thresholds : List ℤ) (index report : Li
       (over report 0 (reportOctets * length (cutting octets .places)) (reportPart octets (cutting octets .places) (receivedNotes octets (cutting octets .places) codebook thresholds) c))
   unfolding reading
   accepted-lays c e = rw e
+
+  -- a reading by its parts: 11, what cutting refuses, else the reading of the multiframes found
+  pub in-order : reading octets codebook thresholds index report
+      ≡ when (eqb (length codebook) codebookNumbers)
+      (when (eqb (length thresholds) thresholdNumbers) (endReading octets codebook thresholds index report (cutting octets .places) (cutting octets .ending)) (outcome (Refused WrongTables) index report))
+      (outcome (Refused WrongTables) index report)
+  unfolding reading verdict
+  in-order = by (eqb (length codebook) codebookNumbers) (eqb (length thresholds) thresholdNumbers) (cutting octets .ending)
+    where
+      by : (s t : Bool) (e : Ending)
+          → finished octets codebook thresholds index report (cutting octets .places)
+          (when s (when t (endVerdict octets codebook thresholds (length index) (length report) (cutting octets .places) e) (Refuse WrongTables)) (Refuse WrongTables))
+          ≡ when s (when t (endReading octets codebook thresholds index report (cutting octets .places) e) (outcome (Refused WrongTables) index report)) (outcome (Refused WrongTables) index report)
+      by false t e = refl
+      by true false e = refl
+      by true true whole = refl
+      by true true (refused r) = refl
 
 -- ---- the sizes of what a reading holds
 module _ (octets places ns : List ℕ) where

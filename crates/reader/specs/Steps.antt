@@ -6,7 +6,7 @@ use mathlib.Core.List.{List, [], _∷_, _++_}
 use mathlib.Core.Bool.{Bool, true, false}
 use native.Mathlib.Omega.{arith}
 use native.Mathlib.Numerals.{add-one}
-use lib.ListN.{length, getD, take, drop, set, length-drop}
+use lib.ListN.{length, getD, take, drop, set, length-append, length-drop}
 use lib.Seq.{take-suc, take-at, getD-drop}
 use lib.IntN.{ℤ}
 use lib.Dec.{ltb, eqb}
@@ -34,7 +34,7 @@ use Rattle.cutting.specs.declared.Cut.the-variants as C
 use Rattle.replacing.specs.Replacing.{pairsOctets, replaced}
 use Rattle.replacing.specs.Laws.{same-replaced}
 use Rattle.replacing.specs.Speech.{lastNonzero, speechOf, endOf}
-use Rattle.reader.specs.Reading.{answerNumber, answerValues, indexPart, reportPart, summary, roomVerdict, settledVerdict, wholeVerdict, verdict, Outcome, outcome, finished, reading, receivedFrames, receivedNotes}
+use Rattle.reader.specs.Reading.{answerNumber, answerValues, indexPart, reportPart, summary, roomVerdict, settledVerdict, wholeVerdict, verdict, Outcome, outcome, finished, readingFound, reading, receivedFrames, receivedNotes}
 use Rattle.reader.specs.ReadingLaws.{length-index, whole-accepted}
 use Rattle.refusals.specs.declared.Reading.the-variants.{WrongTables, Empty, Unsettled, Unfit, IndexShort, ReportShort, AllBad}
 use Rattle.reader.specs.declared.Summary.{Summary}
@@ -240,11 +240,6 @@ module _ (octets : List ℕ) (codebook thresholds : List ℤ) (index report : �
 pub all-stored : (octets places l m : List ℕ) → length l ≡ length places → m ≡ over l 0 (length places) (packAll octets places (length places)) → m ≡ packAll octets places (length places)
 all-stored octets places l m e em = em ∙ over-all l (packAll octets places (length places)) (length places) e
 
--- an array is kept whatever was decided, if it holds what it has to
-pub kept : (l m : List ℕ) (v : Verdict) → m ≡ l → Kept l m v
-kept l m (Refuse r) e = tt
-kept l m (Accept c) e = e
-
 -- ---- the summary of what was written
 pub summary-is : (octets places ns : List ℕ) (c : ℕ) (settings : Settings) (speech bad end : ℕ) (l n : List ℕ) → 1 ≤ length places → length ns ≡ pairCount places
     → n ≡ over l 0 (indexOctets * length places) (indexPart octets places ns)
@@ -308,6 +303,10 @@ cut-refused w r e = by (w .ending) refl e
     by whole a q = let z : _≡_ {A = ℕ} 0 1 = cc in absurd (omega arith)
     by (refused x) a q = a ∙ cc
 
+-- an array whose first n numbers came back has n
+pub has-front : (g l : List ℕ) (n : ℕ) → length g ≡ n → n ≤ length (g ++ l)
+has-front g l n e = rw length-append (omega arith)
+
 -- the places at the front of the array are those that were cut
 pub front-places : (ps l m : List ℕ) (n : ℕ) → m ≡ laid 0 ps l → n ≡ length ps → take n m ≡ ps
 front-places ps l m n em en = rw (em, en) (take-at ps (drop (0 + length ps) l) (length ps) refl)
@@ -336,9 +335,8 @@ module _ (octets : List ℕ) (codebook thresholds : List ℤ) (index report : Li
       not-cut r e = rw (eq-eqb (length codebook) codebookNumbers sc, eq-eqb (length thresholds) thresholdNumbers st, e)
 
       pub whole-reading : (o : Outcome) (places : List ℕ) → cutting octets .ending ≡ whole → places ≡ cutting octets .places
-          → o ≡ finished octets codebook thresholds index report places (wholeVerdict octets codebook thresholds (length index) (length report) places)
-          → o ≡ reading octets codebook thresholds index report
+          → o ≡ readingFound octets codebook thresholds index report places → o ≡ reading octets codebook thresholds index report
       unfolding reading verdict
       whole-reading o places e ep eo =
           rw (eq-eqb (length codebook) codebookNumbers sc, eq-eqb (length thresholds) thresholdNumbers st, e)
-          (eo ∙ ap (λ (ps : List ℕ). finished octets codebook thresholds index report ps (wholeVerdict octets codebook thresholds (length index) (length report) ps)) ep)
+          (eo ∙ ap (λ (ps : List ℕ). readingFound octets codebook thresholds index report ps) ep)

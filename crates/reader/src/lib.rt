@@ -16,11 +16,9 @@ ghost use Rattle.layout.specs.Layout.{multiframePairs, mostMultiframes, indexOc
 ghost use Rattle.cutting.specs.Laws.{Placed};
 ghost use Rattle.settling.specs.Stored.{packAll, Mended, opened};
 ghost use Rattle.carrier.specs.Carrier.{pairCount};
-ghost use Rattle.judging.specs.Judging.{badPairs};
 ghost use Rattle.judging.specs.Laws.{Good};
-ghost use Rattle.reader.specs.Reading.{answerNumber, answerValues, indexPart, reportPart, summary, wholeVerdict, settledVerdict, outcome, finished, reading, receivedNotes};
+ghost use Rattle.reader.specs.Reading.{answerNumber, answerValues, indexPart, reportPart, summary, wholeVerdict, outcome, readingFound, reading, receivedNotes};
 ghost use Rattle.reader.specs.Steps.{earlyVerdict, Kept, section, sections};
-ghost use Rattle.settling.specs.declared.Settlement.the-variants.{Settled};
 
 // Success: the settled settings, the number of multiframes, speech, the number of bad pairs, and end.
 pub struct Summary {
@@ -75,51 +73,6 @@ fn early(common: u16, m: usize, index: usize, report: usize) -> Verdict
     Verdict::Accept { common }
 }
 
-// Every pair's note goes into notes; the answer is how many are bad.
-fn judge_all(
-    octets: &[u8],
-    places: &[usize],
-    codebook: &[i32],
-    thresholds: &[i32],
-    notes: &mut [u8],
-) -> usize
-    requires { ⌜ Placed (now octets) (now places) × (length (now notes) ≡ pairCount (now places)) ⌝ }
-    requires { ⌜ (length (now codebook) ≡ codebookNumbers) × (length (now thresholds) ≡ thresholdNumbers) ⌝ }
-    ensures count { λ r. ⌜ r ≡ badPairs (receivedNotes (now (octets .entry)) (now (places .entry)) (now (codebook .entry)) (now (thresholds .entry))) ⌝ }
-    ensures notes { λ _. ⌜ now (notes .exit) ≡ receivedNotes (now (octets .entry)) (now (places .entry)) (now (codebook .entry)) (now (thresholds .entry)) ⌝ }
-{
-    pairs::note_crcs(octets, places, notes);
-    pairs::judge(octets, places, codebook, thresholds, notes);
-    judging::bad_pairs(notes)
-}
-
-// 17 to 20, of settled common bits. An accepted reading has its notes in notes.
-fn decide_pairs(
-    octets: &[u8],
-    places: &[usize],
-    codebook: &[i32],
-    thresholds: &[i32],
-    common: u16,
-    index: usize,
-    report: usize,
-    notes: &mut [u8],
-) -> Verdict
-    requires { ⌜ Placed (now octets) (now places) × (length (now notes) ≡ pairCount (now places)) × (length (now places) ≤ mostMultiframes) ⌝ }
-    requires { ⌜ (length (now codebook) ≡ codebookNumbers) × (length (now thresholds) ≡ thresholdNumbers) ⌝ }
-    ensures answer { λ r. ⌜ r ≡ settledVerdict (length (now (places .entry))) (badPairs (receivedNotes (now (octets .entry)) (now (places .entry)) (now (codebook .entry)) (now (thresholds .entry)))) (pairCount (now (places .entry))) index report (Settled common) ⌝ }
-    ensures notes { λ r. ⌜ Kept (receivedNotes (now (octets .entry)) (now (places .entry)) (now (codebook .entry)) (now (thresholds .entry))) (now (notes .exit)) r ⌝ }
-{
-    match early(common, places.len(), index, report) {
-        Verdict::Refuse(r) => Verdict::Refuse(r),
-        Verdict::Accept { common: _ } => {
-            if judge_all(octets, places, codebook, thresholds, notes) == notes.len() {
-                return Verdict::Refuse(Reading::AllBad);
-            }
-            Verdict::Accept { common }
-        }
-    }
-}
-
 // 14 and 16 to 20, of octets that are cut up. Nothing that the caller of read lent can be written here. An accepted reading has its
 // headers and notes in headers and notes.
 fn decide(
@@ -144,19 +97,18 @@ fn decide(
         });
     }
     settling::read_headers(octets, places, headers);
-    match settling::settle(headers) {
-        Settlement::Unsettled => Verdict::Refuse(Reading::Unsettled),
-        Settlement::Settled { common } => decide_pairs(
-            octets,
-            places,
-            codebook,
-            thresholds,
-            common,
-            index,
-            report,
-            notes,
-        ),
+    let Settlement::Settled { common } = settling::settle(headers) else {
+        return Verdict::Refuse(Reading::Unsettled);
+    };
+    if let Verdict::Refuse(r) = early(common, places.len(), index, report) {
+        return Verdict::Refuse(r);
     }
+    pairs::note_crcs(octets, places, notes);
+    pairs::judge(octets, places, codebook, thresholds, notes);
+    if judging::bad_pairs(notes) == notes.len() {
+        return Verdict::Refuse(Reading::AllBad);
+    }
+    Verdict::Accept { common }
 }
 
 // Twelve notes from place from on go to place to of the report.
@@ -227,46 +179,8 @@ fn write(
     }
 }
 
-// The reading of octets that are cut up, with room of its own for headers and notes: decided first, and written only if it is accepted.
-fn read_with(
-    octets: &[u8],
-    places: &[usize],
-    codebook: &[i32],
-    thresholds: &[i32],
-    headers: &mut [u32],
-    notes: &mut [u8],
-    index: &mut [u8],
-    report: &mut [u8],
-) -> Answer
-    requires { ⌜ Placed (now octets) (now places) × (length (now notes) ≡ pairCount (now places)) × (length (now places) ≤ mostMultiframes) × (length (now headers) ≡ length (now places)) ⌝ }
-    requires { ⌜ (length (now codebook) ≡ codebookNumbers) × (length (now thresholds) ≡ thresholdNumbers) ⌝ }
-    ensures { λ r. ⌜ outcome r (now (index .exit)) (now (report .exit)) ≡ finished (now (octets .entry)) (now (codebook .entry)) (now (thresholds .entry)) (now (index .entry)) (now (report .entry)) (now (places .entry)) (wholeVerdict (now (octets .entry)) (now (codebook .entry)) (now (thresholds .entry)) (length (now (index .entry))) (length (now (report .entry))) (now (places .entry))) ⌝ }
-{
-    match decide(
-        octets,
-        places,
-        codebook,
-        thresholds,
-        index.len(),
-        report.len(),
-        headers,
-        notes,
-    ) {
-        Verdict::Refuse(r) => Answer::Refused(r),
-        Verdict::Accept { common } => Answer::Read(write(
-            octets,
-            places,
-            headers,
-            notes,
-            common,
-            index,
-            report,
-        )),
-    }
-}
-
-// The same: the room is for as many multiframes as an utterance may have.
-fn read_whole(
+// The reading of multiframes already found, with room of its own for headers and notes: decided first, and written only if it is accepted.
+fn read_found(
     octets: &[u8],
     places: &[usize],
     codebook: &[i32],
@@ -276,22 +190,33 @@ fn read_whole(
 ) -> Answer
     requires { ⌜ Placed (now octets) (now places) × (length (now places) ≤ mostMultiframes) ⌝ }
     requires { ⌜ (length (now codebook) ≡ codebookNumbers) × (length (now thresholds) ≡ thresholdNumbers) ⌝ }
-    ensures { λ r. ⌜ outcome r (now (index .exit)) (now (report .exit)) ≡ finished (now (octets .entry)) (now (codebook .entry)) (now (thresholds .entry)) (now (index .entry)) (now (report .entry)) (now (places .entry)) (wholeVerdict (now (octets .entry)) (now (codebook .entry)) (now (thresholds .entry)) (length (now (index .entry))) (length (now (report .entry))) (now (places .entry))) ⌝ }
+    ensures { λ r. ⌜ outcome r (now (index .exit)) (now (report .exit)) ≡ readingFound (now (octets .entry)) (now (codebook .entry)) (now (thresholds .entry)) (now (index .entry)) (now (report .entry)) (now (places .entry)) ⌝ }
 {
     let m = places.len();
     let pairs = MultiframeLayout::PAIRS * m;
     let mut headers = [0u32; MULTIFRAMES];
     let mut notes = [0u8; NOTES];
-    read_with(
+    match decide(
         octets,
         places,
         codebook,
         thresholds,
+        index.len(),
+        report.len(),
         &mut headers[..m],
         &mut notes[..pairs],
-        index,
-        report,
-    )
+    ) {
+        Verdict::Refuse(r) => Answer::Refused(r),
+        Verdict::Accept { common } => Answer::Read(write(
+            octets,
+            places,
+            &headers[..m],
+            &notes[..pairs],
+            common,
+            index,
+            report,
+        )),
+    }
 }
 
 // read turns received octets into the indices of all frames and a report, or refuses and leaves both buffers as they came.
@@ -316,7 +241,7 @@ pub fn read(
     }
     let mut places = [0usize; MULTIFRAMES];
     match cutting::cut_into(octets, &mut places) {
-        Cut::Whole { count } => read_whole(
+        Cut::Whole { count } => read_found(
             octets,
             &places[..count],
             codebook,

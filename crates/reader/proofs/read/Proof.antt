@@ -57,13 +57,13 @@ array-share-prefix-places c =
     let size : length (u .cut-into .last .1 .0) ≡ 255 = u .cut-into .kept .1 .0 in
     omega (arith, size, counted k .1, at-most-255 (st .args .octets .now))
 
-slice-aggregate-read-whole : tie.Need-slice-aggregate-read-whole
-slice-aggregate-read-whole c =
+slice-aggregate-read-found : tie.Need-slice-aggregate-read-found
+slice-aggregate-read-found c =
     let k = c .before .before in
     counted k .1 ∙ sym (ap length (lent k))
 
-read-whole-requires : tie.Need-read-whole-requires
-read-whole-requires c κs =
+read-found-requires : tie.Need-read-found-requires
+read-found-requires c κs =
     let k = c .before .before .before .before in
     let i = k .before .before .before .before .before in
     let st = i .before .before .before .before .before in
@@ -87,7 +87,7 @@ returns-3 c =
     let st = i .before .before .before .before .before in
     let a = st .args in
     in-numbers (a .octets .now) (a .codebook .now) (a .thresholds .now) (a .index .now) (a .report .now)
-    (whole-reading (a .octets .now) (a .codebook .now) (a .thresholds .now) (a .index .now) (a .report .now) (i .before .if1 .left) (i .if2 .left) _ _ (counted k .0) (lent k) (w .read-whole .ensures))
+    (whole-reading (a .octets .now) (a .codebook .now) (a .thresholds .now) (a .index .now) (a .report .now) (i .before .if1 .left) (i .if2 .left) _ _ (counted k .0) (lent k) (w .read-found .ensures))
 
 returns-4 : tie.Need-returns-4
 returns-4 c =
@@ -110,8 +110,8 @@ read-spec =
     cut-into-requires
     enum-known-count
     array-share-prefix-places
-    slice-aggregate-read-whole
-    read-whole-requires
+    slice-aggregate-read-found
+    read-found-requires
     enum-known-r
     same-length
     same-length-2
