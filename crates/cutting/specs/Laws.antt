@@ -255,7 +255,7 @@ module _ (s l : List ℕ) (p : ℕ) (within : p ≤ length s) (left : drop p s �
   sound-next CutShort m v w h f g = record { stand = tt; close = stands CutShort m (h .0) h }
   sound-next TooMany m v w h f g = record { stand = tt; close = stands TooMany m (h .0) h }
 
-sound-walk : (s : List ℕ) (k : ℕ) (l : List ℕ) (p m : ℕ) → p ≤ length s → drop p s ≡ l → Sound s (p + k) (walk k l p m)
+pub sound-walk : (s : List ℕ) (k : ℕ) (l : List ℕ) (p m : ℕ) → p ≤ length s → drop p s ≡ l → Sound s (p + k) (walk k l p m)
 unfolding walk
 sound-walk s k [] p m h e = record { stand = tt; close = tt }
 sound-walk s (suc k) (x ∷ l) p m h e =
