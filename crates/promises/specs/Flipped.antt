@@ -365,9 +365,9 @@ module _ (s : List ℕ) (m q : ℕ) (h : q < multiframePairs * m) (whole : right
   unfolding pairFails
   never-fails = ap (λ (p : List Bool). not (right dataBits p)) (packet-at s m q h) ∙ ap not whole
 
-  never-odd : pairInconsistent (received s (rowOf m)) zeroBook zeroThresholds q ≡ false
+  never-inconsistent : pairInconsistent (received s (rowOf m)) zeroBook zeroThresholds q ≡ false
   unfolding pairInconsistent
-  never-odd = zero-consistent (take frameIndices (framesOf (received s (rowOf m)) q)) (drop frameIndices (framesOf (received s (rowOf m)) q))
+  never-inconsistent = zero-consistent (take frameIndices (framesOf (received s (rowOf m)) q)) (drop frameIndices (framesOf (received s (rowOf m)) q))
 
   pub right-good : getD (receivedNotes s (rowOf m) zeroBook zeroThresholds) q 0 ≡ 0
   unfolding pairNotes
@@ -378,7 +378,7 @@ module _ (s : List ℕ) (m q : ℕ) (h : q < multiframePairs * m) (whole : right
       let l : q < n = omega (arith, every-length 0 m) in
       note-at false fs os q (omega (arith, length-each (pairFails (received s (rowOf m))) n))
       ∙ ap₂ (λ (x y : Bool). noteBy (badBefore false (notes fs os) q) x y (getD fs (suc q) false)) (each-at (pairFails (received s (rowOf m))) n q false l ∙ never-fails)
-      (each-at (pairInconsistent (received s (rowOf m)) zeroBook zeroThresholds) n q false l ∙ never-odd)
+      (each-at (pairInconsistent (received s (rowOf m)) zeroBook zeroThresholds) n q false l ∙ never-inconsistent)
       ∙ consistent-is-good (badBefore false (notes fs os) q) (getD fs (suc q) false)
 
   -- so there is a good one
