@@ -97,8 +97,8 @@ module _ (f : ℕ → List Bool) where
 
     packed-part : (q : ℕ) → streamPacket (packed (multiframeOf q)) q ≡ f q
     packed-part q =
-        let z : 12 * (q / 12) + q % 12 ≡ q = omega arith in
-        joined-part (λ r. f (firstPair (q / 12) + r)) packetBits multiframePairs (q % 12) (λ r h. long (firstPair (q / 12) + r)) (omega arith) ∙ ap f z
+        let z : multiframePairs * (q / multiframePairs) + q % multiframePairs ≡ q = omega arith in
+        joined-part (λ r. f (firstPair (q / multiframePairs) + r)) packetBits multiframePairs (q % multiframePairs) (λ r h. long (firstPair (q / multiframePairs) + r)) (omega arith) ∙ ap f z
 
 -- ---- an image with flips in its headers and any packets
 module _ (u : Utterance) (e : ℕ → ℕ) (f : ℕ → List Bool) where
@@ -130,7 +130,7 @@ module _ (u : Utterance) (e : ℕ → ℕ) (f : ℕ → List Bool) where
     module _ (long : (q : ℕ) → length (f q) ≡ packetBits) where
       -- the packets are those
       pub packets-are : (q : ℕ) → q < pairsOf u → packetIn flipped q ≡ f q
-      packets-are q h = made-packet flippedWord (packed f) (multiframesOf u) q h (length-packed f long (q / 12)) ∙ packed-part f long q
+      packets-are q h = made-packet flippedWord (packed f) (multiframesOf u) q h (length-packed f long (q / multiframePairs)) ∙ packed-part f long q
 
       -- so with packets that are damaged or not it is a damaged image
       pub flipped-damage : (most : ℕ) → ((k : ℕ) → k < multiframesOf u → ones (e k) ≤ most)
