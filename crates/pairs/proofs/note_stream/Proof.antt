@@ -7,7 +7,6 @@ use Rattle.lists.specs.Parts.{over, over-none}
 use Rattle.lists.specs.Rows.{each-on}
 use Rattle.bits.specs.Bits.{bits}
 use Rattle.carrier.specs.Carrier.{streamPacket}
-use Rattle.carrier.specs.Laws.{packet-inside}
 use Rattle.pairs.specs.Pairs.{pairFails, crcNote, crcNotes}
 use Rattle.pairs.specs.Laws.{fails-is}
 use borrow.Author.Needs.{needs}
@@ -26,7 +25,7 @@ loop-holds c = (omega arith, refl, over-none _ (c .before .before .args .first .
 is-right-requires : tie.Need-is-right-requires Inv-loop μ-loop
 is-right-requires c κs =
     let st = c .before .before .before .before in
-    packet-inside (c .before .loop .p) (length (st .args .stream .now)) (st .pre .0)
+    omega (arith, st .pre .0)
 
 note-requires : tie.Need-note-requires Inv-loop μ-loop
 note-requires c κs = search needs
