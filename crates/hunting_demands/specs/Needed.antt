@@ -40,12 +40,13 @@ use Rattle.settling.specs.Settling.{readings, settling, firstAgreeing, onlyOne}
 use Rattle.settling.specs.Laws.{only-clean, only-mended}
 use Rattle.settling.specs.declared.Settlement.the-variants as S
 use Rattle.hunt.specs.Hunt.{syncBits, headerBits, multiframeBits, fewestMatches, inRange, sync, matches, passes, searched, placesLeft}
-use Rattle.hunt.specs.Laws.{searched-all}
+use Rattle.hunt.specs.Laws.{searched-all, in-range}
 use Rattle.reader.specs.Reading as R
 use Rattle.reader.specs.ReadingLaws.{Usable}
 use Rattle.reader.specs.declared.Answer.the-variants as RA
 use Rattle.refusals.specs.declared.Reading.the-variants.{Unsettled, IndexShort}
 use Rattle.hunting.specs.Hunting.{imageOf as foundImage, outsideOf, counted, Outcome, outcome, huntingReading}
+use Rattle.hunting.specs.Says.{nowhere-exactly}
 use Rattle.hunting.specs.declared.Answer.the-variants.{Refused}
 use Rattle.refusals.specs.declared.Hunting.{Hunting as Refusal}
 use Rattle.refusals.specs.declared.Hunting.the-variants.{Octets, MatchRange, Nowhere}
@@ -58,7 +59,7 @@ use Rattle.demands.specs.Headers.{sentCommon, common-sent, rate-sent, exp-sent}
 use Rattle.demands.specs.Instances.{lone, says1}
 use Rattle.demands.specs.Met.{zeroBook, zeroThresholds, indexFor, reportFor, lent-zeros, distance, burstAt, doubleAt, hurtWord, hurtStream, hurtImage, hurts, names-met, says24, two-multiframes}
 use Rattle.demands.specs.Needed.{says1At11}
-use Rattle.hunting_demands.specs.Standing.{placeInRow, row, syncAt, wordAt, streamAt, all-match, passes-there, unlike-fails, lost-fails, InARow, testedInRow, nothing-found, reads-in-a-row, image-size, image-sync, image-word}
+use Rattle.hunting_demands.specs.Standing.{placeInRow, row, syncAt, wordAt, streamAt, all-match, passes-there, unlike-fails, lost-fails, InARow, testedInRow, reads-in-a-row, image-size, image-sync, image-word}
 use Rattle.hunting_demands.specs.AsRead as A
 use Rattle.hunting_demands.specs.AsRead.{Multiframes, Stands, shifted-syncs, shifted-stands, damaged-cut}
 use Rattle.hunting_demands.specs.Laid.{laidMultiframe, sync-in, word-in}
@@ -380,7 +381,7 @@ module _ (codebook thresholds : List ℤ) (index report : List ℕ) where
         others = alone-others says1 (λ k. fiveSync) untouched five-fits 0 fewestMatches Syncs (λ other. lit≤ tt) (λ other. absurd (other refl))
             (λ other k. none-few) (λ other. lit≤ tt) (λ other. inr no-ones) (λ other. lent);
         fails = λ h. omega (arith, h 0 (lit< tt));
-        instead = nothing-found fiveFlips 0 fewestMatches codebook thresholds index report (lit≤ tt) (lit≤ tt) (lent .codebook-size) (lent .thresholds-size)
+        instead = nowhere-exactly fiveFlips 0 fewestMatches codebook thresholds index report (lent .codebook-size) (lent .thresholds-size) (in-range fewestMatches (lit≤ tt) (lit≤ tt)) .1
             (λ t a h. let z : t ≡ 0 = omega arith in ap (passes fewestMatches (bits fiveFlips)) z ∙ unlike-fails fewestMatches (bits fiveFlips) 0 few)
             ∙ ap (λ (n : ℕ). outcome (Refused (Nowhere 0 n)) index report) one;
       }
@@ -434,7 +435,7 @@ module _ (codebook thresholds : List ℤ) (index report : List ℕ) where
           record {
             others = clean-others 1 least high Begins (λ other. absurd (other refl)) (λ other. low) (λ other. lent);
             fails = λ h. omega arith;
-            instead = nothing-found clean1 1 least codebook thresholds index report low high (lent .codebook-size) (lent .thresholds-size)
+            instead = nowhere-exactly clean1 1 least codebook thresholds index report (lent .codebook-size) (lent .thresholds-size) (in-range least low high) .1
                 (λ t a h. absurd (omega arith))
                 ∙ ap (λ (n : ℕ). outcome (Refused (Nowhere 1 n)) index report) none;
           }

@@ -21,15 +21,13 @@ use Rattle.header.specs.declared.Decoded.{Decoded}
 use Rattle.header.specs.declared.Header.{Header}
 use Rattle.header.specs.declared.Header.the-variants.{Codeword, Lost}
 use Rattle.hunt.specs.Hunt.{fewestMatches, syncBits, headerBits, multiframeBits, sync, matches, readable, passes, searched, placesLeft, huntedFrom}
-use Rattle.hunt.specs.Laws.{in-range, searched-le, says, once}
+use Rattle.hunt.specs.Laws.{in-range, searched-le, says, once, nowhere-exactly}
 use Rattle.hunt.specs.declared.Hunted.{Hunted}
 use Rattle.hunt.specs.declared.Hunted.the-variants as H
-use Rattle.refusals.specs.declared.Hunt.the-variants as HR
 use Rattle.reader.specs.Reading as R
-use Rattle.hunting.specs.Hunting.{Ending, whole, ended, prepend, step, last, gathering, outsideOf, aligned, imageOf, outcome, counted, readingBy, readingFound, huntingReading}
+use Rattle.hunting.specs.Hunting.{Ending, whole, ended, prepend, step, last, gathering, outsideOf, aligned, imageOf, counted, readingBy, readingFound, huntingReading}
 use Rattle.hunting.specs.Laws.{image-more}
-use Rattle.hunting.specs.declared.Answer.the-variants.{Refused}
-use Rattle.refusals.specs.declared.Hunting.the-variants.{Nowhere}
+use Rattle.hunting.specs.Says.{nothing-found}
 use Rattle.writer.specs.Made.{Small, syncIn, wordIn, streamIn, framed, made, length-made, small-made, made-sync, made-word, made-stream}
 
 -- ---- places
@@ -106,16 +104,11 @@ pub record InARow (l : List Bool) (from at least m : ℕ) : Type 0 where
   pub none-behind : (t : ℕ) → at + multiframeBits * m ≤ t → t + multiframeBits ≤ searched l → passes least l t ≡ false
 
 -- where no place passes, all are tested
-pub none-hunted : (l : List Bool) (from least : ℕ) → ((t : ℕ) → from ≤ t → t + multiframeBits ≤ searched l → passes least l t ≡ false)
-    → huntedFrom l from least ≡ H.Refused (HR.Nowhere from (placesLeft l from))
-none-hunted l from least none =
-    once least l from (huntedFrom l from least) (H.Refused (HR.Nowhere from (placesLeft l from))) (says least l from) (refl, none, refl)
-
 none-gathered : (l : List Bool) (from least k : ℕ) → ((t : ℕ) → from ≤ t → t + multiframeBits ≤ searched l → passes least l t ≡ false)
     → gathering l least k from ≡ ended whole (placesLeft l from)
 unfolding gathering
-none-gathered l from least zero none = ap last (none-hunted l from least none)
-none-gathered l from least (suc k) none = ap (λ (h : Hunted). step h (λ p. gathering l least k (p + multiframeBits))) (none-hunted l from least none)
+none-gathered l from least zero none = ap last (nowhere-exactly least l from .1 none)
+none-gathered l from least (suc k) none = nothing-found l least k from none
 
 -- the places tested where m multiframes stand in a row: those before, theirs, and those left behind
 abbrev pub testedInRow : List Bool → ℕ → ℕ → ℕ → ℕ
@@ -187,11 +180,6 @@ module _ (s : List ℕ) (from least : ℕ) (codebook thresholds : List ℤ) (ind
       by zero h = absurd (omega arith)
       by (suc n) h =
           ap (λ (i : ℕ). counted (R.reading (imageOf s (row at (suc n))) codebook thresholds index report) (outsideOf (bits s) from i) (testedInRow (bits s) from at m)) (length-row at (suc n))
-
-  -- NOTHING FOUND: 22, and both buffers stay
-  pub nothing-found : ((t : ℕ) → from ≤ t → t + multiframeBits ≤ searched (bits s) → passes least (bits s) t ≡ false)
-      → huntingReading s from least codebook thresholds index report ≡ outcome (Refused (Nowhere from (placesLeft (bits s) from))) index report
-  nothing-found none = found-next [] whole (placesLeft (bits s) from) (none-gathered (bits s) from least mostMultiframes none)
 
 -- ---- put together on octets
 pub aligned-framed : (s : List ℕ) (p : ℕ) → p + multiframeBits ≤ length (bits s) → aligned s p ≡ framed (wordAt (bits s) p) (streamAt (bits s) p)
