@@ -84,7 +84,7 @@ module _ (s b₀ b : List ℕ) (p m : ℕ) (g : Going s b₀ b p m) where
   going Multiframe a w =
       let n = length-drop p s in
       let below : m < 255 = less m (g .few) (a .1) in
-      let v = walk 0 (drop (p + 144) s) (p + 144) (m + 1) in
+      let v = walk 0 (drop (p + multiframeOctets) s) (p + multiframeOctets) (m + 1) in
       let c : m + 1 + length (v .places) ≡ m + suc (length (v .places)) = omega arith in (
         omega (arith, n, a .0, g .within),
         below,

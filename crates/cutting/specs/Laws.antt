@@ -159,8 +159,8 @@ pub walk-step : (l : List ℕ) (p m : ℕ)
 unfolding walk pieceBy
 walk-step [] p m = refl
 walk-step (x ∷ l) p m =
-    let a : walk 143 l (p + 1) (m + 1) ≡ walk 0 (drop 143 l) (p + 144) (m + 1)
-    = walk-skip 143 l (p + 1) (m + 1) ∙ ap (λ (q : ℕ). walk 0 (drop 143 l) q (m + 1)) (omega arith) in
+    let a : walk (multiframeOctets - 1) l (p + 1) (m + 1) ≡ walk 0 (drop (multiframeOctets - 1) l) (p + multiframeOctets) (m + 1)
+    = walk-skip (multiframeOctets - 1) l (p + 1) (m + 1) ∙ ap (λ (q : ℕ). walk 0 (drop (multiframeOctets - 1) l) q (m + 1)) (omega arith) in
     let b : walk 1 l (p + 1) m ≡ walk 0 (drop 1 l) (p + 2) m = walk-skip 1 l (p + 1) m ∙ ap (λ (q : ℕ). walk 0 (drop 1 l) q m) (omega arith) in
     ap₂ (step (pieceOf (x ∷ l) m) p) a b
 
@@ -188,8 +188,8 @@ unfolding walk
 few k [] p m h = omega arith
 few (suc k) (x ∷ l) p m h = few k l (p + 1) m h
 few zero (x ∷ l) p m h =
-    few-next (pieceOf (x ∷ l) m) (length (x ∷ l)) (getD (x ∷ l) 0 0) (getD (x ∷ l) 1 0) m p (walk 143 l (p + 1) (m + 1)) (walk 1 l (p + 1) m) h
-    (says (length (x ∷ l)) (getD (x ∷ l) 0 0) (getD (x ∷ l) 1 0) m) (λ k. few 143 l (p + 1) (m + 1) k) (few 1 l (p + 1) m h)
+    few-next (pieceOf (x ∷ l) m) (length (x ∷ l)) (getD (x ∷ l) 0 0) (getD (x ∷ l) 1 0) m p (walk (multiframeOctets - 1) l (p + 1) (m + 1)) (walk 1 l (p + 1) m) h
+    (says (length (x ∷ l)) (getD (x ∷ l) 0 0) (getD (x ∷ l) 1 0) m) (λ k. few (multiframeOctets - 1) l (p + 1) (m + 1) k) (few 1 l (p + 1) m h)
 
 pub at-most-255 : (s : List ℕ) → length (cutting s .places) ≤ mostMultiframes
 at-most-255 s = let h = few 0 s 0 0 (omega arith) in omega arith
@@ -255,7 +255,7 @@ module _ (s l : List ℕ) (p : ℕ) (within : p ≤ length s) (left : drop p s �
   sound-next CutShort m v w h f g = record { stand = tt; close = stands CutShort m (h .0) h }
   sound-next TooMany m v w h f g = record { stand = tt; close = stands TooMany m (h .0) h }
 
-sound-walk : (s : List ℕ) (k : ℕ) (l : List ℕ) (p m : ℕ) → p ≤ length s → drop p s ≡ l → Sound s (p + k) (walk k l p m)
+pub sound-walk : (s : List ℕ) (k : ℕ) (l : List ℕ) (p m : ℕ) → p ≤ length s → drop p s ≡ l → Sound s (p + k) (walk k l p m)
 unfolding walk
 sound-walk s k [] p m h e = record { stand = tt; close = tt }
 sound-walk s (suc k) (x ∷ l) p m h e =
@@ -267,12 +267,12 @@ sound-walk s zero (x ∷ l) p m h e =
     let n : suc (length l) ≡ length s - p = left-length s (x ∷ l) p h e in
     let d : drop (p + 1) s ≡ l = sym (drop-drop 1 p s) ∙ ap (drop 1) e in
     let z : p ≡ p + 0 = omega arith in
-    let a : p + 1 + 143 ≡ p + 144 = omega arith in
+    let a : p + 1 + (multiframeOctets - 1) ≡ p + multiframeOctets = omega arith in
     let b : p + 1 + 1 ≡ p + 2 = omega arith in
     subst (λ (q : ℕ). Sound s q (walk zero (x ∷ l) p m)) z
-    (sound-next s (x ∷ l) p h e (pieceOf (x ∷ l) m) m (walk 143 l (p + 1) (m + 1)) (walk 1 l (p + 1) m)
+    (sound-next s (x ∷ l) p h e (pieceOf (x ∷ l) m) m (walk (multiframeOctets - 1) l (p + 1) (m + 1)) (walk 1 l (p + 1) m)
     (says (length (x ∷ l)) (getD (x ∷ l) 0 0) (getD (x ∷ l) 1 0) m)
-    (subst (λ (q : ℕ). Sound s q (walk 143 l (p + 1) (m + 1))) a (sound-walk s 143 l (p + 1) (m + 1) (omega arith) d))
+    (subst (λ (q : ℕ). Sound s q (walk (multiframeOctets - 1) l (p + 1) (m + 1))) a (sound-walk s (multiframeOctets - 1) l (p + 1) (m + 1) (omega arith) d))
     (subst (λ (q : ℕ). Sound s q (walk 1 l (p + 1) m)) b (sound-walk s 1 l (p + 1) m (omega arith) d)))
 
 -- what cutting gives, of any octets whatsoever
@@ -284,7 +284,7 @@ pub place-stands : (s : List ℕ) (q : ℕ) (ps : List ℕ) → Stand s q ps →
     → (q + multiframeOctets * k ≤ getD ps k 0) × (getD ps k 0 + multiframeOctets ≤ length s) × (getD s (getD ps k 0) 0 ≡ syncFirst) × (getD s (getD ps k 0 + 1) 0 ≡ syncSecond)
 place-stands s q [] a k h = absurd (omega arith)
 place-stands s q (p ∷ ps) a zero h = (omega (arith, a .0), a .1, a .2, a .3)
-place-stands s q (p ∷ ps) a (suc k) h = let b = place-stands s (p + 144) ps (a .4) k (omega arith) in (omega (arith, a .0, b .0), b .1, b .2, b .3)
+place-stands s q (p ∷ ps) a (suc k) h = let b = place-stands s (p + multiframeOctets) ps (a .4) k (omega arith) in (omega (arith, a .0, b .0), b .1, b .2, b .3)
 
 -- a whole multiframe stands at each of some places
 abbrev pub Placed : List ℕ → List ℕ → Type 0
@@ -297,7 +297,7 @@ ascend : (s : List ℕ) (q : ℕ) (ps : List ℕ) → Stand s q ps → (k : ℕ)
 ascend s q [] a k h = absurd (omega arith)
 ascend s q (p ∷ []) a k h = absurd (omega arith)
 ascend s q (p ∷ r ∷ ps) a zero h = a .4 .0
-ascend s q (p ∷ r ∷ ps) a (suc k) h = ascend s (p + 144) (r ∷ ps) (a .4) k (omega arith)
+ascend s q (p ∷ r ∷ ps) a (suc k) h = ascend s (p + multiframeOctets) (r ∷ ps) (a .4) k (omega arith)
 
 pub places-ascend : (s : List ℕ) (q : ℕ) (ps : List ℕ) → Stand s q ps → (k : ℕ) → k + 1 < length ps → getD ps k 0 + multiframeOctets ≤ getD ps (k + 1) 0
 places-ascend s q ps a k h = rw add-one (ascend s q ps a k (omega arith))
@@ -311,12 +311,12 @@ every q (suc n) = q ∷ every (q + multiframeOctets) n
 
 pub every-length : (q n : ℕ) → length (every q n) ≡ n
 every-length q zero = refl
-every-length q (suc n) = ap suc (every-length (q + 144) n)
+every-length q (suc n) = ap suc (every-length (q + multiframeOctets) n)
 
 pub every-at : (q n k : ℕ) → k < n → getD (every q n) k 0 ≡ q + multiframeOctets * k
 every-at q zero k h = absurd (omega arith)
 every-at q (suc n) zero h = omega arith
-every-at q (suc n) (suc k) h = let e = every-at (q + 144) n k (omega arith) in e ∙ omega arith
+every-at q (suc n) (suc k) h = let e = every-at (q + multiframeOctets) n k (omega arith) in e ∙ omega arith
 
 piece-at : (s : List ℕ) (p m : ℕ) → p + multiframeOctets ≤ length s → m < mostMultiframes → getD s p 0 ≡ syncFirst → getD s (p + 1) 0 ≡ syncSecond
     → pieceOf (drop p s) m ≡ Multiframe
@@ -335,10 +335,10 @@ taken s zero p m few size syncs =
     ap (λ (l : List ℕ). walk 0 l p m) (ap (λ (k : ℕ). drop k s) e ∙ drop-length s)
 taken s (suc n) p m few size syncs =
     let here = syncs 0 (omega arith) in
-    let z : p + 144 * 0 ≡ p = omega arith in
-    let ahead : (k : ℕ) → p + 144 * suc k ≡ p + 144 + 144 * k = λ k. omega arith in
+    let z : p + multiframeOctets * 0 ≡ p = omega arith in
+    let ahead : (k : ℕ) → p + multiframeOctets * suc k ≡ p + multiframeOctets + multiframeOctets * k = λ k. omega arith in
     at-place s p m Multiframe (piece-at s p m (omega arith) (omega arith) (rw z at (here .0)) (rw z at (here .1)))
-    ∙ ap (prepend p) (taken s n (p + 144) (m + 1) (omega arith) (omega arith) (λ k h.
+    ∙ ap (prepend p) (taken s n (p + multiframeOctets) (m + 1) (omega arith) (omega arith) (λ k h.
     subst (λ (i : ℕ). (getD s i 0 ≡ syncFirst) × (getD s (i + 1) 0 ≡ syncSecond)) (ahead k) (syncs (suc k) (omega arith))))
 
 -- m multiframes one after another, each with its sync, and nothing else
@@ -346,21 +346,21 @@ pub whole-image : (s : List ℕ) (m : ℕ) → m ≤ mostMultiframes → length 
     → ((k : ℕ) → k < m → (getD s (multiframeOctets * k) 0 ≡ syncFirst) × (getD s (multiframeOctets * k + 1) 0 ≡ syncSecond))
     → cutting s ≡ record { places = every 0 m; ending = whole }
 whole-image s m few size syncs =
-    let z : (k : ℕ) → 144 * k ≡ 0 + 144 * k = λ k. omega arith in
+    let z : (k : ℕ) → multiframeOctets * k ≡ 0 + multiframeOctets * k = λ k. omega arith in
     taken s m 0 0 (omega arith) (omega arith) (λ k h. subst (λ (i : ℕ). (getD s i 0 ≡ syncFirst) × (getD s (i + 1) 0 ≡ syncSecond)) (z k) (syncs k h))
 
 -- and the other way round: octets that are no longer than their multiframes hold nothing else
 room-for : (s : List ℕ) (q : ℕ) (ps : List ℕ) → q ≤ length s → Stand s q ps → q + multiframeOctets * length ps ≤ length s
 room-for s q [] h a = omega arith
-room-for s q (p ∷ ps) h a = let b = room-for s (p + 144) ps (a .1) (a .4) in omega (arith, a .0)
+room-for s q (p ∷ ps) h a = let b = room-for s (p + multiframeOctets) ps (a .1) (a .4) in omega (arith, a .0)
 
 tight : (s : List ℕ) (q : ℕ) (ps : List ℕ) → length s ≡ q + multiframeOctets * length ps → Stand s q ps → ps ≡ every q (length ps)
 tight s q [] size a = refl
 tight s q (p ∷ ps) size a =
-    let b = room-for s (p + 144) ps (a .1) (a .4) in
+    let b = room-for s (p + multiframeOctets) ps (a .1) (a .4) in
     let e : p ≡ q = omega (arith, a .0, b) in
-    let r : ps ≡ every (p + 144) (length ps) = tight s (p + 144) ps (omega (arith, e)) (a .4) in
-    ap (λ (l : List ℕ). p ∷ l) r ∙ ap (λ (k : ℕ). k ∷ every (k + 144) (length ps)) e
+    let r : ps ≡ every (p + multiframeOctets) (length ps) = tight s (p + multiframeOctets) ps (omega (arith, e)) (a .4) in
+    ap (λ (l : List ℕ). p ∷ l) r ∙ ap (λ (k : ℕ). k ∷ every (k + multiframeOctets) (length ps)) e
 
 pub no-inverse : (s : List ℕ) → length s ≡ multiframeOctets * length (cutting s .places) → cutting s .places ≡ every 0 (length (cutting s .places))
 no-inverse s size = tight s 0 (cutting s .places) (omega arith) (sound s .stand)
@@ -394,9 +394,9 @@ chunks (multiframe f ∷ cs) p m ok few =
     let l = octetsOf cs in
     let a : getD (f ++ l) 0 0 ≡ syncFirst = List·getD-append f l 0 0 (omega (arith, ok .0)) ∙ ok .1 in
     let b : getD (f ++ l) 1 0 ≡ syncSecond = List·getD-append f l 0 1 (omega (arith, ok .0)) ∙ ok .2 in
-    let n : 144 ≤ length (f ++ l) = rw length-append (omega (arith, ok .0)) in
+    let n : multiframeOctets ≤ length (f ++ l) = rw length-append (omega (arith, ok .0)) in
     let q : pieceOf (f ++ l) m ≡ Multiframe = rw (a, b) (multiframe-met (length (f ++ l)) m n (omega arith)) in
-    walk-step (f ++ l) p m ∙ rw (q, drop-at f l 144 (ok .0)) (ap (prepend p) (chunks cs (p + 144) (m + 1) (ok .3) (omega arith)))
+    walk-step (f ++ l) p m ∙ rw (q, drop-at f l multiframeOctets (ok .0)) (ap (prepend p) (chunks cs (p + multiframeOctets) (m + 1) (ok .3) (omega arith)))
 chunks (inverse ∷ cs) p m ok few =
     let l = octetsOf cs in
     let n : 2 ≤ length (inverseFirst ∷ inverseSecond ∷ l) = omega arith in

@@ -11,7 +11,7 @@ use lib.Bits.{bitXor, xor-lt}
 use lib.Count.{ones, ones-le}
 use lib.ListN.{length, drop, getD, length-take}
 use lib.Pow.{pow-mono}
-use Rattle.layout.specs.Layout.{dataBits, multiframePairs}
+use Rattle.layout.specs.Layout.{dataBits, multiframePairs, multiframeOctets}
 use Rattle.bits.specs.Bits.{bits}
 use Rattle.bits.specs.Laws.{length-bits, value-lt}
 use Rattle.crc.specs.Crc.{Damaged, right}
@@ -59,7 +59,7 @@ headerBits = 32
 word-lt : (s : List ℕ) (k : ℕ) → wordIn s k < 2 ^ headerBits
 word-lt s k =
     let h = headerIn s k in
-    let l : length (bits h) ≤ 32 = omega (arith, length-bits h, length-take 4 (drop (144 * k + 2) s)) in
+    let l : length (bits h) ≤ 32 = omega (arith, length-bits h, length-take 4 (drop (multiframeOctets * k + 2) s)) in
     lt-of-lt-of-le (value-lt (bits h)) (pow-mono l)
 
 pub any-header : (sent got : List ℕ) (k : ℕ) → headerFlips sent got k ≤ headerBits

@@ -10,7 +10,7 @@ use lib.Bits.{bitXor, xor-self}
 use lib.Count.{ones, ones-le}
 use lib.Dec.{lit<}
 use lib.ListN.{length}
-use Rattle.layout.specs.Layout.{streamOctets, multiframeOf}
+use Rattle.layout.specs.Layout.{multiframePairs, streamOctets, multiframeOf}
 use Rattle.carrier.specs.Carrier.{streamPacket}
 use Rattle.crc.specs.Crc.{Damaged}
 use Rattle.packet.specs.Packet.{packetOf}
@@ -49,7 +49,7 @@ module _ (most : ℕ) (u : Utterance) (w : ℕ → ℕ) (x : ℕ → List Bool) 
           → (streamPacket (x (multiframeOf q)) q ≡ packetOf (u .indices) q) ⊎ Damaged (packetOf (u .indices) q) (streamPacket (x (multiframeOf q)) q)
           → (packetIn (made w x m) q ≡ packetIn (imageOf u) q) ⊎ Damaged (packetIn (imageOf u) q) (packetIn (made w x m) q)
       packet q h e =
-          let got = made-packet w x m q h (p .sizes (q / 12) (omega arith)) in
+          let got = made-packet w x m q h (p .sizes (q / multiframePairs) (omega arith)) in
           let sent = image-packet (u .settings) (u .indices) m q h in
           ⊎-elim (λ a. inl (got ∙ a ∙ sym sent)) (λ a. inr (subst (λ (l : List Bool). Damaged l (packetIn (made w x m) q)) (sym sent) (subst (Damaged (packetOf (u .indices) q)) (sym got) a))) e
 

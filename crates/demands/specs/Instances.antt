@@ -14,7 +14,7 @@ use lib.ListN.{length, take, drop, getD, replicate, length-append}
 use lib.Seq.{take-at, drop-append-add}
 use Rattle.gf2.specs.Light.{ones-in}
 use Rattle.lists.specs.Parts.{part}
-use Rattle.layout.specs.Layout.{widths, frameIndices, firstFrame, packetBits, streamOctets}
+use Rattle.layout.specs.Layout.{widths, frameIndices, multiframePairs, firstFrame, packetBits, streamOctets}
 use Rattle.settings.specs.Settings.{settings}
 use Rattle.frames.specs.Frames.{zeroFrame}
 use Rattle.bits.specs.Bits.{field, laid}
@@ -78,9 +78,9 @@ module _ (idx : List ℕ) (p : List Bool) (size : length p ≡ packetBits) where
 
   pub swapped-rest : (q : ℕ) → q < 11 → part (packetBits * suc q) packetBits (firstSwapped idx p) ≡ packetOf idx (suc q)
   swapped-rest q h =
-      let z : 92 * suc q ≡ length p + 92 * q = omega arith in
+      let z : packetBits * suc q ≡ length p + packetBits * q = omega arith in
       let e : 1 + q ≡ suc q = omega arith in
-      ap (λ (n : ℕ). take packetBits (drop n (firstSwapped idx p))) z ∙ ap (take packetBits) (drop-append-add p (stream idx 1 11) (92 * q))
+      ap (λ (n : ℕ). take packetBits (drop n (firstSwapped idx p))) z ∙ ap (take packetBits) (drop-append-add p (stream idx 1 11) (packetBits * q))
       ∙ stream-part idx 1 11 q h ∙ ap (packetOf idx) e
 
 -- of a one-multiframe utterance: two flips in the header, and the first packet damaged
@@ -100,8 +100,8 @@ module _ (u : Utterance) (single : multiframesOf u ≡ 1) (p : List Bool) (d : D
       ⊎ Damaged (packetOf (u .indices) q) (streamPacket (firstSwapped (u .indices) p) q)
   each-packet zero h = inr (subst (Damaged (packetOf (u .indices) 0)) (sym (swapped-first (u .indices) p size)) d)
   each-packet (suc q) h =
-      let e : suc q % 12 ≡ suc q = omega (arith, single) in
-      inl (ap (λ (n : ℕ). part (92 * n) packetBits (firstSwapped (u .indices) p)) e ∙ swapped-rest (u .indices) p size q (omega (arith, single)))
+      let e : suc q % multiframePairs ≡ suc q = omega (arith, single) in
+      inl (ap (λ (n : ℕ). part (packetBits * n) packetBits (firstSwapped (u .indices) p)) e ∙ swapped-rest (u .indices) p size q (omega (arith, single)))
 
   pub hurt : Damage (multiframesOf u) (imageOf u) (made flippedWord swappedStream (multiframesOf u))
   hurt =
@@ -137,8 +137,8 @@ same-packet = ap (λ (p : List Bool). flip (flip p 0) 1) sent1 ∙ sym (ap (λ (
 pub past-packet : (idx other : List ℕ) (q : ℕ) → length idx ≤ frameIndices * firstFrame q → length other ≤ frameIndices * firstFrame q → packetOf idx q ≡ packetOf other q
 unfolding packetOf
 past-packet idx other q h k =
-    ap₂ (packet widths) (row-past idx (7 * (2 * q)) 7 h ∙ sym (row-past other (7 * (2 * q)) 7 k))
-    (row-past idx (7 * (2 * q + 1)) 7 (omega arith) ∙ sym (row-past other (7 * (2 * q + 1)) 7 (omega arith)))
+    ap₂ (packet widths) (row-past idx (frameIndices * (2 * q)) frameIndices h ∙ sym (row-past other (frameIndices * (2 * q)) frameIndices k))
+    (row-past idx (frameIndices * (2 * q + 1)) frameIndices (omega arith) ∙ sym (row-past other (frameIndices * (2 * q + 1)) frameIndices (omega arith)))
 
 past-stream : (idx other : List ℕ) (q n : ℕ) → length idx ≤ frameIndices * firstFrame q → length other ≤ frameIndices * firstFrame q → stream idx q n ≡ stream other q n
 unfolding stream

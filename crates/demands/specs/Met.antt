@@ -16,7 +16,7 @@ use lib.Seq.{take-at, drop-at, drop-append-add}
 use Rattle.gf2.specs.Light.{ones-in}
 use Rattle.lists.specs.Tests.{true-false}
 use Rattle.lists.specs.Parts.{part, over}
-use Rattle.layout.specs.Layout.{frameIndices, packetBits, streamOctets, indexOctets, reportOctets, codebookNumbers, thresholdNumbers, firstPair}
+use Rattle.layout.specs.Layout.{frameIndices, packetBits, multiframePairs, streamOctets, indexOctets, reportOctets, codebookNumbers, thresholdNumbers, firstPair}
 use Rattle.settings.specs.Settings.{settings}
 use Rattle.frames.specs.Frames.{zeroFrame}
 use Rattle.carrier.specs.Carrier.{streamPacket}
@@ -74,7 +74,7 @@ zero-at (suc n) (suc i) = zero-at n i
 
 module _ (f g : List ℕ) where
   not-risen : (c i j e : ℕ) → risen zeroBook zeroThresholds c i j e ≡ false
-  not-risen c i j e = rw (zero-at 14 (2 * c + e), zero-at 1280 (128 * c + 2 * i + e), zero-at 1280 (128 * c + 2 * j + e))
+  not-risen c i j e = rw (zero-at thresholdNumbers (2 * c + e), zero-at 1280 (128 * c + 2 * i + e), zero-at 1280 (128 * c + 2 * j + e))
 
   not-flagged : (c i j : ℕ) → flagged zeroBook zeroThresholds c i j ≡ false
   unfolding flagged
@@ -116,8 +116,8 @@ module _ (u : Utterance) where
   frames-are =
       let z : List ℕ = replicate (indexOctets * m - length (u .indices)) 0 in
       let r = drop (0 + indexOctets * m) (indexFor m) in
-      ap (take (7 * frameCount (u .indices))) (index-is ∙ append-assoc (u .indices) z r)
-      ∙ take-at (u .indices) (z ++ r) (7 * frameCount (u .indices)) (whole-frames u)
+      ap (take (frameIndices * frameCount (u .indices))) (index-is ∙ append-assoc (u .indices) z r)
+      ∙ take-at (u .indices) (z ++ r) (frameIndices * frameCount (u .indices)) (whole-frames u)
 
   pub writes-again-met : A.Premises (imageOf u) zeroBook zeroThresholds (indexFor m) (reportFor m) output (spoken u)
   writes-again-met = record {
@@ -177,25 +177,25 @@ module _ (u : Utterance) where
   part-on k j h =
       let b = burstAt k in
       let d = doubleAt k in
-      let r = stream (u .indices) (12 * k + 2) 10 in
-      let lb : length b ≡ 92 = length-flips (12 * k) 0 2 in
-      let ld : length d ≡ 92 = length-flips (12 * k + 1) 0 distance in
-      let x : 92 * suc (suc j) ≡ length b + (length d + 92 * j) = omega arith in
-      let y : 12 * k + 2 + j ≡ 12 * k + suc (suc j) = omega arith in
-      ap (λ (n : ℕ). take 92 (drop n (hurtStream k))) x ∙ ap (take 92) (drop-append-add b (d ++ r) (length d + 92 * j) ∙ drop-append-add d r (92 * j))
-      ∙ stream-part (u .indices) (12 * k + 2) 10 j h ∙ ap (packetOf (u .indices)) y
+      let r = stream (u .indices) (multiframePairs * k + 2) 10 in
+      let lb : length b ≡ packetBits = length-flips (multiframePairs * k) 0 2 in
+      let ld : length d ≡ packetBits = length-flips (multiframePairs * k + 1) 0 distance in
+      let x : packetBits * suc (suc j) ≡ length b + (length d + packetBits * j) = omega arith in
+      let y : multiframePairs * k + 2 + j ≡ multiframePairs * k + suc (suc j) = omega arith in
+      ap (λ (n : ℕ). take packetBits (drop n (hurtStream k))) x ∙ ap (take packetBits) (drop-append-add b (d ++ r) (length d + packetBits * j) ∙ drop-append-add d r (packetBits * j))
+      ∙ stream-part (u .indices) (multiframePairs * k + 2) 10 j h ∙ ap (packetOf (u .indices)) y
 
-  packet-of : (k r : ℕ) → r < 12
+  packet-of : (k r : ℕ) → r < multiframePairs
       → (part (packetBits * r) packetBits (hurtStream k) ≡ packetOf (u .indices) (firstPair k + r)) ⊎ Damaged (packetOf (u .indices) (firstPair k + r)) (part (packetBits * r) packetBits (hurtStream k))
   packet-of k zero h =
-      let z : 12 * k ≡ 12 * k + 0 = omega arith in
-      let d : Damaged (packetOf (u .indices) (12 * k)) (burstAt k) =
-      inl (flips-burst (packetOf (u .indices) (12 * k)) 0 2 (lit< tt) (lit< tt) (omega (arith, length-packetOf (u .indices) (12 * k)))) in
-      inr (subst (λ (q : ℕ). Damaged (packetOf (u .indices) q) (part 0 packetBits (hurtStream k))) z (subst (Damaged (packetOf (u .indices) (12 * k))) (sym (part-0 k)) d))
+      let z : multiframePairs * k ≡ multiframePairs * k + 0 = omega arith in
+      let d : Damaged (packetOf (u .indices) (multiframePairs * k)) (burstAt k) =
+      inl (flips-burst (packetOf (u .indices) (multiframePairs * k)) 0 2 (lit< tt) (lit< tt) (omega (arith, length-packetOf (u .indices) (multiframePairs * k)))) in
+      inr (subst (λ (q : ℕ). Damaged (packetOf (u .indices) q) (part 0 packetBits (hurtStream k))) z (subst (Damaged (packetOf (u .indices) (multiframePairs * k))) (sym (part-0 k)) d))
   packet-of k (suc zero) h =
-      let d : Damaged (packetOf (u .indices) (12 * k + 1)) (doubleAt k) =
-      inr (flips-double (packetOf (u .indices) (12 * k + 1)) 0 distance (lit< tt) (omega (arith, length-packetOf (u .indices) (12 * k + 1))) (λ e. omega arith)) in
-      inr (subst (Damaged (packetOf (u .indices) (12 * k + 1))) (sym (part-1 k)) d)
+      let d : Damaged (packetOf (u .indices) (multiframePairs * k + 1)) (doubleAt k) =
+      inr (flips-double (packetOf (u .indices) (multiframePairs * k + 1)) 0 distance (lit< tt) (omega (arith, length-packetOf (u .indices) (multiframePairs * k + 1))) (λ e. omega arith)) in
+      inr (subst (Damaged (packetOf (u .indices) (multiframePairs * k + 1))) (sym (part-1 k)) d)
   packet-of k (suc (suc j)) h = inl (part-on k j (omega arith))
 
   two-flips : (k : ℕ) → flipsTo (hurtWord k) (sentMessage u k) ≤ 2
@@ -210,10 +210,10 @@ module _ (u : Utterance) where
         near-words = λ k h. two-flips k;
         sizes = λ k h. length-hurt k;
         each = λ q h.
-            let e : 12 * (q / 12) + q % 12 ≡ q = omega arith in
+            let e : multiframePairs * (q / multiframePairs) + q % multiframePairs ≡ q = omega arith in
             subst
-            (λ (p : ℕ). (streamPacket (hurtStream (q / 12)) q ≡ packetOf (u .indices) p) ⊎ Damaged (packetOf (u .indices) p) (streamPacket (hurtStream (q / 12)) q))
-            e (packet-of (q / 12) (q % 12) (omega arith));
+            (λ (p : ℕ). (streamPacket (hurtStream (q / multiframePairs)) q ≡ packetOf (u .indices) p) ⊎ Damaged (packetOf (u .indices) p) (streamPacket (hurtStream (q / multiframePairs)) q))
+            e (packet-of (q / multiframePairs) (q % multiframePairs) (omega arith));
       }
 
   -- with tables of zeros its third pair is good

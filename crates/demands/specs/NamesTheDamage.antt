@@ -177,15 +177,15 @@ module _ (u : Utterance) (s : List ℕ) (codebook thresholds : List ℤ) (index 
         let all = receivedFrames s (rowOf m) in
         let f = frameAt (u .indices) (firstFrame q) in
         let g = frameAt (u .indices) (secondFrame q) in
-        let lf : length f ≡ 7 = length-row (u .indices) (7 * (2 * q)) 7 in
-        let lg : length g ≡ 7 = length-row (u .indices) (7 * (2 * q + 1)) 7 in
+        let lf : length f ≡ frameIndices = length-row (u .indices) (frameIndices * (2 * q)) frameIndices in
+        let lg : length g ≡ frameIndices = length-row (u .indices) (frameIndices * (2 * q + 1)) frameIndices in
         let pair : part (14 * q) 14 all ≡ f ++ g = frames-at (received s (rowOf m)) (pairCount (rowOf m)) q (omega (arith, rows)) ∙ frames-kept u s d q h (not-hit q h z) in
         let room : 14 * q + 14 ≤ length all = omega (arith, length-all (received s (rowOf m)) (pairCount (rowOf m)), rows) in
-        let a : 7 * (2 * q) ≡ 14 * q + 0 = omega arith in
-        let b : 7 * (2 * q + 1) ≡ 14 * q + 7 = omega arith in (
-          ap (λ (i : ℕ). part i 7 all) a ∙ part-within all (14 * q) 14 0 7 room (omega arith) ∙ ap (part 0 7) pair ∙ take-at f g 7 lf,
-          ap (λ (i : ℕ). part i 7 all) b ∙ part-within all (14 * q) 14 7 7 room (omega arith) ∙ ap (part 7 7) pair ∙ part-right f g 7 7 lf
-              ∙ take-all 7 g (omega arith),
+        let a : frameIndices * (2 * q) ≡ 14 * q + 0 = omega arith in
+        let b : frameIndices * (2 * q + 1) ≡ 14 * q + frameIndices = omega arith in (
+          ap (λ (i : ℕ). part i frameIndices all) a ∙ part-within all (14 * q) 14 0 frameIndices room (omega arith) ∙ ap (part 0 frameIndices) pair ∙ take-at f g frameIndices lf,
+          ap (λ (i : ℕ). part i frameIndices all) b ∙ part-within all (14 * q) 14 frameIndices frameIndices room (omega arith) ∙ ap (part frameIndices frameIndices) pair ∙ part-right f g frameIndices frameIndices lf
+              ∙ take-all frameIndices g (omega arith),
         )
 
     -- and behind it
@@ -196,14 +196,14 @@ module _ (u : Utterance) (s : List ℕ) (codebook thresholds : List ℤ) (index 
         let b = frame-in-pair (k / 2) (omega arith) n in
         good-kept ns good all k (omega (arith, notes-size, length-all (received s (rowOf m)) (pairCount (rowOf m)))) (omega (arith, notes-size, rows)) n
         ∙ elim (ℕ-discrete (2 * (k / 2)) k) [
-          | yes e ↦ subst (λ (j : ℕ). part (7 * j) 7 all ≡ frameAt (u .indices) j) e (b .0)
-          | no x ↦ let e : 2 * (k / 2) + 1 ≡ k = omega arith in subst (λ (j : ℕ). part (7 * j) 7 all ≡ frameAt (u .indices) j) e (b .1)
+          | yes e ↦ subst (λ (j : ℕ). part (frameIndices * j) frameIndices all ≡ frameAt (u .indices) j) e (b .0)
+          | no x ↦ let e : 2 * (k / 2) + 1 ≡ k = omega arith in subst (λ (j : ℕ). part (frameIndices * j) frameIndices all ≡ frameAt (u .indices) j) e (b .1)
         ]
 
     frame-kept : (k : ℕ) → k < multiframeFrames * m → pairNoteIn (result .report) (pairOf k) ≡ 0 → part (frameIndices * k) frameIndices (result .index) ≡ frameAt (u .indices) k
     frame-kept k h z =
-        ap (λ (o : Outcome). part (7 * k) 7 (o .index)) read-is
-        ∙ front-part index (indexPart s (rowOf m) ns) (indexOctets * length (rowOf m)) (7 * k) 7 (omega (arith, length-index s (rowOf m) ns notes-size, rows))
+        ap (λ (o : Outcome). part (frameIndices * k) frameIndices (o .index)) read-is
+        ∙ front-part index (indexPart s (rowOf m) ns) (indexOctets * length (rowOf m)) (frameIndices * k) frameIndices (omega (arith, length-index s (rowOf m) ns notes-size, rows))
         ∙ index-frame k h (sym (pair-note (pairOf k) (omega arith)) ∙ z)
 
     rule : (q : ℕ) → q < pairsOf u → (Touched (imageOf u) s q → ⊥) → (pairNoteIn (result .report) q ≡ 0 → ⊥) ↔ ByRule u s codebook thresholds q

@@ -126,8 +126,8 @@ module _ (u : Utterance) where
 
   hit-part : (q : ℕ) → streamPacket (allHit (multiframeOf q)) q ≡ flip (packetOf (u .indices) q) 0
   hit-part q =
-      let e : 12 * (q / 12) + q % 12 ≡ q = omega arith in
-      joined-part (λ r. flip (packetOf (u .indices) (firstPair (q / 12) + r)) 0) packetBits multiframePairs (q % 12) (λ r h. flip-size (firstPair (q / 12) + r)) (omega arith)
+      let e : multiframePairs * (q / multiframePairs) + q % multiframePairs ≡ q = omega arith in
+      joined-part (λ r. flip (packetOf (u .indices) (firstPair (q / multiframePairs) + r)) 0) packetBits multiframePairs (q % multiframePairs) (λ r h. flip-size (firstPair (q / multiframePairs) + r)) (omega arith)
       ∙ ap (λ (p : ℕ). flip (packetOf (u .indices) p) 0) e
 
   none-wrong : (k : ℕ) → flipsTo (sentWord k) (sentMessage u k) ≡ 0
@@ -147,7 +147,7 @@ module _ (u : Utterance) where
   pub all-bad : (codebook thresholds : List ℤ) (q : ℕ) → q < pairsOf u → BadPair u allHurt codebook thresholds q
   all-bad codebook thresholds q h =
       inl (λ e. differs (packetOf (u .indices) q) (flip (packetOf (u .indices) q) 0) (one-flip q)
-      (sym (made-packet sentWord allHit (multiframesOf u) q h (hit-size (q / 12)) ∙ hit-part q) ∙ e
+      (sym (made-packet sentWord allHit (multiframesOf u) q h (hit-size (q / multiframePairs)) ∙ hit-part q) ∙ e
       ∙ image-packet (u .settings) (u .indices) (multiframesOf u) q h))
 
 -- ---- DISTANCE 15 PASSES: the image of one utterance is that of another with packet bits 0 and 15 flipped, and nothing else. A damage that
@@ -184,7 +184,7 @@ pub record Passes15 : Type 0 where
   pub syncs : (k : ℕ) → k < 1 → syncIn (imageOf saysEighth) k ≡ syncIn (imageOf says1) k
   pub headers : (k : ℕ) → k < 1 → wordIn (imageOf saysEighth) k ≡ wordIn (imageOf says1) k
   pub first : packetIn (imageOf saysEighth) 0 ≡ flip (flip (packetIn (imageOf says1) 0) 0) 15
-  pub others : (q : ℕ) → 0 < q → q < 12 → packetIn (imageOf saysEighth) q ≡ packetIn (imageOf says1) q
+  pub others : (q : ℕ) → 0 < q → q < multiframePairs → packetIn (imageOf saysEighth) q ≡ packetIn (imageOf says1) q
   pub different : packetOf eighth 0 ≡ packetOf (lone 1) 0 → ⊥
 
 pub passes-15 : Passes15
@@ -243,8 +243,8 @@ word-lt = xor-lt 32 (codeword 8) halfway (codeword-lt 8 (lit< tt)) (lit< tt)
 pub record Confuses : Type 0 where
   pub three-of-8 : headerFlips (imageOf says1) confused 0 ≡ 3
   pub three-of-11 : headerFlips (imageOf says1At11) confused 0 ≡ 3
-  pub whole-of-8 : (q : ℕ) → q < 12 → packetIn confused q ≡ packetIn (imageOf says1) q
-  pub whole-of-11 : (q : ℕ) → q < 12 → packetIn confused q ≡ packetIn (imageOf says1At11) q
+  pub whole-of-8 : (q : ℕ) → q < multiframePairs → packetIn confused q ≡ packetIn (imageOf says1) q
+  pub whole-of-11 : (q : ℕ) → q < multiframePairs → packetIn confused q ≡ packetIn (imageOf says1At11) q
   pub syncs-of-8 : syncIn confused 0 ≡ syncIn (imageOf says1) 0
   pub syncs-of-11 : syncIn confused 0 ≡ syncIn (imageOf says1At11) 0
 
@@ -265,11 +265,11 @@ three-confuse = record {
     word : wordIn confused 0 ≡ bitXor (codeword 8) halfway
     word = made-word halfwayWord streams 1 0 (lit< tt) word-lt
 
-    packets : (x : Settings) (q : ℕ) → q < 12 → packetIn confused q ≡ packetIn (image x (lone 1) 1) q
+    packets : (x : Settings) (q : ℕ) → q < multiframePairs → packetIn confused q ≡ packetIn (image x (lone 1) 1) q
     packets x q h =
         sym (ap (λ (s : List ℕ). packetIn s q) (image-made x (lone 1) 1)
-        ∙ made-packet (λ k. codeword (message x (k + 1) 0)) streams 1 q (omega arith) (length-stream (lone 1) (firstPair (q / 12)) multiframePairs)
-        ∙ sym (made-packet halfwayWord streams 1 q (omega arith) (length-stream (lone 1) (firstPair (q / 12)) multiframePairs)))
+        ∙ made-packet (λ k. codeword (message x (k + 1) 0)) streams 1 q (omega arith) (length-stream (lone 1) (firstPair (q / multiframePairs)) multiframePairs)
+        ∙ sym (made-packet halfwayWord streams 1 q (omega arith) (length-stream (lone 1) (firstPair (q / multiframePairs)) multiframePairs)))
 
 -- ---- both refusals, of the utterance 1 at 8 kHz
 mended-1 : headerFlips (imageOf says1) (hurtImage says1) 0 ≡ 2
@@ -330,7 +330,7 @@ module _ (s : List ℕ) (codebook thresholds : List ℤ) (index report output : 
   frames-are =
       let n = speechOf (length places) all in
       ap₂ (λ (k : ℕ) (o : Outcome). take (frameIndices * k) (o .index)) (ap (λ (g : Summary). g .speech) (w .given-is)) (w .result-is)
-      ∙ take-append-le (7 * n) all (drop (0 + indexOctets * length places) index) (omega (arith, read-size, speech-le all (length places) some read-size))
+      ∙ take-append-le (frameIndices * n) all (drop (0 + indexOctets * length places) index) (omega (arith, read-size, speech-le all (length places) some read-size))
 
   octets-are : octets ≡ multiframeOctets * (speechOf (length places) all / multiframeFrames + 1)
   octets-are =

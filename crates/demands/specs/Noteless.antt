@@ -12,7 +12,7 @@ use lib.Seq.{take-at, take-all, ext-getD, getD-take, getD-drop}
 use Rattle.lists.specs.Tests.{when, true-false}
 use Rattle.lists.specs.Parts.{part, length-part, part-right}
 use Rattle.lists.specs.Rows.{joined, same-joined}
-use Rattle.layout.specs.Layout.{widths, frameIndices, dataBits, packetBits, multiframeFrames, multiframePairs, multiframeOctets, firstPair, sync}
+use Rattle.layout.specs.Layout.{widths, frameIndices, dataBits, packetBits, multiframeFrames, multiframePairs, streamOctets, multiframeOctets, firstPair, sync}
 use Rattle.settings.specs.declared.Settings.{Settings}
 use Rattle.frames.specs.Frames.{zeroFrame, all-zero-at}
 use Rattle.bits.specs.Bits.{bits, total}
@@ -67,14 +67,14 @@ module _ (s : List ℕ) (m : ℕ) (size : length s ≡ multiframeOctets * m) (sm
   stream-is : (k : ℕ) → k < m → stream idx (firstPair k) multiframePairs ≡ bits (streamIn s k)
   stream-is k h =
       let l = bits (streamIn s k) in
-      let ls : length (streamIn s k) ≡ 138 = length-part s (144 * k + 2 + 4) 138 (omega arith) in
+      let ls : length (streamIn s k) ≡ streamOctets = length-part s (multiframeOctets * k + 2 + 4) streamOctets (omega arith) in
       let ll : length l ≡ 1104 = length-bits (streamIn s k) ∙ ap (λ (n : ℕ). n * 8) ls in
-      in-a-row idx (12 * k) 12
-      ∙ same-joined (λ p. packetOf idx (12 * k + p)) (λ p. part (92 * p) 92 l) 12 (λ p z.
-      let d : (12 * k + p) / 12 ≡ k = omega arith in
-      let r : (12 * k + p) % 12 ≡ p = omega arith in
-      packets (12 * k + p) (omega arith) ∙ ap₂ (λ (i j : ℕ). part (92 * i) 92 (bits (streamIn s j))) r d)
-      ∙ rows 92 12 l (omega arith) ∙ take-all 1104 l (omega arith)
+      in-a-row idx (multiframePairs * k) multiframePairs
+      ∙ same-joined (λ p. packetOf idx (multiframePairs * k + p)) (λ p. part (packetBits * p) packetBits l) multiframePairs (λ p z.
+      let d : (multiframePairs * k + p) / multiframePairs ≡ k = omega arith in
+      let r : (multiframePairs * k + p) % multiframePairs ≡ p = omega arith in
+      packets (multiframePairs * k + p) (omega arith) ∙ ap₂ (λ (i j : ℕ). part (packetBits * i) packetBits (bits (streamIn s j))) r d)
+      ∙ rows packetBits multiframePairs l (omega arith) ∙ take-all (packetBits * multiframePairs) l (omega arith)
 
   pub is-image : image settings idx m ≡ s
   is-image =
@@ -97,35 +97,35 @@ module _ (all : List ℕ) (m : ℕ) (some : 0 < m) (size : length all ≡ frameI
 
   -- with end 1 the last frame is not among them
   pub speech-lt : endOf m all ≡ 1 → speech < multiframeFrames * m
-  speech-lt e = by (zeroFrame all (24 * m - 1)) refl e
+  speech-lt e = by (zeroFrame all (multiframeFrames * m - 1)) refl e
     where
-      by : (t : Bool) → zeroFrame all (24 * m - 1) ≡ t → when {A = ℕ} t 1 0 ≡ 1 → speech < 24 * m
+      by : (t : Bool) → zeroFrame all (multiframeFrames * m - 1) ≡ t → when {A = ℕ} t 1 0 ≡ 1 → speech < multiframeFrames * m
       by false z e = absurd (omega arith)
-      by true z e = from (decLt last 24)
+      by true z e = from (decLt last multiframeFrames)
         where
-          from : Dec (last < 24) → speech < 24 * m
+          from : Dec (last < multiframeFrames) → speech < multiframeFrames * m
           from (yes h) = omega arith
           from (no d) =
-              let l : last ≡ suc 23 = omega (arith, place-le all (24 * (m - 1)) 24) in
-              let i : 24 * (m - 1) + 23 ≡ 24 * m - 1 = omega arith in
-              absurd (true-false (sym z ∙ ap (zeroFrame all) (sym i) ∙ nonzero-at all (24 * (m - 1)) 24 23 l))
+              let l : last ≡ suc 23 = omega (arith, place-le all (multiframeFrames * (m - 1)) multiframeFrames) in
+              let i : multiframeFrames * (m - 1) + 23 ≡ multiframeFrames * m - 1 = omega arith in
+              absurd (true-false (sym z ∙ ap (zeroFrame all) (sym i) ∙ nonzero-at all (multiframeFrames * (m - 1)) multiframeFrames 23 l))
 
   -- and without it all frames are
   pub speech-full : endOf m all ≡ 0 → speech ≡ multiframeFrames * m
-  speech-full e = by (zeroFrame all (24 * m - 1)) refl e
+  speech-full e = by (zeroFrame all (multiframeFrames * m - 1)) refl e
     where
-      by : (t : Bool) → zeroFrame all (24 * m - 1) ≡ t → when {A = ℕ} t 1 0 ≡ 0 → speech ≡ 24 * m
+      by : (t : Bool) → zeroFrame all (multiframeFrames * m - 1) ≡ t → when {A = ℕ} t 1 0 ≡ 0 → speech ≡ multiframeFrames * m
       by true z e = absurd (omega arith)
       by false z e =
-          let i : 24 * (m - 1) + 23 ≡ 24 * m - 1 = omega arith in
-          let l : last ≡ 24 = place-stop all (24 * (m - 1)) 24 (omega arith) (ap (zeroFrame all) i ∙ z) in
+          let i : multiframeFrames * (m - 1) + 23 ≡ multiframeFrames * m - 1 = omega arith in
+          let l : last ≡ multiframeFrames = place-stop all (multiframeFrames * (m - 1)) multiframeFrames (omega arith) (ap (zeroFrame all) i ∙ z) in
           omega arith
 
   pub speech-le : speech ≤ multiframeFrames * m
-  speech-le = omega (arith, place-le all (24 * (m - 1)) 24)
+  speech-le = omega (arith, place-le all (multiframeFrames * (m - 1)) multiframeFrames)
 
   pub length-spoken : length spoken ≡ frameIndices * speech
-  length-spoken = length-take (7 * speech) all ∙ omega (arith, speech-le)
+  length-spoken = length-take (frameIndices * speech) all ∙ omega (arith, speech-le)
 
   pub count-spoken : frameCount spoken ≡ speech
   count-spoken = omega (arith, length-spoken)
@@ -137,28 +137,28 @@ module _ (all : List ℕ) (m : ℕ) (some : 0 < m) (size : length all ≡ frameI
   spoken-at : (i : ℕ) → i < frameIndices * (multiframeFrames * m) → getD spoken i 0 ≡ getD all i 0
   unfolding zeroFrame
   spoken-at i h =
-      elim (decLt i (7 * speech)) [
-        | yes l ↦ getD-take (7 * speech) all i 0 l
+      elim (decLt i (frameIndices * speech)) [
+        | yes l ↦ getD-take (frameIndices * speech) all i 0 l
         | no d ↦
-            let k = i / 7 in
-            let j : i % 7 < 7 = omega arith in
-            let z : 7 * k + i % 7 ≡ i = omega arith in
-            let e : 24 * (m - 1) + (k - 24 * (m - 1)) ≡ k = omega arith in
+            let k = i / frameIndices in
+            let j : i % frameIndices < frameIndices = omega arith in
+            let z : frameIndices * k + i % frameIndices ≡ i = omega arith in
+            let e : multiframeFrames * (m - 1) + (k - multiframeFrames * (m - 1)) ≡ k = omega arith in
             let zero-there : zeroFrame all k ≡ true =
-            ap (zeroFrame all) (sym e) ∙ zero-behind all (24 * (m - 1)) 24 (k - 24 * (m - 1)) (omega arith) (omega arith) in
+            ap (zeroFrame all) (sym e) ∙ zero-behind all (multiframeFrames * (m - 1)) multiframeFrames (k - multiframeFrames * (m - 1)) (omega arith) (omega arith) in
             List·getD-eq-default spoken 0 (omega (arith, length-spoken))
-            ∙ sym (ap (λ (t : ℕ). getD all t 0) (sym z) ∙ sym (getD-take 7 (drop (7 * k) all) (i % 7) 0 j ∙ getD-drop (7 * k) all (i % 7) 0)
-            ∙ all-zero-at (part (7 * k) 7 all) (i % 7) zero-there)
+            ∙ sym (ap (λ (t : ℕ). getD all t 0) (sym z) ∙ sym (getD-take frameIndices (drop (frameIndices * k) all) (i % frameIndices) 0 j ∙ getD-drop (frameIndices * k) all (i % frameIndices) 0)
+            ∙ all-zero-at (part (frameIndices * k) frameIndices all) (i % frameIndices) zero-there)
       ]
 
   frame-spoken : (k : ℕ) → k < multiframeFrames * m → frameAt spoken k ≡ part (frameIndices * k) frameIndices all
   frame-spoken k h =
-      let f = part (7 * k) 7 all in
-      let lf : length f ≡ 7 = length-part all (7 * k) 7 (omega arith) in
-      let lr : length (frameAt spoken k) ≡ 7 = length-row spoken (7 * k) 7 in
+      let f = part (frameIndices * k) frameIndices all in
+      let lf : length f ≡ frameIndices = length-part all (frameIndices * k) frameIndices (omega arith) in
+      let lr : length (frameAt spoken k) ≡ frameIndices = length-row spoken (frameIndices * k) frameIndices in
       ext-getD 0 (frameAt spoken k) f (lr ∙ sym lf) (λ j l.
-      let b : j < 7 = omega arith in
-      getD-row spoken (7 * k) 7 j b ∙ spoken-at (7 * k + j) (omega arith) ∙ sym (getD-take 7 (drop (7 * k) all) j 0 b ∙ getD-drop (7 * k) all j 0))
+      let b : j < frameIndices = omega arith in
+      getD-row spoken (frameIndices * k) frameIndices j b ∙ spoken-at (frameIndices * k + j) (omega arith) ∙ sym (getD-take frameIndices (drop (frameIndices * k) all) j 0 b ∙ getD-drop (frameIndices * k) all j 0))
 
   -- a right packet is the packet of its frames
   pub packet-spoken : (q : ℕ) (p : List Bool) → q < multiframePairs * m → length p ≡ packetBits → Right dataBits p
@@ -167,14 +167,14 @@ module _ (all : List ℕ) (m : ℕ) (some : 0 < m) (size : length all ≡ frameI
   packet-spoken q p h l r e =
       let f = indices widths p in
       let g = indices widths (drop (total widths) p) in
-      let lf : length f ≡ 7 = length-numbers widths p in
-      let lg : length g ≡ 7 = length-numbers widths (drop (total widths) p) in
+      let lf : length f ≡ frameIndices = length-numbers widths p in
+      let lg : length g ≡ frameIndices = length-numbers widths (drop (total widths) p) in
       let room : 14 * q + 14 ≤ length all = omega arith in
-      let a : 7 * (2 * q) ≡ 14 * q + 0 = omega arith in
-      let b : 7 * (2 * q + 1) ≡ 14 * q + 7 = omega arith in
+      let a : frameIndices * (2 * q) ≡ 14 * q + 0 = omega arith in
+      let b : frameIndices * (2 * q + 1) ≡ 14 * q + frameIndices = omega arith in
       let first : frameAt spoken (2 * q) ≡ f =
-      frame-spoken (2 * q) (omega arith) ∙ ap (λ (i : ℕ). part i 7 all) a ∙ part-within all (14 * q) 14 0 7 room (omega arith) ∙ ap (part 0 7) e ∙ take-at f g 7 lf in
+      frame-spoken (2 * q) (omega arith) ∙ ap (λ (i : ℕ). part i frameIndices all) a ∙ part-within all (14 * q) 14 0 frameIndices room (omega arith) ∙ ap (part 0 frameIndices) e ∙ take-at f g frameIndices lf in
       let second : frameAt spoken (2 * q + 1) ≡ g =
-      frame-spoken (2 * q + 1) (omega arith) ∙ ap (λ (i : ℕ). part i 7 all) b ∙ part-within all (14 * q) 14 7 7 room (omega arith) ∙ ap (part 7 7) e
-      ∙ part-right f g 7 7 lf ∙ take-all 7 g (omega arith) in
+      frame-spoken (2 * q + 1) (omega arith) ∙ ap (λ (i : ℕ). part i frameIndices all) b ∙ part-within all (14 * q) 14 frameIndices frameIndices room (omega arith) ∙ ap (part frameIndices frameIndices) e
+      ∙ part-right f g frameIndices frameIndices lf ∙ take-all frameIndices g (omega arith) in
       ap₂ (packet widths) first (second ∙ ap (λ (n : ℕ). indices widths (drop n p)) total-widths) ∙ packet-92 p l .1 r

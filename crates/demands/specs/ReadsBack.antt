@@ -91,49 +91,49 @@ module _ (u : Utterance) where
 
   pub length-padded : length (padded u) ≡ indexOctets * m
   length-padded =
-      length-append (u .indices) (replicate (168 * m - length (u .indices)) 0) ∙ ap (λ (k : ℕ). length (u .indices) + k) (length-replicate (168 * m - length (u .indices)) 0)
+      length-append (u .indices) (replicate (indexOctets * m - length (u .indices)) 0) ∙ ap (λ (k : ℕ). length (u .indices) + k) (length-replicate (indexOctets * m - length (u .indices)) 0)
       ∙ omega (arith, whole-frames u)
 
   pub padded-at : (i : ℕ) → getD (padded u) i 0 ≡ getD (u .indices) i 0
   padded-at i =
       elim (decLt i (length (u .indices))) [
-        | yes h ↦ List·getD-append (u .indices) (replicate (168 * m - length (u .indices)) 0) 0 i h
+        | yes h ↦ List·getD-append (u .indices) (replicate (indexOctets * m - length (u .indices)) 0) 0 i h
         | no d ↦
             let e : i ≡ length (u .indices) + (i - length (u .indices)) = omega arith in
             ap (λ (j : ℕ). getD (padded u) j 0) e
-            ∙ getD-append-add (u .indices) (replicate (168 * m - length (u .indices)) 0) (i - length (u .indices)) 0
-            ∙ no-more (168 * m - length (u .indices)) (i - length (u .indices)) ∙ sym (List·getD-eq-default (u .indices) 0 (omega arith))
+            ∙ getD-append-add (u .indices) (replicate (indexOctets * m - length (u .indices)) 0) (i - length (u .indices)) 0
+            ∙ no-more (indexOctets * m - length (u .indices)) (i - length (u .indices)) ∙ sym (List·getD-eq-default (u .indices) 0 (omega arith))
       ]
 
   -- ---- speech and end
   frame-octet : (k j : ℕ) → k < multiframeFrames * m → j < frameIndices → getD (part (frameIndices * k) frameIndices (padded u)) j 0 ≡ getD (u .indices) (frameIndices * k + j) 0
-  frame-octet k j h l = getD-take 7 (drop (7 * k) (padded u)) j 0 l ∙ getD-drop (7 * k) (padded u) j 0 ∙ padded-at (7 * k + j)
+  frame-octet k j h l = getD-take frameIndices (drop (frameIndices * k) (padded u)) j 0 l ∙ getD-drop (frameIndices * k) (padded u) j 0 ∙ padded-at (frameIndices * k + j)
 
   pub padded-frame : (k : ℕ) → k < multiframeFrames * multiframesOf u → part (frameIndices * k) frameIndices (padded u) ≡ frameAt (u .indices) k
   padded-frame k h =
-      let f = part (7 * k) 7 (padded u) in
-      let lf : length f ≡ 7 = length-part (padded u) (7 * k) 7 (omega (arith, length-padded)) in
-      let lr : length (frameAt (u .indices) k) ≡ 7 = length-row (u .indices) (7 * k) 7 in
-      ext-getD 0 f (frameAt (u .indices) k) (lf ∙ sym lr) (λ j l. let b : j < 7 = omega arith in frame-octet k j h b ∙ sym (getD-row (u .indices) (7 * k) 7 j b))
+      let f = part (frameIndices * k) frameIndices (padded u) in
+      let lf : length f ≡ frameIndices = length-part (padded u) (frameIndices * k) frameIndices (omega (arith, length-padded)) in
+      let lr : length (frameAt (u .indices) k) ≡ frameIndices = length-row (u .indices) (frameIndices * k) frameIndices in
+      ext-getD 0 f (frameAt (u .indices) k) (lf ∙ sym lr) (λ j l. let b : j < frameIndices = omega arith in frame-octet k j h b ∙ sym (getD-row (u .indices) (frameIndices * k) frameIndices j b))
 
   -- past the last frame stand zero frames
   zero-past : (k : ℕ) → n ≤ k → k < multiframeFrames * m → zeroFrame (padded u) k ≡ true
   unfolding zeroFrame
   zero-past k h l =
-      let f = part (7 * k) 7 (padded u) in
-      let lf : length f ≡ 7 = length-part (padded u) (7 * k) 7 (omega (arith, length-padded)) in
+      let f = part (frameIndices * k) frameIndices (padded u) in
+      let lf : length f ≡ frameIndices = length-part (padded u) (frameIndices * k) frameIndices (omega (arith, length-padded)) in
       ap allZero (zeros f (λ i j. frame-octet k i l (omega arith) ∙ List·getD-eq-default (u .indices) 0 (omega (arith, whole-frames u))) ∙ ap (λ (w : ℕ). replicate w 0) lf)
 
   -- the last frame is none
   last-is-not : (k : ℕ) → k + 1 ≡ n → zeroFrame (padded u) k ≡ false
   unfolding zeroFrame
-  last-is-not k e = by (allZero (part (7 * k) 7 (padded u))) refl
+  last-is-not k e = by (allZero (part (frameIndices * k) frameIndices (padded u))) refl
     where
       x : Nonzero (u .indices) k
       x = last-speaks (u .settings) (u .indices) (needed (u .indices)) (needed (u .indices)) (is-accepted u) k e
 
-      by : (t : Bool) → allZero (part (7 * k) 7 (padded u)) ≡ t → allZero (part (7 * k) 7 (padded u)) ≡ false
-      by true z = absurd (x .nonzero (sym (frame-octet k (x .place) (omega arith) (x .within)) ∙ all-zero-at (part (7 * k) 7 (padded u)) (x .place) z))
+      by : (t : Bool) → allZero (part (frameIndices * k) frameIndices (padded u)) ≡ t → allZero (part (frameIndices * k) frameIndices (padded u)) ≡ false
+      by true z = absurd (x .nonzero (sym (frame-octet k (x .place) (omega arith) (x .within)) ∙ all-zero-at (part (frameIndices * k) frameIndices (padded u)) (x .place) z))
       by false z = z
 
   -- speech is n
@@ -141,29 +141,29 @@ module _ (u : Utterance) where
   speech-is-n = by (lastNonzero (padded u) (multiframeFrames * (m - 1)) multiframeFrames) refl
     where
       by : (x : ℕ) → lastNonzero (padded u) (multiframeFrames * (m - 1)) multiframeFrames ≡ x → multiframeFrames * (m - 1) + x ≡ n
-      by x e = from (decLt n (24 * (m - 1) + x)) (decLt (24 * (m - 1) + x) n)
+      by x e = from (decLt n (multiframeFrames * (m - 1) + x)) (decLt (multiframeFrames * (m - 1) + x) n)
         where
-          above : (x : ℕ) → lastNonzero (padded u) (multiframeFrames * (m - 1)) multiframeFrames ≡ x → n < 24 * (m - 1) + x → ⊥
+          above : (x : ℕ) → lastNonzero (padded u) (multiframeFrames * (m - 1)) multiframeFrames ≡ x → n < multiframeFrames * (m - 1) + x → ⊥
           above zero e h = omega arith
           above (suc k) e h =
-              let l = place-le (padded u) (24 * (m - 1)) 24 in
-              true-false (sym (zero-past (24 * (m - 1) + k) (omega arith) (omega arith)) ∙ nonzero-at (padded u) (24 * (m - 1)) 24 k e)
+              let l = place-le (padded u) (multiframeFrames * (m - 1)) multiframeFrames in
+              true-false (sym (zero-past (multiframeFrames * (m - 1) + k) (omega arith) (omega arith)) ∙ nonzero-at (padded u) (multiframeFrames * (m - 1)) multiframeFrames k e)
 
-          below : 24 * (m - 1) + x < n → ⊥
+          below : multiframeFrames * (m - 1) + x < n → ⊥
           below h =
-              let k = n - 1 - 24 * (m - 1) in
-              let z : 24 * (m - 1) + k ≡ n - 1 = omega arith in
+              let k = n - 1 - multiframeFrames * (m - 1) in
+              let z : multiframeFrames * (m - 1) + k ≡ n - 1 = omega arith in
               true-false
-              (sym (zero-behind (padded u) (24 * (m - 1)) 24 k (omega arith) (omega arith)) ∙ ap (zeroFrame (padded u)) z ∙ last-is-not (n - 1) (omega arith))
+              (sym (zero-behind (padded u) (multiframeFrames * (m - 1)) multiframeFrames k (omega arith) (omega arith)) ∙ ap (zeroFrame (padded u)) z ∙ last-is-not (n - 1) (omega arith))
 
-          from : Dec (n < 24 * (m - 1) + x) → Dec (24 * (m - 1) + x < n) → 24 * (m - 1) + x ≡ n
+          from : Dec (n < multiframeFrames * (m - 1) + x) → Dec (multiframeFrames * (m - 1) + x < n) → multiframeFrames * (m - 1) + x ≡ n
           from (yes h) b = absurd (above x e h)
           from (no a) (yes h) = absurd (below h)
           from (no a) (no b) = omega arith
 
   -- end is 1
   pub end-is-1 : endOf m (padded u) ≡ 1
-  end-is-1 = rw (zero-past (24 * m - 1) (omega arith) (omega arith))
+  end-is-1 = rw (zero-past (multiframeFrames * m - 1) (omega arith) (omega arith))
 
 -- ---- the image as the reader takes it, with no pair damaged: so none is bad, whatever the tables
 module _ (u : Utterance) (s : List ℕ) (d : DamageUpTo 3 (multiframesOf u) (imageOf u) s) (untouched : (q : ℕ) → q < pairsOf u → packetIn s q ≡ packetIn (imageOf u) q)
@@ -208,10 +208,10 @@ module _ (u : Utterance) (s : List ℕ) (d : DamageUpTo 3 (multiframesOf u) (ima
   note-row : (k : ℕ) → k < length places
       → headerNote (sentCommon u) k (getD (readings s places) k Lost) ∷ part (firstPair k) multiframePairs ns ≡ headerFlips (imageOf u) s k ∷ replicate multiframePairs 0
   note-row k h =
-      let p = part (12 * k) 12 ns in
-      let l : length p ≡ 12 = length-part ns (12 * k) 12 (omega (arith, notes-size)) in
+      let p = part (multiframePairs * k) multiframePairs ns in
+      let l : length p ≡ multiframePairs = length-part ns (multiframePairs * k) multiframePairs (omega (arith, notes-size)) in
       ap₂ (λ (x : ℕ) (y : List ℕ). x ∷ y) (note-of-header u s (d .headers) k (omega (arith, rows)))
-      (zeros p (λ i j. getD-take 12 (drop (12 * k) ns) i 0 (omega (arith, l)) ∙ getD-drop (12 * k) ns i 0 ∙ pair-notes (12 * k + i) (omega (arith, l, notes-size)))
+      (zeros p (λ i j. getD-take multiframePairs (drop (multiframePairs * k) ns) i 0 (omega (arith, l)) ∙ getD-drop (multiframePairs * k) ns i 0 ∙ pair-notes (multiframePairs * k + i) (omega (arith, l, notes-size)))
       ∙ ap (λ (w : ℕ). replicate w 0) l)
 
   report-is : reportPart s places ns (sentCommon u) ≡ mendedReport u s
@@ -231,19 +231,19 @@ module _ (u : Utterance) (s : List ℕ) (d : DamageUpTo 3 (multiframesOf u) (ima
       let all = receivedFrames s places in
       let b = N.frame-in-pair u s codebook thresholds index report premises (k / 2) (omega arith) (pair-notes (k / 2) (omega (arith, notes-size, rows))) in
       elim (ℕ-discrete (2 * (k / 2)) k) [
-        | yes e ↦ subst (λ (j : ℕ). part (7 * j) 7 all ≡ frameAt (u .indices) j) e (b .0)
-        | no x ↦ let e : 2 * (k / 2) + 1 ≡ k = omega arith in subst (λ (j : ℕ). part (7 * j) 7 all ≡ frameAt (u .indices) j) e (b .1)
+        | yes e ↦ subst (λ (j : ℕ). part (frameIndices * j) frameIndices all ≡ frameAt (u .indices) j) e (b .0)
+        | no x ↦ let e : 2 * (k / 2) + 1 ≡ k = omega arith in subst (λ (j : ℕ). part (frameIndices * j) frameIndices all ≡ frameAt (u .indices) j) e (b .1)
       ]
 
   index-is : indexPart s places ns ≡ padded u
   index-is =
       let all = receivedFrames s places in
-      let la : length all ≡ 168 * multiframesOf u = length-all (received s places) (pairCount places) ∙ omega (arith, rows) in
+      let la : length all ≡ indexOctets * multiframesOf u = length-all (received s places) (pairCount places) ∙ omega (arith, rows) in
       kept ∙ ext-getD 0 all (padded u) (la ∙ sym (length-padded u)) (λ i h.
-      let j : i % 7 < 7 = omega arith in
-      let z : 7 * (i / 7) + i % 7 ≡ i = omega arith in
-      ap (λ (t : ℕ). getD all t 0) (sym z) ∙ sym (getD-take 7 (drop (7 * (i / 7)) all) (i % 7) 0 j ∙ getD-drop (7 * (i / 7)) all (i % 7) 0)
-      ∙ ap (λ (f : List ℕ). getD f (i % 7) 0) (frame-is (i / 7) (omega (arith, la))) ∙ getD-row (u .indices) (7 * (i / 7)) 7 (i % 7) j
+      let j : i % frameIndices < frameIndices = omega arith in
+      let z : frameIndices * (i / frameIndices) + i % frameIndices ≡ i = omega arith in
+      ap (λ (t : ℕ). getD all t 0) (sym z) ∙ sym (getD-take frameIndices (drop (frameIndices * (i / frameIndices)) all) (i % frameIndices) 0 j ∙ getD-drop (frameIndices * (i / frameIndices)) all (i % frameIndices) 0)
+      ∙ ap (λ (f : List ℕ). getD f (i % frameIndices) 0) (frame-is (i / frameIndices) (omega (arith, la))) ∙ getD-row (u .indices) (frameIndices * (i / frameIndices)) frameIndices (i % frameIndices) j
       ∙ ap (λ (t : ℕ). getD (u .indices) t 0) z ∙ sym (padded-at u i))
 
   make : Settings → ℕ → ℕ → ℕ → ℕ → Summary

@@ -34,8 +34,8 @@ use Rattle.demands.specs.Whole.{rowOf, packet-at}
 -- ---- 01's bad pairs, of a damaged image: said of the utterance and the damage alone
 module _ (u : Utterance) (s : List ℕ) (codebook thresholds : List ℤ) where
   -- pair q as it was written is inconsistent
-  abbrev pub Odd : ℕ → Type 0
-  Odd q = inconsistent codebook thresholds (frameAt (u .indices) (firstFrame q)) (frameAt (u .indices) (secondFrame q)) ≡ true
+  abbrev pub Inconsistent : ℕ → Type 0
+  Inconsistent q = inconsistent codebook thresholds (frameAt (u .indices) (firstFrame q)) (frameAt (u .indices) (secondFrame q)) ≡ true
 
   -- the next pair is damaged; the last has none after it
   abbrev pub NextTouched : ℕ → Type 0
@@ -43,7 +43,7 @@ module _ (u : Utterance) (s : List ℕ) (codebook thresholds : List ℤ) where
 
   -- 01's consistency rule: "An inconsistent pair is bad too if either the next pair's CRC fails or the pair before it is bad"
   abbrev pub RuledBad : ℕ → Type 0 → Type 0
-  RuledBad q before = Odd q × (NextTouched q ⊎ before)
+  RuledBad q before = Inconsistent q × (NextTouched q ⊎ before)
 
   -- the pair before pair q is bad: it is damaged, or the rule makes it bad; the first has none before it
   unfoldable pub BadBefore : ℕ → Type 0
@@ -162,23 +162,23 @@ module _ {most : ℕ} (u : Utterance) (s : List ℕ) (d : DamageUpTo most (multi
         by (hit t r) = absurd (n t)
 
     module _ (codebook thresholds : List ℤ) where
-      odd-kept : (Touched (imageOf u) s q → ⊥) → pairInconsistent (received s (rowOf m)) codebook thresholds q
+      inconsistent-kept : (Touched (imageOf u) s q → ⊥) → pairInconsistent (received s (rowOf m)) codebook thresholds q
           ≡ inconsistent codebook thresholds (frameAt (u .indices) (firstFrame q)) (frameAt (u .indices) (secondFrame q))
       unfolding pairInconsistent
-      odd-kept n =
+      inconsistent-kept n =
           let f = frameAt (u .indices) (firstFrame q) in
           let g = frameAt (u .indices) (secondFrame q) in
           let lf : length f ≡ frameIndices = length-row (u .indices) (frameIndices * firstFrame q) frameIndices in
           ap (λ (l : List ℕ). inconsistent codebook thresholds (take frameIndices l) (drop frameIndices l)) (frames-kept n)
           ∙ ap₂ (inconsistent codebook thresholds) (take-at f g frameIndices lf) (drop-at f g frameIndices lf)
 
-      tells-odd : (Touched (imageOf u) s q → ⊥) → Tells (Odd u s codebook thresholds q) (pairInconsistent (received s (rowOf m)) codebook thresholds q)
-      tells-odd n = by (inconsistent codebook thresholds (frameAt (u .indices) (firstFrame q)) (frameAt (u .indices) (secondFrame q))) refl
+      tells-inconsistent : (Touched (imageOf u) s q → ⊥) → Tells (Inconsistent u s codebook thresholds q) (pairInconsistent (received s (rowOf m)) codebook thresholds q)
+      tells-inconsistent n = by (inconsistent codebook thresholds (frameAt (u .indices) (firstFrame q)) (frameAt (u .indices) (secondFrame q))) refl
         where
           by : (t : Bool) → inconsistent codebook thresholds (frameAt (u .indices) (firstFrame q)) (frameAt (u .indices) (secondFrame q)) ≡ t
-              → Tells (Odd u s codebook thresholds q) (pairInconsistent (received s (rowOf m)) codebook thresholds q)
-          by true e = is-so e (odd-kept n ∙ e)
-          by false e = not-so (λ y. true-false (sym y ∙ e)) (odd-kept n ∙ e)
+              → Tells (Inconsistent u s codebook thresholds q) (pairInconsistent (received s (rowOf m)) codebook thresholds q)
+          by true e = is-so e (inconsistent-kept n ∙ e)
+          by false e = not-so (λ y. true-false (sym y ∙ e)) (inconsistent-kept n ∙ e)
 
   module _ (codebook thresholds : List ℤ) where
     abbrev fs : List Bool
@@ -236,8 +236,8 @@ module _ {most : ℕ} (u : Utterance) (s : List ℕ) (d : DamageUpTo most (multi
         by (not-so x e) =
             subst (λ (i : ℕ). Tells (ByRule u s codebook thresholds q) (bad i))
             (sym (note-is q h ∙ ap (λ (f : Bool). noteBy (badBefore false ns q) f (pairInconsistent (received s (rowOf m)) codebook thresholds q) (getD fs (suc q) false)) e))
-            (ruled (badBefore false ns q) (pairInconsistent (received s (rowOf m)) codebook thresholds q) (getD fs (suc q) false) (BadBefore u s codebook thresholds q) (Odd u s codebook thresholds q)
-            (NextTouched u s codebook thresholds q) b (tells-odd q h codebook thresholds n) (tells-next q))
+            (ruled (badBefore false ns q) (pairInconsistent (received s (rowOf m)) codebook thresholds q) (getD fs (suc q) false) (BadBefore u s codebook thresholds q) (Inconsistent u s codebook thresholds q)
+            (NextTouched u s codebook thresholds q) b (tells-inconsistent q h codebook thresholds n) (tells-next q))
 
     -- so the notes tell which pairs are bad
     tells-before : (q : ℕ) → q ≤ pairsOf u → Tells (BadBefore u s codebook thresholds q) (badBefore false ns q)

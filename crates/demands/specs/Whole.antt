@@ -13,7 +13,7 @@ use lib.ListN.{length, drop, getD, List·getD-append}
 use lib.Seq.{ext-getD, getD-take, getD-drop}
 use Rattle.lists.specs.Parts.{part, over, part-left}
 use Rattle.lists.specs.Rows.{each, same-each}
-use Rattle.layout.specs.Layout.{multiframePairs, multiframeOctets, mostMultiframes, indexOctets, reportOctets, codebookNumbers, thresholdNumbers, pairOf, multiframeOf, firstPair, sync}
+use Rattle.layout.specs.Layout.{frameIndices, multiframePairs, multiframeOctets, mostMultiframes, indexOctets, reportOctets, codebookNumbers, thresholdNumbers, pairOf, multiframeOf, firstPair, sync}
 use Rattle.bits.specs.Bits.{bits}
 use Rattle.cutting.specs.Cutting.{Cutting, whole, cutting}
 use Rattle.cutting.specs.Laws.{every, every-length, every-at, whole-image}
@@ -53,7 +53,7 @@ module _ (s : List ℕ) (m : ℕ) (k : ℕ) (h : k < m) where
   stream-at = ap (streamFrom s) place-at
 
 pub packet-at : (s : List ℕ) (m q : ℕ) → q < multiframePairs * m → received s (rowOf m) q ≡ packetIn s q
-packet-at s m q h = ap (λ (l : List ℕ). streamPacket (bits l) q) (stream-at s m (q / 12) (omega arith))
+packet-at s m q h = ap (λ (l : List ℕ). streamPacket (bits l) q) (stream-at s m (q / multiframePairs) (omega arith))
 
 pub readings-are : (s : List ℕ) (m : ℕ) → readings s (rowOf m) ≡ each (λ k. H.reading (wordIn s k)) m
 unfolding readings
@@ -65,13 +65,13 @@ module _ (s : List ℕ) (m : ℕ) (few : m ≤ mostMultiframes) (size : length s
     (syncs : (k : ℕ) → k < m → syncIn s k ≡ sync) where
   in-sync : (k i : ℕ) → k < m → i < 2 → getD s (multiframeOctets * k + i) 0 ≡ getD sync i 0
   in-sync k i h l =
-      sym (getD-take 2 (drop (144 * k) s) i 0 l ∙ getD-drop (144 * k) s i 0) ∙ ap (λ (x : List ℕ). getD x i 0) (syncs k h)
+      sym (getD-take 2 (drop (multiframeOctets * k) s) i 0 l ∙ getD-drop (multiframeOctets * k) s i 0) ∙ ap (λ (x : List ℕ). getD x i 0) (syncs k h)
 
   -- it is cut there
   pub cut-is : cutting s ≡ record { places = rowOf m; ending = whole }
   cut-is =
       whole-image s m few size (λ k h.
-      let z : 144 * k ≡ 144 * k + 0 = omega arith in
+      let z : multiframeOctets * k ≡ multiframeOctets * k + 0 = omega arith in
       (ap (λ (i : ℕ). getD s i 0) z ∙ in-sync k 0 h (omega arith), in-sync k 1 h (omega arith)))
 
   -- and read
@@ -116,31 +116,31 @@ module _ (s places ns report : List ℕ) (c w : ℕ) (notes-size : length ns ≡
       → getD (over report 0 w (reportPart s places ns c)) (reportOctets * k + j) 0 ≡ getD (headerNote c k (getD (readings s places) k Lost) ∷ part (firstPair k) multiframePairs ns) j 0
   report-octet k j h l =
       let r = reportPart s places ns c in
-      front-at report r w (13 * k + j) (omega (arith, length-report s places ns c notes-size))
-      ∙ sym (getD-take 13 (drop (13 * k) r) j 0 l ∙ getD-drop (13 * k) r j 0) ∙ ap (λ (x : List ℕ). getD x j 0) (report-at s places ns c k notes-size h)
+      front-at report r w (reportOctets * k + j) (omega (arith, length-report s places ns c notes-size))
+      ∙ sym (getD-take reportOctets (drop (reportOctets * k) r) j 0 l ∙ getD-drop (reportOctets * k) r j 0) ∙ ap (λ (x : List ℕ). getD x j 0) (report-at s places ns c k notes-size h)
 
   pub header-note-is : (k : ℕ) → k < length places → headerNoteIn (over report 0 w (reportPart s places ns c)) k ≡ headerNote c k (getD (readings s places) k Lost)
   header-note-is k h =
-      let z : 13 * k ≡ 13 * k + 0 = omega arith in
+      let z : reportOctets * k ≡ reportOctets * k + 0 = omega arith in
       ap (λ (i : ℕ). getD (over report 0 w (reportPart s places ns c)) i 0) z ∙ report-octet k 0 h (omega arith)
 
   pub pair-note-is : (q : ℕ) → q < pairCount places → pairNoteIn (over report 0 w (reportPart s places ns c)) q ≡ getD ns q 0
   pair-note-is q h =
-      let k = q / 12 in
-      let j = q % 12 in
-      let z : 13 * k + 1 + j ≡ 13 * k + suc j = omega arith in
-      let e : 12 * k + j ≡ q = omega arith in
+      let k = q / multiframePairs in
+      let j = q % multiframePairs in
+      let z : reportOctets * k + 1 + j ≡ reportOctets * k + suc j = omega arith in
+      let e : multiframePairs * k + j ≡ q = omega arith in
       ap (λ (i : ℕ). getD (over report 0 w (reportPart s places ns c)) i 0) z ∙ report-octet k (suc j) (omega arith) (omega arith)
-      ∙ getD-take 12 (drop (12 * k) ns) j 0 (omega arith) ∙ getD-drop (12 * k) ns j 0 ∙ ap (λ (i : ℕ). getD ns i 0) e
+      ∙ getD-take multiframePairs (drop (multiframePairs * k) ns) j 0 (omega arith) ∙ getD-drop (multiframePairs * k) ns j 0 ∙ ap (λ (i : ℕ). getD ns i 0) e
 
 -- ---- no bad pair: nothing is replaced
 pub nothing-replaced : (ns l : List ℕ) → ((q : ℕ) → q < length ns → getD ns q 0 ≡ 0) → length l ≡ pairsOctets (length ns) → replaced ns l ≡ l
 nothing-replaced ns l good size =
     let lr = replaced-length ns l in
     ext-getD 0 (replaced ns l) l (lr ∙ sym size) (λ t h.
-    let e : source ns (t / 7) ≡ t / 7 = good-stays ns (t / 7) (good (pairOf (t / 7)) (omega (arith, lr))) in
-    let z : 7 * (t / 7) + t % 7 ≡ t = omega arith in
-    replaced-at ns l t (omega (arith, lr)) ∙ ap (λ (k : ℕ). getD l (7 * k + t % 7) 0) e ∙ ap (λ (k : ℕ). getD l k 0) z)
+    let e : source ns (t / frameIndices) ≡ t / frameIndices = good-stays ns (t / frameIndices) (good (pairOf (t / frameIndices)) (omega (arith, lr))) in
+    let z : frameIndices * (t / frameIndices) + t % frameIndices ≡ t = omega arith in
+    replaced-at ns l t (omega (arith, lr)) ∙ ap (λ (k : ℕ). getD l (frameIndices * k + t % frameIndices) 0) e ∙ ap (λ (k : ℕ). getD l k 0) z)
 
 -- ---- refusals that damage can bring: 16 and 20
 module _ (s : List ℕ) (m : ℕ) (few : m ≤ mostMultiframes) (size : length s ≡ multiframeOctets * m) (syncs : (k : ℕ) → k < m → syncIn s k ≡ sync)

@@ -12,7 +12,7 @@ use lib.Seq.{ext-getD, getD-take, getD-drop, take-append-le}
 use Rattle.lists.specs.Tests.{not-false}
 use Rattle.lists.specs.Parts.{over, length-part}
 use Rattle.lists.specs.Rows.{each, length-each, each-at}
-use Rattle.layout.specs.Layout.{widths, frameIndices, dataBits, packetBits, multiframeFrames, multiframePairs, multiframeOctets, indexOctets, reportOctets, sync, syncFirst, syncSecond}
+use Rattle.layout.specs.Layout.{widths, frameIndices, dataBits, packetBits, multiframeFrames, multiframePairs, streamOctets, multiframeOctets, indexOctets, reportOctets, sync, syncFirst, syncSecond}
 use Rattle.bits.specs.Bits.{bits}
 use Rattle.bits.specs.Laws.{length-bits}
 use Rattle.crc.specs.Crc.{Right, right}
@@ -145,18 +145,18 @@ module _ (s : List ℕ) (codebook thresholds : List ℤ) (index report output : 
     -- its syncs
     syncs : (k : ℕ) → k < m → syncIn s k ≡ sync
     syncs k h =
-        let l : length (syncIn s k) ≡ 2 = length-part s (144 * k) 2 (omega (arith, size)) in
+        let l : length (syncIn s k) ≡ 2 = length-part s (multiframeOctets * k) 2 (omega (arith, size)) in
         ext-getD 0 (syncIn s k) sync l (λ i j. at i (omega (arith, l)))
       where
         x : (0 + multiframeOctets * k ≤ getD places k 0) × (getD places k 0 + multiframeOctets ≤ length s) × (getD s (getD places k 0) 0 ≡ syncFirst) × (getD s (getD places k 0 + 1) 0 ≡ syncSecond)
         x = place-stands s 0 places (sound s .stand) k h
 
         octet : (i : ℕ) → i < 2 → getD (syncIn s k) i 0 ≡ getD s (multiframeOctets * k + i) 0
-        octet i b = getD-take 2 (drop (144 * k) s) i 0 b ∙ getD-drop (144 * k) s i 0
+        octet i b = getD-take 2 (drop (multiframeOctets * k) s) i 0 b ∙ getD-drop (multiframeOctets * k) s i 0
 
         at : (i : ℕ) → i < 2 → getD (syncIn s k) i 0 ≡ getD sync i 0
         at zero b =
-            let z : 144 * k + 0 ≡ 144 * k = omega arith in
+            let z : multiframeOctets * k + 0 ≡ multiframeOctets * k = omega arith in
             octet 0 b ∙ ap (λ (j : ℕ). getD s j 0) (z ∙ sym (place k h)) ∙ x .2
         at (suc zero) b = octet 1 b ∙ ap (λ (j : ℕ). getD s (j + 1) 0) (sym (place k h)) ∙ x .3
         at (suc (suc i)) b = absurd (omega arith)
@@ -172,14 +172,14 @@ module _ (s : List ℕ) (codebook thresholds : List ℤ) (index report output : 
         ∙ each-at (λ k. H.reading (wordIn s k)) m k Lost h in
         let z : headerNote c k (getD (readings s places) k Lost) ≡ 0 =
         sym (ap (λ (o : Outcome). headerNoteIn (o .report) k) (w .result-is) ∙ header-note-is s places ns report c (reportOctets * m) notes-size k h)
-        ∙ p .notes-0 (13 * k) (omega (arith, count)) in
+        ∙ p .notes-0 (reportOctets * k) (omega (arith, count)) in
         clean-header c k (wordIn s k) (w .reader-accepts .fitting .usable .exp) (ap (headerNote c k) (sym r) ∙ z)
 
     -- its pairs
     good : (q : ℕ) → q < length ns → getD ns q 0 ≡ 0
     good q h =
         sym (ap (λ (o : Outcome). pairNoteIn (o .report) q) (w .result-is) ∙ pair-note-is s places ns report c (reportOctets * m) notes-size q (omega (arith, notes-size)))
-        ∙ p .notes-0 (13 * (q / 12) + 1 + q % 12) (omega (arith, count, notes-size))
+        ∙ p .notes-0 (reportOctets * (q / multiframePairs) + 1 + q % multiframePairs) (omega (arith, count, notes-size))
 
     pass : (q : ℕ) → q < multiframePairs * m → pairFails (received s places) q ≡ false
     unfolding pairNotes
@@ -214,9 +214,9 @@ module _ (s : List ℕ) (codebook thresholds : List ℤ) (index report output : 
 
     packet-size : (q : ℕ) → q < multiframePairs * m → length (packetIn s q) ≡ packetBits
     packet-size q h =
-        let l = streamIn s (q / 12) in
-        let ll : length l ≡ 138 = length-part s (144 * (q / 12) + 2 + 4) 138 (omega (arith, size)) in
-        length-part (bits l) (92 * (q % 12)) 92 (omega (arith, length-bits l))
+        let l = streamIn s (q / multiframePairs) in
+        let ll : length l ≡ streamOctets = length-part s (multiframeOctets * (q / multiframePairs) + 2 + 4) streamOctets (omega (arith, size)) in
+        length-part (bits l) (packetBits * (q % multiframePairs)) packetBits (omega (arith, length-bits l))
 
     -- its frames
     index-is : indexPart s places ns ≡ all
@@ -236,9 +236,9 @@ module _ (s : List ℕ) (codebook thresholds : List ℤ) (index report output : 
 
     idx-is : take (frameIndices * given .speech) (result .index) ≡ idx
     idx-is =
-        ap₂ (λ (k : ℕ) (o : Outcome). take (7 * k) (o .index)) speech-is (w .result-is)
-        ∙ ap (λ (l : List ℕ). take (7 * speechOf m all) (over index 0 (indexOctets * m) l)) index-is
-        ∙ take-append-le (7 * speechOf m all) all (drop (0 + indexOctets * m) index) (omega (arith, all-size, speech-lt all m some all-size ended))
+        ap₂ (λ (k : ℕ) (o : Outcome). take (frameIndices * k) (o .index)) speech-is (w .result-is)
+        ∙ ap (λ (l : List ℕ). take (frameIndices * speechOf m all) (over index 0 (indexOctets * m) l)) index-is
+        ∙ take-append-le (frameIndices * speechOf m all) all (drop (0 + indexOctets * m) index) (omega (arith, all-size, speech-lt all m some all-size ended))
 
     packets : (q : ℕ) → q < multiframePairs * m → packetOf idx q ≡ packetIn s q
     unfolding framesOf

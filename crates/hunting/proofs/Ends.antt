@@ -87,7 +87,7 @@ module _ (s : List ℕ) (from least : ℕ) where
       ends-read image b o z laid eb eo =
           let w = answered-whole found m n e in
           let front : take (multiframeOctets * m) image ≡ imageOf s (found .places) =
-          ap (λ (k : ℕ). take (144 * k) image) (w .1) ∙ subst (λ (x : Ending). LaidBy s (found .places) x image) (w .0) laid in
+          ap (λ (k : ℕ). take (multiframeOctets * k) image) (w .1) ∙ subst (λ (x : Ending). LaidBy s (found .places) x image) (w .0) laid in
           eo ∙ ap₂ (λ (x : List ℕ) (k : ℕ). counted (R.reading x codebook thresholds index report) k n) front (eb ∙ ap (outsideOf (bits s) from) (w .1))
           ∙ some (found .places) (λ y. z (w .1 ∙ y)) ∙ gone-on (found .places) n whole refl (sym (w .2)) (w .0)
         where

@@ -6,12 +6,12 @@ use mathlib.Core.List.{List, [], _∷_}
 use native.Mathlib.Omega.{arith}
 use lib.ListN.{length, set, length-set}
 use Rattle.lists.specs.Parts.{part, over, behind, set-over}
-use Rattle.layout.specs.Layout.{syncFirst, syncSecond}
+use Rattle.layout.specs.Layout.{multiframeOctets, syncFirst, syncSecond}
 use Rattle.bits.specs.Bits.{bits, octets}
 use Rattle.hunting.specs.Hunting.{aligned}
 
-pub put-is : (s image out : List ℕ) (p at : ℕ) → at + 144 ≤ length image
-    → out ≡ over (set (set image at syncFirst) (at + 1) syncSecond) (at + 2) 142 (octets 142 (part (p + 16) 1136 (bits s))) → out ≡ over image at 144 (aligned s p)
+pub put-is : (s image out : List ℕ) (p at : ℕ) → at + multiframeOctets ≤ length image
+    → out ≡ over (set (set image at syncFirst) (at + 1) syncSecond) (at + 2) 142 (octets 142 (part (p + 16) 1136 (bits s))) → out ≡ over image at multiframeOctets (aligned s p)
 unfolding aligned
 put-is s image out p at room e =
     let a : set image at syncFirst ≡ over image at 1 (syncFirst ∷ []) = set-over image at syncFirst (omega arith) in

@@ -83,20 +83,20 @@ module _ (s : List ℕ) (from least : ℕ) where
       pub going-on : (next : List ℕ) → (m ≡ mostMultiframes → ⊥) → next ≡ over image (multiframeOctets * m) multiframeOctets (aligned s p) → Going next (m + 1) (p + multiframeBits) (tested + n)
       going-on next room en =
           let f = found-says in
-          let less : m < 255 = room-for-more m (g .few) room in
+          let less : m < mostMultiframes = room-for-more m (g .few) room in
           let w : left m at ≡ prepend p n (left (m + 1) (p + multiframeBits)) =
-          gathering-found (bits s) least at (255 - m) p n e (omega arith) ∙ ap (λ (k : ℕ). prepend p n (gathering (bits s) least k (p + multiframeBits))) (omega arith) in
-          let r : 144 * m + 144 ≤ length image = omega (arith, g .size) in
+          gathering-found (bits s) least at (mostMultiframes - m) p n e (omega arith) ∙ ap (λ (k : ℕ). prepend p n (gathering (bits s) least k (p + multiframeBits))) (omega arith) in
+          let r : multiframeOctets * m + multiframeOctets ≤ length image = omega (arith, g .size) in
           let a = aligned s p in
-          let na : length a ≡ 144 = length-aligned s p in
-          let d : 144 * (m + 1) ≡ 144 * m + 144 = omega arith in
+          let na : length a ≡ multiframeOctets = length-aligned s p in
+          let d : multiframeOctets * (m + 1) ≡ multiframeOctets * m + multiframeOctets = omega arith in
           record {
             ps = g .ps ++ (p ∷ []);
             count = length-append (g .ps) (p ∷ []) ∙ omega (arith, g .count);
             few = omega arith;
-            size = ap length en ∙ length-over image a (144 * m) 144 r na ∙ g .size;
+            size = ap length en ∙ length-over image a (multiframeOctets * m) multiframeOctets r na ∙ g .size;
             front =
-                ap (λ (x : List ℕ). take (144 * (m + 1)) x) en ∙ ap (λ (k : ℕ). take k (over image (144 * m) 144 a)) d ∙ take-over image a (144 * m) 144 r na
+                ap (λ (x : List ℕ). take (multiframeOctets * (m + 1)) x) en ∙ ap (λ (k : ℕ). take k (over image (multiframeOctets * m) multiframeOctets a)) d ∙ take-over image a (multiframeOctets * m) multiframeOctets r na
                 ∙ ap (λ (x : List ℕ). x ++ a) (g .front) ∙ sym (image-more s (g .ps) p);
             places = g .places ∙ ap (λ (v : Gathering). g .ps ++ v .places) w ∙ sym (append-assoc (g .ps) (p ∷ []) (left (m + 1) (p + multiframeBits) .places));
             ending = g .ending ∙ ap (λ (v : Gathering). v .ending) w;
@@ -108,7 +108,7 @@ module _ (s : List ℕ) (from least : ℕ) where
       -- one too many
       pub too-many : (out : List ℕ) → m ≡ mostMultiframes → (G.TooMany p ≡ answered all) × Laid s all out
       too-many out z =
-          let k : 255 - m ≡ 0 = omega arith in
+          let k : mostMultiframes - m ≡ 0 = omega arith in
           let w : all .ending ≡ tooMany p =
           g .ending ∙ ap (λ (k : ℕ). gathering (bits s) least k at .ending) k ∙ ap (λ (v : Gathering). v .ending) (gathering-full (bits s) least at p n e) in
           (sym (ap (answeredBy (length (all .places)) (all .tested)) w), subst (λ (x : Ending). LaidBy s (all .places) x out) (sym w) tt)
@@ -116,7 +116,7 @@ module _ (s : List ℕ) (from least : ℕ) where
     -- no more
     module _ (r : Refusal) (e : H.Refused r ≡ huntedFrom (bits s) at least) where
       nothing-left : left m at ≡ ended whole (huntTested r)
-      nothing-left = gathering-done (bits s) least at (255 - m) r e
+      nothing-left = gathering-done (bits s) least at (mostMultiframes - m) r e
 
       all-places : all .places ≡ g .ps
       all-places = g .places ∙ ap (λ (v : Gathering). g .ps ++ v .places) nothing-left ∙ append-nil (g .ps)
@@ -137,5 +137,5 @@ module _ (s : List ℕ) (from least : ℕ) where
           let t : all .tested ≡ tested + n = g .total ∙ ap (λ (v : Gathering). tested + v .tested) nothing-left ∙ ap (λ (k : ℕ). tested + k) (sym en) in (
             sym (ap (answeredBy (length (all .places)) (all .tested)) all-ended ∙ ap₂ G.Whole c t),
             subst (λ (x : Ending). LaidBy s (all .places) x image) (sym all-ended)
-                (ap (λ (k : ℕ). take (144 * k) image) c ∙ g .front ∙ ap (imageOf s) (sym all-places)),
+                (ap (λ (k : ℕ). take (multiframeOctets * k) image) c ∙ g .front ∙ ap (imageOf s) (sym all-places)),
           )

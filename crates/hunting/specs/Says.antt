@@ -13,7 +13,7 @@ use lib.ListN.{length, getD}
 use lib.Seq.{getD-append-add}
 use borrow.Author.Tests.{eq-eqb, ne-eqb, eqb-true, eqb-false}
 use Rattle.lists.specs.Tests.{by-test, true-false}
-use Rattle.layout.specs.Layout.{mostMultiframes, codebookNumbers, thresholdNumbers, syncFirst, syncSecond}
+use Rattle.layout.specs.Layout.{multiframeOctets, mostMultiframes, indexOctets, reportOctets, codebookNumbers, thresholdNumbers, syncFirst, syncSecond}
 use Rattle.bits.specs.Bits.{bits}
 use Rattle.cutting.specs.Cutting.{Cutting, cutting, whole as uncut}
 use Rattle.cutting.specs.Laws.{every, every-length, whole-image}
@@ -45,17 +45,17 @@ use Rattle.hunting.specs.declared.Answer.{Answer}
 use Rattle.hunting.specs.declared.Answer.the-variants.{Read, Refused}
 
 -- ---- the image put together is cut into just its multiframes
-sync-at : (s ps : List ℕ) (k : ℕ) → k < length ps → (getD (imageOf s ps) (144 * k) 0 ≡ syncFirst) × (getD (imageOf s ps) (144 * k + 1) 0 ≡ syncSecond)
+sync-at : (s ps : List ℕ) (k : ℕ) → k < length ps → (getD (imageOf s ps) (multiframeOctets * k) 0 ≡ syncFirst) × (getD (imageOf s ps) (multiframeOctets * k + 1) 0 ≡ syncSecond)
 unfolding imageOf aligned
 sync-at s [] k h = absurd (omega arith)
 sync-at s (p ∷ ps) zero h = (refl, refl)
 sync-at s (p ∷ ps) (suc k) h =
     let i = sync-at s ps k (omega arith) in
     let n = length-aligned s p in
-    let a : 144 * suc k ≡ length (aligned s p) + 144 * k = omega (arith, n) in
-    let b : 144 * suc k + 1 ≡ length (aligned s p) + (144 * k + 1) = omega (arith, n) in (
-      ap (λ (j : ℕ). getD (aligned s p ++ imageOf s ps) j 0) a ∙ getD-append-add (aligned s p) (imageOf s ps) (144 * k) 0 ∙ i .0,
-      ap (λ (j : ℕ). getD (aligned s p ++ imageOf s ps) j 0) b ∙ getD-append-add (aligned s p) (imageOf s ps) (144 * k + 1) 0 ∙ i .1,
+    let a : multiframeOctets * suc k ≡ length (aligned s p) + multiframeOctets * k = omega (arith, n) in
+    let b : multiframeOctets * suc k + 1 ≡ length (aligned s p) + (multiframeOctets * k + 1) = omega (arith, n) in (
+      ap (λ (j : ℕ). getD (aligned s p ++ imageOf s ps) j 0) a ∙ getD-append-add (aligned s p) (imageOf s ps) (multiframeOctets * k) 0 ∙ i .0,
+      ap (λ (j : ℕ). getD (aligned s p ++ imageOf s ps) j 0) b ∙ getD-append-add (aligned s p) (imageOf s ps) (multiframeOctets * k + 1) 0 ∙ i .1,
     )
 
 pub image-cut : (s ps : List ℕ) → length ps ≤ mostMultiframes → cutting (imageOf s ps) ≡ record { places = every 0 (length ps); ending = uncut }
@@ -84,8 +84,8 @@ late-settled m bad pairs index report S.Unsettled = tt
 late-settled m bad pairs index report (S.Settled c) =
     by-test LateVerdict (eqb (rateOf c) 2) (λ e. tt) (λ e.
     by-test LateVerdict (eqb (expOf c) 0) (λ e.
-    by-test LateVerdict (ltb index (168 * m)) (λ e. tt) (λ e.
-    by-test LateVerdict (ltb report (13 * m)) (λ e. tt) (λ e. by-test LateVerdict (eqb bad pairs) (λ e. tt) (λ e. tt)))) (λ e. tt))
+    by-test LateVerdict (ltb index (indexOctets * m)) (λ e. tt) (λ e.
+    by-test LateVerdict (ltb report (reportOctets * m)) (λ e. tt) (λ e. by-test LateVerdict (eqb bad pairs) (λ e. tt) (λ e. tt)))) (λ e. tt))
 
 module _ (s ps : List ℕ) (some : 0 < length ps) (few : length ps ≤ mostMultiframes) (codebook thresholds : List ℤ) (index report : List ℕ)
     (sc : length codebook ≡ codebookNumbers) (st : length thresholds ≡ thresholdNumbers) where

@@ -16,6 +16,7 @@ use lib.Seq.{take-add}
 use Rattle.lists.specs.Tests.{true-false}
 use Rattle.lists.specs.Parts.{part-left}
 use Rattle.lists.specs.Rows.{joined}
+use Rattle.layout.specs.Layout.{multiframePairs, mostMultiframes}
 use Rattle.bits.specs.Bits.{field, fields, bits}
 use Rattle.carrier.specs.Carrier.{streamPacket}
 use Rattle.crc.specs.Crc.{Damaged}
@@ -59,8 +60,8 @@ module _ (u : Utterance) where
 
   searched-are : searched l ≡ 8 * 151 + multiframeBits * m
   searched-are =
-      let size : length l ≡ 8 * 151 + 1152 * m = size-laid threeZeros (λ k. worstSync) (hurtWord u) (hurtStream u) m manyZeros 151 sizes in
-      let few : m ≤ 255 = few-multiframes (u .settings) (u .indices) (is-accepted u .sizes) in
+      let size : length l ≡ 8 * 151 + multiframeBits * m = size-laid threeZeros (λ k. worstSync) (hurtWord u) (hurtStream u) m manyZeros 151 sizes in
+      let few : m ≤ mostMultiframes = few-multiframes (u .settings) (u .indices) (is-accepted u .sizes) in
       searched-all l (omega arith) ∙ size
 
   head-is : take 19 l ≡ threeZeros ++ worstSync
@@ -89,8 +90,8 @@ module _ (u : Utterance) where
   -- and the packets of the damaged image
   packet-is : (q : ℕ) → q < pairsOf u → receivedPacket aired 3 q ≡ packetIn (hurtImage u) q
   packet-is q h =
-      ap (λ (l : List Bool). streamPacket l q) (laid-stream threeZeros (λ k. worstSync) (hurtWord u) (hurtStream u) m manyZeros 151 sizes (q / 12) (omega arith))
-      ∙ sym (made-packet (hurtWord u) (hurtStream u) m q h (length-hurt u (q / 12)))
+      ap (λ (l : List Bool). streamPacket l q) (laid-stream threeZeros (λ k. worstSync) (hurtWord u) (hurtStream u) m manyZeros 151 sizes (q / multiframePairs) (omega arith))
+      ∙ sym (made-packet (hurtWord u) (hurtStream u) m q h (length-hurt u (q / multiframePairs)))
 
   aired-caught : Caught u aired 0 3 fewestMatches
   aired-caught = record {

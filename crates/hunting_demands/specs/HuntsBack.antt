@@ -66,8 +66,8 @@ module _ (u : Utterance) (s : List ℕ) (from at least : ℕ) (c : Carried u s f
 
   packets-kept : (q : ℕ) → q < pairsOf u → packetIn got q ≡ packetIn (imageOf u) q
   packets-kept q h =
-      let k : q / 12 < m = omega arith in
-      ap (λ (l : List Bool). streamPacket l q) (image-stream s at m (c .inside) (q / 12) k ∙ c .streams (q / 12) k)
+      let k : q / multiframePairs < m = omega arith in
+      ap (λ (l : List Bool). streamPacket l q) (image-stream s at m (c .inside) (q / multiframePairs) k ∙ c .streams (q / multiframePairs) k)
 
   -- they are the image with damaged headers
   pub damage : Damage m (imageOf u) got

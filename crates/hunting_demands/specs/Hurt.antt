@@ -11,7 +11,7 @@ use lib.Count.{ones}
 use lib.ListN.{length}
 use Rattle.lists.specs.Parts.{part, part-left}
 use Rattle.lists.specs.Rows.{joined}
-use Rattle.layout.specs.Layout.{multiframePairs, streamOctets, firstPair}
+use Rattle.layout.specs.Layout.{multiframePairs, streamOctets, mostMultiframes, firstPair}
 use Rattle.bits.specs.Bits.{bits}
 use Rattle.bits.specs.Laws.{bits-octets}
 use Rattle.packet.specs.Packet.{stream}
@@ -68,8 +68,8 @@ module _ (u : Utterance) (front : List Bool) (y : ℕ → List Bool) (flips : �
 
     pub searched-are : searched (bits hurt) ≡ 8 * n + multiframeBits * multiframesOf u
     searched-are =
-        let size : length l ≡ 8 * n + 1152 * m = size-laid front y hurtWord keptStream m behind n sizes in
-        let few : m ≤ 255 = few-multiframes (u .settings) (u .indices) (is-accepted u .sizes) in
+        let size : length l ≡ 8 * n + multiframeBits * m = size-laid front y hurtWord keptStream m behind n sizes in
+        let few : m ≤ mostMultiframes = few-multiframes (u .settings) (u .indices) (is-accepted u .sizes) in
         searched-all l (omega (arith, f .few)) ∙ size
 
     pub front-there : (a v : ℕ) → a + v ≤ length front → part a v (bits hurt) ≡ part a v front

@@ -67,7 +67,7 @@ module _ (front : List Bool) (y : ℕ → List Bool) (w : ℕ → ℕ) (x : ℕ 
     -- what stands behind
     pub laid-behind : (t v : ℕ) → length front + multiframeBits * m ≤ t → part t v (bits (laidOctets n)) ≡ part (t - (length front + multiframeBits * m)) v behind
     laid-behind t v h =
-        let j = t - (length front + 1152 * m) in
+        let j = t - (length front + multiframeBits * m) in
         let e : t ≡ length front + (length (joined each m) + j) = omega (arith, size-joined) in
         ap (part t v) bits-laid ∙ ap (λ (i : ℕ). part i v laidBits) e
         ∙ ap (take v) (drop-append-add front (joined each m ++ behind) (length (joined each m) + j) ∙ drop-append-add (joined each m) behind j)
@@ -86,14 +86,14 @@ module _ (front : List Bool) (y : ℕ → List Bool) (w : ℕ → ℕ) (x : ℕ 
           ∙ part-within laidBits (placeInRow (length front) k) multiframeBits a v (omega (arith, size-bits, z .around)) l ∙ ap (part a v) whole-at
 
       pub laid-sync : syncAt (bits (laidOctets n)) (placeInRow (length front) k) ≡ y k
-      laid-sync = inside 0 16 (length front + 1152 * k) (omega arith) (omega arith) ∙ sync-in (y k) (w k) (x k) (z .syncs k)
+      laid-sync = inside 0 16 (length front + multiframeBits * k) (omega arith) (omega arith) ∙ sync-in (y k) (w k) (x k) (z .syncs k)
 
       pub laid-word : wordAt (bits (laidOctets n)) (placeInRow (length front) k) ≡ w k
-      laid-word = ap value (inside 16 32 (length front + 1152 * k + 16) (omega arith) (omega arith)) ∙ word-in (y k) (w k) (x k) (z .syncs k) (z .words k)
+      laid-word = ap value (inside 16 32 (length front + multiframeBits * k + 16) (omega arith) (omega arith)) ∙ word-in (y k) (w k) (x k) (z .syncs k) (z .words k)
 
       pub laid-stream : streamAt (bits (laidOctets n)) (placeInRow (length front) k) ≡ x k
       laid-stream =
-          inside 48 1104 (length front + 1152 * k + 16 + 32) (omega arith) (omega arith)
+          inside 48 1104 (length front + multiframeBits * k + 16 + 32) (omega arith) (omega arith)
           ∙ ap (take 1104)
           (sym (drop-drop 32 16 (each k)) ∙ ap (drop 32) (drop-at (y k) (field 32 (w k) ++ x k) 16 (z .syncs k))
           ∙ drop-at (field 32 (w k)) (x k) 32 (length-field 32 (w k)))

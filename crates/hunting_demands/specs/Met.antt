@@ -16,7 +16,7 @@ use lib.Seq.{take-add, take-at, take-append-le}
 use Rattle.gf2.specs.Light.{ones-in}
 use Rattle.lists.specs.Parts.{part, over, part-left, part-right}
 use Rattle.lists.specs.Rows.{joined}
-use Rattle.layout.specs.Layout.{multiframePairs, multiframeOctets, indexOctets, reportOctets}
+use Rattle.layout.specs.Layout.{multiframePairs, multiframeOctets, mostMultiframes, indexOctets, reportOctets}
 use Rattle.bits.specs.Bits.{field, fields, bits, octets}
 use Rattle.bits.specs.Laws.{length-bits, bits-part, bits-octets}
 use Rattle.crc.specs.Crc.{flip}
@@ -224,9 +224,9 @@ module _ (u : Utterance) where
   shifted-met least low =
       let same : bits shiftedOctets ≡ threeZeros ++ (bits (imageOf u) ++ fiveZeros) =
       bits-octets (1 + multiframeOctets * multiframesOf u) (threeZeros ++ (bits (imageOf u) ++ fiveZeros)) shifted-size in
-      let few : multiframesOf u ≤ 255 = few-multiframes (u .settings) (u .indices) (is-accepted u .sizes) in
-      let size : length (bits shiftedOctets) ≡ 8 * (1 + 144 * multiframesOf u) = ap length same ∙ shifted-size in
-      let all : searched (bits shiftedOctets) ≡ 8 * (1 + 144 * multiframesOf u) = searched-all (bits shiftedOctets) (omega arith) ∙ size in
+      let few : multiframesOf u ≤ mostMultiframes = few-multiframes (u .settings) (u .indices) (is-accepted u .sizes) in
+      let size : length (bits shiftedOctets) ≡ 8 * (1 + multiframeOctets * multiframesOf u) = ap length same ∙ shifted-size in
+      let all : searched (bits shiftedOctets) ≡ 8 * (1 + multiframeOctets * multiframesOf u) = searched-all (bits shiftedOctets) (omega arith) ∙ size in
       let first : take 16 (bits (imageOf u)) ≡ sync =
       sym (bits-part 0 2 (imageOf u) (omega (arith, length-image (u .settings) (u .indices) (multiframesOf u))))
       ∙ ap bits (image-sync (u .settings) (u .indices) (multiframesOf u) 0 (omega arith)) in
@@ -245,12 +245,12 @@ module _ (u : Utterance) where
   pub one-shifted : multiframesOf u ≡ 1 → (least : ℕ) → fewestMatches ≤ least → least ≤ syncBits → (codebook thresholds : List ℤ) (index report : List ℕ)
       → Lent (multiframesOf u) codebook thresholds index report
       → huntingReading shiftedOctets 0 least codebook thresholds index report
-      ≡ outcome (Read (record { summary = spoken u; outside = 8; tested = 4 })) (over index 0 indexOctets (padded u)) (over report 0 reportOctets (replicate 13 0))
+      ≡ outcome (Read (record { summary = spoken u; outside = 8; tested = 4 })) (over index 0 indexOctets (padded u)) (over report 0 reportOctets (replicate reportOctets 0))
   one-shifted one least low high codebook thresholds index report lent =
       let same : bits shiftedOctets ≡ threeZeros ++ (bits (imageOf u) ++ fiveZeros) =
       bits-octets (1 + multiframeOctets * multiframesOf u) (threeZeros ++ (bits (imageOf u) ++ fiveZeros)) shifted-size in
-      let size : length (bits shiftedOctets) ≡ 8 * (1 + 144 * multiframesOf u) = ap length same ∙ shifted-size in
-      let all : searched (bits shiftedOctets) ≡ 8 * (1 + 144 * multiframesOf u) = searched-all (bits shiftedOctets) (omega arith) ∙ size in
+      let size : length (bits shiftedOctets) ≡ 8 * (1 + multiframeOctets * multiframesOf u) = ap length same ∙ shifted-size in
+      let all : searched (bits shiftedOctets) ≡ 8 * (1 + multiframeOctets * multiframesOf u) = searched-all (bits shiftedOctets) (omega arith) ∙ size in
       let out : outsideOf (bits shiftedOctets) 0 (multiframesOf u) ≡ 8 = omega arith in
       let tested : testedInRow (bits shiftedOctets) 0 3 (multiframesOf u) ≡ 4 = omega arith in
       hunts-shifted u shiftedOctets 0 least threeZeros fiveZeros (shifted-met least low) codebook thresholds index report low high lent

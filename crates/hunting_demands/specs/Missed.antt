@@ -130,7 +130,7 @@ row-on a b at (suc n) i e =
 
 packet-on : (a b : List ℕ) (q : ℕ) → length a ≡ indexOctets → packetOf (a ++ b) (multiframePairs + q) ≡ packetOf b q
 unfolding packetOf
-packet-on a b q e = ap₂ (packet widths) (row-on a b (7 * (2 * q)) 7 (7 * (2 * (12 + q))) (omega arith)) (row-on a b (7 * (2 * q + 1)) 7 (7 * (2 * (12 + q) + 1)) (omega arith))
+packet-on a b q e = ap₂ (packet widths) (row-on a b (frameIndices * (2 * q)) frameIndices (frameIndices * (2 * (multiframePairs + q))) (omega arith)) (row-on a b (frameIndices * (2 * q + 1)) frameIndices (frameIndices * (2 * (multiframePairs + q) + 1)) (omega arith))
 
 stream-on : (a b : List ℕ) (n : ℕ) → length a ≡ indexOctets → stream (a ++ b) multiframePairs n ≡ stream b 0 n
 unfolding stream
@@ -209,7 +209,7 @@ module _ (least : ℕ) (low : fewestMatches ≤ least) (high : least ≤ syncBit
   second-alone = record {
     begins = lit≤ tt;
     inside = omega (arith, searched-are);
-    stand = λ k h. let z : 1152 ≡ 1152 + 1152 * k = omega arith in ap (passes least (bits garbled)) (sym z) ∙ second-passes;
+    stand = λ k h. let z : multiframeBits ≡ multiframeBits + multiframeBits * k = omega arith in ap (passes least (bits garbled)) (sym z) ∙ second-passes;
     none-before = λ t a h. not-before t h;
     none-behind = λ t a h. absurd (omega (arith, searched-are));
   }
@@ -278,7 +278,7 @@ module _ (least : ℕ) (codebook thresholds : List ℤ) (index report : List ℕ
     syncs-came k h = cut .syncs k h ∙ sym (image-sync (settings 0 0) (sent .indices) 2 k h)
 
     packets-came : (q : ℕ) → q < pairsOf sent → packetIn garbled q ≡ packetIn (imageOf sent) q
-    packets-came q h = ap (λ (x : List ℕ). streamPacket (bits x) q) (stream-came (q / 12) (omega arith))
+    packets-came q h = ap (λ (x : List ℕ). streamPacket (bits x) q) (stream-came (q / multiframePairs) (omega arith))
 
     -- the first header is the only one but the second
     first-only : (k : ℕ) → k < m → (k ≡ 1 → ⊥) → headerFlips (imageOf sent) garbled k ≤ 3
@@ -309,11 +309,11 @@ module _ (least : ℕ) (codebook thresholds : List ℤ) (index report : List ℕ
         ≡ outcome (Read (record { summary = spoken heard; outside = multiframeBits; tested = suc multiframeBits })) (over index 0 indexOctets (padded heard))
         (over report 0 reportOctets (replicate reportOctets 0))
     answered =
-        let out : outsideOf (bits garbled) 0 1 ≡ 1152 = omega (arith, searched-are) in
-        let tested : testedInRow (bits garbled) 0 1152 1 ≡ 1153 = omega (arith, searched-are) in
-        as-read (imageOf heard) 1 heard-cut garbled 1152 heard-stands 0 least codebook thresholds index report low high (lent .codebook-size) (lent .thresholds-size)
+        let out : outsideOf (bits garbled) 0 1 ≡ multiframeBits = omega (arith, searched-are) in
+        let tested : testedInRow (bits garbled) 0 multiframeBits 1 ≡ 1153 = omega (arith, searched-are) in
+        as-read (imageOf heard) 1 heard-cut garbled multiframeBits heard-stands 0 least codebook thresholds index report low high (lent .codebook-size) (lent .thresholds-size)
         (second-alone least low high) (lit< tt) (lit≤ tt)
-        ∙ ap (λ (o : R.Outcome). counted o (outsideOf (bits garbled) 0 1) (testedInRow (bits garbled) 0 1152 1)) (reads-image heard codebook thresholds index report lent-1)
+        ∙ ap (λ (o : R.Outcome). counted o (outsideOf (bits garbled) 0 1) (testedInRow (bits garbled) 0 multiframeBits 1)) (reads-image heard codebook thresholds index report lent-1)
         ∙ ap₂ (λ (a b : ℕ). outcome (Read (record { summary = spoken heard; outside = a; tested = b })) (over index 0 indexOctets (padded heard))
         (over report 0 reportOctets (replicate reportOctets 0))) out tested
 

@@ -17,7 +17,7 @@ use borrow.Author.Tests.{eq-eqb, ne-eqb, lt-ltb}
 use Rattle.gf2.specs.Light.{ones-in}
 use Rattle.lists.specs.Tests.{true-false}
 use Rattle.lists.specs.Rows.{each, joined, length-joined, joined-part}
-use Rattle.layout.specs.Layout.{multiframePairs, multiframeOctets, mostMultiframes, indexOctets, reportOctets, codebookNumbers, thresholdNumbers, syncFirst, syncSecond}
+use Rattle.layout.specs.Layout.{packetBits, multiframePairs, multiframeOctets, mostMultiframes, indexOctets, reportOctets, codebookNumbers, thresholdNumbers, syncFirst, syncSecond}
 use Rattle.settings.specs.Settings.{settings}
 use Rattle.bits.specs.Bits.{field, fields, value, bits}
 use Rattle.bits.specs.Laws.{length-field, length-bits}
@@ -40,12 +40,13 @@ use Rattle.settling.specs.Settling.{readings, settling, firstAgreeing, onlyOne}
 use Rattle.settling.specs.Laws.{only-clean, only-mended}
 use Rattle.settling.specs.declared.Settlement.the-variants as S
 use Rattle.hunt.specs.Hunt.{syncBits, headerBits, multiframeBits, fewestMatches, inRange, sync, matches, passes, searched, placesLeft}
-use Rattle.hunt.specs.Laws.{searched-all}
+use Rattle.hunt.specs.Laws.{searched-all, in-range}
 use Rattle.reader.specs.Reading as R
 use Rattle.reader.specs.ReadingLaws.{Usable}
 use Rattle.reader.specs.declared.Answer.the-variants as RA
 use Rattle.refusals.specs.declared.Reading.the-variants.{Unsettled, IndexShort}
 use Rattle.hunting.specs.Hunting.{imageOf as foundImage, outsideOf, counted, Outcome, outcome, huntingReading}
+use Rattle.hunting.specs.Says.{nowhere-exactly}
 use Rattle.hunting.specs.declared.Answer.the-variants.{Refused}
 use Rattle.refusals.specs.declared.Hunting.{Hunting as Refusal}
 use Rattle.refusals.specs.declared.Hunting.the-variants.{Octets, MatchRange, Nowhere}
@@ -58,7 +59,7 @@ use Rattle.demands.specs.Headers.{sentCommon, common-sent, rate-sent, exp-sent}
 use Rattle.demands.specs.Instances.{lone, says1}
 use Rattle.demands.specs.Met.{zeroBook, zeroThresholds, indexFor, reportFor, lent-zeros, distance, burstAt, doubleAt, hurtWord, hurtStream, hurtImage, hurts, names-met, says24, two-multiframes}
 use Rattle.demands.specs.Needed.{says1At11}
-use Rattle.hunting_demands.specs.Standing.{placeInRow, row, syncAt, wordAt, streamAt, all-match, passes-there, unlike-fails, lost-fails, InARow, testedInRow, nothing-found, reads-in-a-row, image-size, image-sync, image-word}
+use Rattle.hunting_demands.specs.Standing.{placeInRow, row, syncAt, wordAt, streamAt, all-match, passes-there, unlike-fails, lost-fails, InARow, testedInRow, reads-in-a-row, image-size, image-sync, image-word}
 use Rattle.hunting_demands.specs.AsRead as A
 use Rattle.hunting_demands.specs.AsRead.{Multiframes, Stands, shifted-syncs, shifted-stands, damaged-cut}
 use Rattle.hunting_demands.specs.Laid.{laidMultiframe, sync-in, word-in}
@@ -374,13 +375,13 @@ module _ (codebook thresholds : List ℤ) (index report : List ℕ) where
   syncs-needed lent =
       let few : matches (syncAt (bits fiveFlips) 0) sync < fewestMatches =
       subst (λ (x : List Bool). matches x sync < fewestMatches) (sym (H.sync-there says1 [] (λ k. fiveSync) untouched [] 0 five-fits 0 (lit< tt))) five-match in
-      let size : searched (bits fiveFlips) ≡ 1152 = H.searched-are says1 [] (λ k. fiveSync) untouched [] 0 five-fits in
+      let size : searched (bits fiveFlips) ≡ multiframeBits = H.searched-are says1 [] (λ k. fiveSync) untouched [] 0 five-fits in
       let one : placesLeft (bits fiveFlips) 0 ≡ 1 = omega arith in
       record {
         others = alone-others says1 (λ k. fiveSync) untouched five-fits 0 fewestMatches Syncs (λ other. lit≤ tt) (λ other. absurd (other refl))
             (λ other k. none-few) (λ other. lit≤ tt) (λ other. inr no-ones) (λ other. lent);
         fails = λ h. omega (arith, h 0 (lit< tt));
-        instead = nothing-found fiveFlips 0 fewestMatches codebook thresholds index report (lit≤ tt) (lit≤ tt) (lent .codebook-size) (lent .thresholds-size)
+        instead = nowhere-exactly fiveFlips 0 fewestMatches codebook thresholds index report (lent .codebook-size) (lent .thresholds-size) (in-range fewestMatches (lit≤ tt) (lit≤ tt)) .1
             (λ t a h. let z : t ≡ 0 = omega arith in ap (passes fewestMatches (bits fiveFlips)) z ∙ unlike-fails fewestMatches (bits fiveFlips) 0 few)
             ∙ ap (λ (n : ℕ). outcome (Refused (Nowhere 0 n)) index report) one;
       }
@@ -405,7 +406,7 @@ module _ (codebook thresholds : List ℤ) (index report : List ℕ) where
   module _ (least : ℕ) (low : fewestMatches ≤ least) (high : least ≤ syncBits) where
     clean-row : InARow (bits clean1) 0 0 least 1
     clean-row =
-        let size : searched (bits clean1) ≡ 1152 = H.searched-are says1 [] (λ k. sync) (λ k. 0) [] 0 clean-fits in
+        let size : searched (bits clean1) ≡ multiframeBits = H.searched-are says1 [] (λ k. sync) (λ k. 0) [] 0 clean-fits in
         first-alone clean1 least (omega arith)
         (H.passes-hurt says1 [] (λ k. sync) (λ k. 0) [] 0 clean-fits 0 (lit< tt) least (sync-enough least high) none-few) (λ t a h. absurd (omega arith))
 
@@ -429,12 +430,12 @@ module _ (codebook thresholds : List ℤ) (index report : List ℕ) where
       -- BEGINS: from bit 1 on no place has a multiframe's bits left: 22
       pub begins-needed : Needed Begins says1 clean1 1 0 least codebook thresholds index report (Nowhere 1 0)
       begins-needed =
-          let size : searched (bits clean1) ≡ 1152 = H.searched-are says1 [] (λ k. sync) (λ k. 0) [] 0 clean-fits in
+          let size : searched (bits clean1) ≡ multiframeBits = H.searched-are says1 [] (λ k. sync) (λ k. 0) [] 0 clean-fits in
           let none : placesLeft (bits clean1) 1 ≡ 0 = omega arith in
           record {
             others = clean-others 1 least high Begins (λ other. absurd (other refl)) (λ other. low) (λ other. lent);
             fails = λ h. omega arith;
-            instead = nothing-found clean1 1 least codebook thresholds index report low high (lent .codebook-size) (lent .thresholds-size)
+            instead = nowhere-exactly clean1 1 least codebook thresholds index report (lent .codebook-size) (lent .thresholds-size) (in-range least low high) .1
                 (λ t a h. absurd (omega arith))
                 ∙ ap (λ (n : ℕ). outcome (Refused (Nowhere 1 n)) index report) none;
           }
@@ -443,7 +444,7 @@ module _ (codebook thresholds : List ℤ) (index report : List ℕ) where
       pub settled-needed : Needed Settled says1 mended1 0 0 least codebook thresholds index report (Octets Unsettled)
       settled-needed =
           let f = mended-fits in
-          let size : searched (bits mended1) ≡ 1152 = H.searched-are says1 [] (λ k. sync) (λ k. 1) [] 0 f in
+          let size : searched (bits mended1) ≡ multiframeBits = H.searched-are says1 [] (λ k. sync) (λ k. 1) [] 0 f in
           record {
             others = alone-others says1 (λ k. sync) (λ k. 1) f 0 least Settled (λ other. lit≤ tt) (λ other k. sync-enough least high) (λ other k. one-few)
                 (λ other. low) (λ other. absurd (other refl)) (λ other. lent);
@@ -484,18 +485,18 @@ module _ (codebook thresholds : List ℤ) (index report : List ℕ) where
       let f = other-fits in
       let size = H.searched-are says1 [] (λ k. sync) (λ k. 0) other 144 f in
       let first = H.mended-there says1 [] (λ k. sync) (λ k. 0) other 144 f 0 (lit< tt) none-few in
-      let second : reading (wordAt (bits followed) 1152) ≡ Codeword (decodedAs otherWord (sentMessage says1At11 0)) =
+      let second : reading (wordAt (bits followed) multiframeBits) ≡ Codeword (decodedAs otherWord (sentMessage says1At11 0)) =
       ap (λ (x : List Bool). reading (value x)) (H.behind-there says1 [] (λ k. sync) (λ k. 0) other 144 f 1168 32 (lit≤ tt))
       ∙ ap reading (word-in sync otherWord (stream (lone 1) 0 multiframePairs) sync-size other-lt) ∙ mended (sentMessage says1At11 0) 0 (message-lt (settings 1 0) 1 0) none-few .0 in
-      let match : least ≤ matches (syncAt (bits followed) 1152) sync =
+      let match : least ≤ matches (syncAt (bits followed) multiframeBits) sync =
       subst (λ (x : List Bool). least ≤ matches x sync)
-      (sym (H.behind-there says1 [] (λ k. sync) (λ k. 0) other 144 f 1152 16 (lit≤ tt) ∙ sync-in sync otherWord (stream (lone 1) 0 multiframePairs) sync-size)) (sync-enough least high) in
-      let taken : passes least (bits followed) 1152 ≡ true = passes-there least (bits followed) 1152 match second in
+      (sym (H.behind-there says1 [] (λ k. sync) (λ k. 0) other 144 f multiframeBits 16 (lit≤ tt) ∙ sync-in sync otherWord (stream (lone 1) 0 multiframePairs) sync-size)) (sync-enough least high) in
+      let taken : passes least (bits followed) multiframeBits ≡ true = passes-there least (bits followed) multiframeBits match second in
       record {
         others = hurt-others says1 [] (λ k. sync) (λ k. 0) other 144 f 0 least codebook thresholds index report NoneBehind (λ o. lit≤ tt)
             (λ o k. sync-enough least high) (λ o k. none-few) (λ o t a h. absurd (omega arith)) (λ o. absurd (o refl)) (λ o. low) (λ o. inr no-ones)
             (λ o. fewer 2 1 (lit≤ tt) codebook thresholds index report lent);
-        fails = λ h. true-false (sym taken ∙ h 1152 (lit≤ tt) (omega arith));
+        fails = λ h. true-false (sym taken ∙ h multiframeBits (lit≤ tt) (omega arith));
         instead = two-differ followed 0 0 least 2
             (record {
               begins = lit≤ tt;
@@ -517,15 +518,15 @@ module _ (codebook thresholds : List ℤ) (index report : List ℕ) where
         let s = halfLost u in
         let f = half-fits u in
         let size = H.searched-are u [] (λ k. sync) oneThenThree [] 0 f in
-        let second : passes least (bits s) 1152 ≡ false =
-        lost-fails least (bits s) 1152 (H.lost-there u [] (λ k. sync) oneThenThree [] 0 f 1 (omega arith) three-ones) in
+        let second : passes least (bits s) multiframeBits ≡ false =
+        lost-fails least (bits s) multiframeBits (H.lost-there u [] (λ k. sync) oneThenThree [] 0 f 1 (omega arith) three-ones) in
         record {
           others = alone-others u (λ k. sync) oneThenThree f 0 least Headers (λ other. lit≤ tt) (λ other k. sync-enough least high) (λ other. absurd (other refl))
               (λ other. low) (λ other. inl (le-of-eq (sym two))) (λ other. lent);
           fails = λ h. omega (arith, h 1 (omega arith), H.flips-there u [] (λ k. sync) oneThenThree [] 0 f 1 (omega arith), three-ones);
           instead = mended-alone s 0 0 least 1
               (first-alone s least (omega arith) (H.passes-hurt u [] (λ k. sync) oneThenThree [] 0 f 0 (omega arith) least (sync-enough least high) one-few)
-              (λ t a h. let z : t ≡ 1152 = omega arith in ap (passes least (bits s)) z ∙ second))
+              (λ t a h. let z : t ≡ multiframeBits = omega arith in ap (passes least (bits s)) z ∙ second))
               (lit< tt) (lit≤ tt) low high codebook thresholds index report (fewer (multiframesOf u) 1 (omega arith) codebook thresholds index report lent) _ refl
               (H.mended-there u [] (λ k. sync) oneThenThree [] 0 f 0 (omega arith) one-few)
               (λ q. omega (arith, sym (H.near-there u [] (λ k. sync) oneThenThree [] 0 f 0 (omega arith)) ∙ q, one-one));
@@ -566,7 +567,7 @@ module _ (u : Utterance) (two : 2 ≤ multiframesOf u) (least : ℕ) (low : fewe
 
   searched-img : searched (bits img) ≡ multiframeBits * m
   searched-img =
-      let few : m ≤ 255 = few-multiframes (u .settings) (u .indices) (is-accepted u .sizes) in
+      let few : m ≤ mostMultiframes = few-multiframes (u .settings) (u .indices) (is-accepted u .sizes) in
       searched-all (bits img) (omega (arith, length-bits img, cut .size)) ∙ omega (arith, length-bits img, cut .size)
 
   whole-syncs : (k : ℕ) → k < m → least ≤ matches (syncAt (bits img) (placeInRow 0 k)) sync
@@ -577,11 +578,11 @@ module _ (u : Utterance) (two : 2 ≤ multiframesOf u) (least : ℕ) (low : fewe
       let p = packetOf (u .indices) 0 in
       let d = doubleAt u 0 in
       let r = stream (u .indices) 2 10 in
-      let lp : length p ≡ 92 = length-packetOf (u .indices) 0 in
-      let lb : length (burstAt u 0) ≡ 92 = length-flip (flip p 0) 2 ∙ length-flip p 0 ∙ lp in
-      let ld : length d ≡ 92 = length-flip (flip (packetOf (u .indices) 1) 0) distance ∙ length-flip (packetOf (u .indices) 1) 0 ∙ length-packetOf (u .indices) 1 in
+      let lp : length p ≡ packetBits = length-packetOf (u .indices) 0 in
+      let lb : length (burstAt u 0) ≡ packetBits = length-flip (flip p 0) 2 ∙ length-flip p 0 ∙ lp in
+      let ld : length d ≡ packetBits = length-flip (flip (packetOf (u .indices) 1) 0) distance ∙ length-flip (packetOf (u .indices) 1) 0 ∙ length-packetOf (u .indices) 1 in
       let size : length (hurtStream u 0) ≡ 1104 = length-append (burstAt u 0) (d ++ r) ∙ omega (arith, length-append d r, length-stream (u .indices) 2 10) in
-      let first : packetIn img 0 ≡ burstAt u 0 = made-packet (hurtWord u) (hurtStream u) m 0 (omega arith) size ∙ take-at (burstAt u 0) (d ++ r) 92 lb in
+      let first : packetIn img 0 ≡ burstAt u 0 = made-packet (hurtWord u) (hurtStream u) m 0 (omega arith) size ∙ take-at (burstAt u 0) (d ++ r) packetBits lb in
       differs p (burstAt u 0) (inl (flips-burst p 0 2 (lit< tt) (lit< tt) (omega arith)))
       (sym first ∙ e ∙ image-packet (u .settings) (u .indices) m 0 (omega arith))
 

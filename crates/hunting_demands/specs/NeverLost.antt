@@ -13,7 +13,7 @@ use lib.Seq.{drop-append-add}
 use Rattle.lists.specs.Tests.{both, true-false}
 use Rattle.lists.specs.Parts.{part, length-part, part-left}
 use Rattle.lists.specs.Rows.{each-at}
-use Rattle.layout.specs.Layout.{reportOctets, headerOctets}
+use Rattle.layout.specs.Layout.{multiframeOctets, reportOctets, headerOctets}
 use Rattle.bits.specs.Bits.{field, value, bits}
 use Rattle.bits.specs.Laws.{length-field, value-field, value-lt, bits-octets}
 use Rattle.header.specs.Reading.{ReadAs, reading}
@@ -28,7 +28,7 @@ use Rattle.carrier.specs.Carrier.{received, pairCount}
 use Rattle.settling.specs.Laws.{note-flips}
 use Rattle.pairs.specs.Laws.{length-notes}
 use Rattle.reader.specs.Reading as R
-use Rattle.hunt.specs.Hunt.{sync, matches, readable, passes}
+use Rattle.hunt.specs.Hunt.{sync, matches, readable, passes, multiframeBits}
 use Rattle.hunt.specs.Laws.{searched-le}
 use Rattle.hunting.specs.Hunting as G
 use Rattle.hunting.specs.Hunting.{aligned, imageOf, huntingReading}
@@ -62,17 +62,17 @@ unfolding imageOf
 found-readable s least at [] k a h = absurd (omega arith)
 found-readable s least at (p ∷ ps) zero a h =
     let l = bits s in
-    let room : p + 1152 ≤ length l = omega (arith, a .1, searched-le l) in
+    let room : p + multiframeBits ≤ length l = omega (arith, a .1, searched-le l) in
     let head = part (p + 16) 32 l in
     let size : length head ≡ 32 = length-part l (p + 16) 32 (omega arith) in
     ap (λ (x : List ℕ). readable (reading (wordIn (x ++ imageOf s ps) 0))) (aligned-framed s p room)
     ∙ ap (λ (w : ℕ). readable (reading w)) (front-word (wordAt l p) (streamAt l p) (imageOf s ps) (subst (λ (n : ℕ). wordAt l p < 2 ^ n) size (value-lt head)))
     ∙ passed-readable least l p (a .2)
 found-readable s least at (p ∷ ps) (suc k) a h =
-    let e : 144 * suc k + 2 ≡ length (aligned s p) + (144 * k + 2) = omega (arith, length-aligned s p) in
+    let e : multiframeOctets * suc k + 2 ≡ length (aligned s p) + (multiframeOctets * k + 2) = omega (arith, length-aligned s p) in
     ap (λ (x : List ℕ). readable (reading (value (bits x))))
-    (ap (λ (i : ℕ). part i 4 (aligned s p ++ imageOf s ps)) e ∙ ap (take 4) (drop-append-add (aligned s p) (imageOf s ps) (144 * k + 2)))
-    ∙ found-readable s least (p + 1152) ps k (a .3) (omega arith)
+    (ap (λ (i : ℕ). part i 4 (aligned s p ++ imageOf s ps)) e ∙ ap (take 4) (drop-append-add (aligned s p) (imageOf s ps) (multiframeOctets * k + 2)))
+    ∙ found-readable s least (p + multiframeBits) ps k (a .3) (omega arith)
 
 -- a readable header's note is not 3
 not-three : (c k w : ℕ) → readable (reading w) ≡ true → headerNote c k (reading w) ≡ 3 → ⊥

@@ -12,7 +12,7 @@ use lib.Bits.{bitXor}
 use lib.Count.{ones}
 use lib.IntN.{ℤ}
 use lib.ListN.{length}
-use Rattle.layout.specs.Layout.{multiframeOf, mostMultiframes}
+use Rattle.layout.specs.Layout.{multiframePairs, multiframeOf, mostMultiframes}
 use Rattle.bits.specs.Bits.{bits}
 use Rattle.carrier.specs.Carrier.{streamPacket}
 use Rattle.crc.specs.Crc.{Damaged}
@@ -77,7 +77,7 @@ module _ (u : Utterance) (s : List ℕ) (from at least : ℕ) (c : Caught u s fr
   flips-few k h = subst (λ (n : ℕ). n ≤ 2) (sym (flips-there k h)) (c .headers k h)
 
   pub packet-there : (q : ℕ) → q < pairsOf u → packetIn (together u s at) q ≡ receivedPacket s at q
-  packet-there q h = ap (λ (l : List Bool). streamPacket l q) (image-stream s at m (c .inside) (q / 12) (omega arith))
+  packet-there q h = ap (λ (l : List Bool). streamPacket l q) (image-stream s at m (c .inside) (q / multiframePairs) (omega arith))
 
   in-a-row : InARow (bits s) from at least m
   in-a-row = record {

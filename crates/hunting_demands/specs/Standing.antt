@@ -21,15 +21,13 @@ use Rattle.header.specs.declared.Decoded.{Decoded}
 use Rattle.header.specs.declared.Header.{Header}
 use Rattle.header.specs.declared.Header.the-variants.{Codeword, Lost}
 use Rattle.hunt.specs.Hunt.{fewestMatches, syncBits, headerBits, multiframeBits, sync, matches, readable, passes, searched, placesLeft, huntedFrom}
-use Rattle.hunt.specs.Laws.{in-range, searched-le, says, once}
+use Rattle.hunt.specs.Laws.{in-range, searched-le, says, once, nowhere-exactly}
 use Rattle.hunt.specs.declared.Hunted.{Hunted}
 use Rattle.hunt.specs.declared.Hunted.the-variants as H
-use Rattle.refusals.specs.declared.Hunt.the-variants as HR
 use Rattle.reader.specs.Reading as R
-use Rattle.hunting.specs.Hunting.{Ending, whole, ended, prepend, step, last, gathering, outsideOf, aligned, imageOf, outcome, counted, readingBy, readingFound, huntingReading}
+use Rattle.hunting.specs.Hunting.{Ending, whole, ended, prepend, step, last, gathering, outsideOf, aligned, imageOf, counted, readingBy, readingFound, huntingReading}
 use Rattle.hunting.specs.Laws.{image-more}
-use Rattle.hunting.specs.declared.Answer.the-variants.{Refused}
-use Rattle.refusals.specs.declared.Hunting.the-variants.{Nowhere}
+use Rattle.hunting.specs.Says.{nothing-found}
 use Rattle.writer.specs.Made.{Small, syncIn, wordIn, streamIn, framed, made, length-made, small-made, made-sync, made-word, made-stream}
 
 -- ---- places
@@ -47,9 +45,9 @@ length-row q zero = refl
 length-row q (suc n) = ap suc (length-row (q + multiframeBits) n)
 
 row-more : (q n : ℕ) → row q (suc n) ≡ row q n ++ (placeInRow q n ∷ [])
-row-more q zero = let z : q ≡ q + 1152 * 0 = omega arith in ap (λ (i : ℕ). i ∷ []) z
+row-more q zero = let z : q ≡ q + multiframeBits * 0 = omega arith in ap (λ (i : ℕ). i ∷ []) z
 row-more q (suc n) =
-    let z : q + 1152 + 1152 * n ≡ q + 1152 * suc n = omega arith in
+    let z : q + multiframeBits + multiframeBits * n ≡ q + multiframeBits * suc n = omega arith in
     ap (λ (l : List ℕ). q ∷ l) (row-more (q + multiframeBits) n) ∙ ap (λ (i : ℕ). q ∷ (row (q + multiframeBits) n ++ (i ∷ []))) z
 
 -- ---- what stands at a place: sixteen bits where the sync should be, the header's word, and the stream's bits
@@ -106,16 +104,11 @@ pub record InARow (l : List Bool) (from at least m : ℕ) : Type 0 where
   pub none-behind : (t : ℕ) → at + multiframeBits * m ≤ t → t + multiframeBits ≤ searched l → passes least l t ≡ false
 
 -- where no place passes, all are tested
-pub none-hunted : (l : List Bool) (from least : ℕ) → ((t : ℕ) → from ≤ t → t + multiframeBits ≤ searched l → passes least l t ≡ false)
-    → huntedFrom l from least ≡ H.Refused (HR.Nowhere from (placesLeft l from))
-none-hunted l from least none =
-    once least l from (huntedFrom l from least) (H.Refused (HR.Nowhere from (placesLeft l from))) (says least l from) (refl, none, refl)
-
 none-gathered : (l : List Bool) (from least k : ℕ) → ((t : ℕ) → from ≤ t → t + multiframeBits ≤ searched l → passes least l t ≡ false)
     → gathering l least k from ≡ ended whole (placesLeft l from)
 unfolding gathering
-none-gathered l from least zero none = ap last (none-hunted l from least none)
-none-gathered l from least (suc k) none = ap (λ (h : Hunted). step h (λ p. gathering l least k (p + multiframeBits))) (none-hunted l from least none)
+none-gathered l from least zero none = ap last (nowhere-exactly least l from .1 none)
+none-gathered l from least (suc k) none = nothing-found l least k from none
 
 -- the places tested where m multiframes stand in a row: those before, theirs, and those left behind
 abbrev pub testedInRow : List Bool → ℕ → ℕ → ℕ → ℕ
@@ -127,8 +120,8 @@ module _ (l : List Bool) (from at least m : ℕ) (r : InARow l from at least m) 
       → gathering l least (suc k) f ≡ prepend (placeInRow at j) (suc (placeInRow at j) - f) (gathering l least k (placeInRow at j + multiframeBits))
   unfolding gathering
   taken-next f j k h le none =
-      let p = at + 1152 * j in
-      let room : p + 1152 ≤ searched l = omega (arith, r .inside) in
+      let p = at + multiframeBits * j in
+      let room : p + multiframeBits ≤ searched l = omega (arith, r .inside) in
       ap (λ (x : Hunted). step x (λ p. gathering l least k (p + multiframeBits)))
       (once least l f (huntedFrom l f least) (H.Found p (suc p - f)) (says least l f) (le, room, r .stand j h, none, refl))
 
@@ -137,13 +130,13 @@ module _ (l : List Bool) (from at least m : ℕ) (r : InARow l from at least m) 
       → gathering l least k (placeInRow at j) ≡ record { places = row (placeInRow at j) n; ending = whole; tested = n + placesLeft l (at + multiframeBits * m) }
   found-on zero j k e h =
       let z : j ≡ m = omega arith in
-      ap (λ (i : ℕ). gathering l least k (at + 1152 * i)) z ∙ none-gathered l (at + 1152 * m) least k (r .none-behind)
+      ap (λ (i : ℕ). gathering l least k (at + multiframeBits * i)) z ∙ none-gathered l (at + multiframeBits * m) least k (r .none-behind)
       ∙ ap (λ (i : ℕ). record { places = []; ending = whole; tested = i }) (omega arith)
   found-on (suc n) j zero e h = absurd (omega arith)
   found-on (suc n) j (suc k) e h =
-      let p = at + 1152 * j in
-      let q : p + 1152 ≡ at + 1152 * (j + 1) = omega arith in
-      let c : suc p - p + (n + placesLeft l (at + 1152 * m)) ≡ suc n + placesLeft l (at + 1152 * m) = omega arith in
+      let p = at + multiframeBits * j in
+      let q : p + multiframeBits ≡ at + multiframeBits * (j + 1) = omega arith in
+      let c : suc p - p + (n + placesLeft l (at + multiframeBits * m)) ≡ suc n + placesLeft l (at + multiframeBits * m) = omega arith in
       taken-next p j k (omega arith) (omega arith) (λ t a b. absurd (omega arith))
       ∙ ap (λ (i : ℕ). prepend p (suc p - p) (gathering l least k i)) q ∙ ap (prepend p (suc p - p)) (found-on n (j + 1) k (omega arith) (omega arith))
       ∙ ap₂ (λ (x : List ℕ) (i : ℕ). record { places = p ∷ x; ending = whole; tested = i }) (ap (λ (i : ℕ). row i n) (sym q)) c
@@ -156,13 +149,13 @@ module _ (l : List Bool) (from at least m : ℕ) (r : InARow l from at least m) 
       by : (n : ℕ) → n ≡ m → gathering l least mostMultiframes from ≡ record { places = row at m; ending = whole; tested = testedInRow l from at m }
       by zero e = absurd (omega arith)
       by (suc n) e =
-          let z : at + 1152 * 0 ≡ at = omega arith in
-          let q : at + 1152 * 0 + 1152 ≡ at + 1152 * 1 = omega arith in
-          let w : at + 1152 * 1 ≡ at + 1152 = omega arith in
-          let c : suc (at + 1152 * 0) - from + (n + placesLeft l (at + 1152 * m)) ≡ at - from + m + placesLeft l (at + 1152 * m) = omega (arith, r .begins) in
+          let z : at + multiframeBits * 0 ≡ at = omega arith in
+          let q : at + multiframeBits * 0 + multiframeBits ≡ at + multiframeBits * 1 = omega arith in
+          let w : at + multiframeBits * 1 ≡ at + multiframeBits = omega arith in
+          let c : suc (at + multiframeBits * 0) - from + (n + placesLeft l (at + multiframeBits * m)) ≡ at - from + m + placesLeft l (at + multiframeBits * m) = omega (arith, r .begins) in
           taken-next from 0 254 (omega arith) (omega (arith, r .begins)) (λ t a b. r .none-before t a (omega arith))
-          ∙ ap (λ (i : ℕ). prepend (at + 1152 * 0) (suc (at + 1152 * 0) - from) (gathering l least 254 i)) q
-          ∙ ap (prepend (at + 1152 * 0) (suc (at + 1152 * 0) - from)) (found-on n 1 254 (omega arith) (omega arith))
+          ∙ ap (λ (i : ℕ). prepend (at + multiframeBits * 0) (suc (at + multiframeBits * 0) - from) (gathering l least 254 i)) q
+          ∙ ap (prepend (at + multiframeBits * 0) (suc (at + multiframeBits * 0) - from)) (found-on n 1 254 (omega arith) (omega arith))
           ∙ ap₂ (λ (x : List ℕ) (i : ℕ). record { places = x; ending = whole; tested = i })
           (ap₂ (λ (a b : ℕ). a ∷ row b n) z w ∙ ap (row at) e) c
 
@@ -188,11 +181,6 @@ module _ (s : List ℕ) (from least : ℕ) (codebook thresholds : List ℤ) (ind
       by (suc n) h =
           ap (λ (i : ℕ). counted (R.reading (imageOf s (row at (suc n))) codebook thresholds index report) (outsideOf (bits s) from i) (testedInRow (bits s) from at m)) (length-row at (suc n))
 
-  -- NOTHING FOUND: 22, and both buffers stay
-  pub nothing-found : ((t : ℕ) → from ≤ t → t + multiframeBits ≤ searched (bits s) → passes least (bits s) t ≡ false)
-      → huntingReading s from least codebook thresholds index report ≡ outcome (Refused (Nowhere from (placesLeft (bits s) from))) index report
-  nothing-found none = found-next [] whole (placesLeft (bits s) from) (none-gathered (bits s) from least mostMultiframes none)
-
 -- ---- put together on octets
 pub aligned-framed : (s : List ℕ) (p : ℕ) → p + multiframeBits ≤ length (bits s) → aligned s p ≡ framed (wordAt (bits s) p) (streamAt (bits s) p)
 unfolding aligned
@@ -204,8 +192,8 @@ aligned-framed s p room =
     take-add 32 1104 (drop (p + 16) l) ∙ ap (λ (x : List Bool). head ++ take 1104 x) (drop-drop 32 (p + 16) l) in
     let again : field 32 (value head) ≡ head = subst (λ (n : ℕ). field n (value head) ≡ head) size (field-value head) in
     ap (λ (x : List ℕ). (syncFirst ∷ syncSecond ∷ []) ++ x)
-    (ap (octets 142) parts ∙ octets-append 4 138 head (part (p + 16 + 32) 1104 l) size
-    ∙ ap (λ (x : List Bool). octets 4 x ++ octets 138 (part (p + 16 + 32) 1104 l)) (sym again))
+    (ap (octets 142) parts ∙ octets-append 4 streamOctets head (part (p + 16 + 32) 1104 l) size
+    ∙ ap (λ (x : List Bool). octets 4 x ++ octets streamOctets (part (p + 16 + 32) 1104 l)) (sym again))
 
 module _ (s : List ℕ) (at m : ℕ) (inside : at + multiframeBits * m ≤ searched (bits s)) where
   within : at + multiframeBits * m ≤ length (bits s)
@@ -222,7 +210,7 @@ module _ (s : List ℕ) (at m : ℕ) (inside : at + multiframeBits * m ≤ searc
   made-first zero h = refl
   made-first (suc n) h =
       ap (imageOf s) (row-more at n) ∙ image-more s (row at n) (placeInRow at n)
-      ∙ ap₂ (λ (x y : List ℕ). x ++ y) (made-first n (omega arith)) (aligned-framed s (at + 1152 * n) (omega (arith, within)))
+      ∙ ap₂ (λ (x y : List ℕ). x ++ y) (made-first n (omega arith)) (aligned-framed s (at + multiframeBits * n) (omega (arith, within)))
 
   -- PUT TOGETHER they are multiframes made of those headers and streams
   pub image-made : imageOf s (row at m) ≡ made (λ k. wordAt (bits s) (placeInRow at k)) (λ k. streamAt (bits s) (placeInRow at k)) m
@@ -240,11 +228,11 @@ module _ (s : List ℕ) (at m : ℕ) (inside : at + multiframeBits * m ≤ searc
 
     pub image-word : wordIn (imageOf s (row at m)) k ≡ wordAt (bits s) (placeInRow at k)
     image-word =
-        let size : length (part (at + 1152 * k + 16) 32 (bits s)) ≡ 32 = length-part (bits s) (at + 1152 * k + 16) 32 (omega (arith, within)) in
+        let size : length (part (at + multiframeBits * k + 16) 32 (bits s)) ≡ 32 = length-part (bits s) (at + multiframeBits * k + 16) 32 (omega (arith, within)) in
         ap (λ (x : List ℕ). wordIn x k) image-made
-        ∙ made-word words streams m k h (subst (λ (n : ℕ). words k < 2 ^ n) size (value-lt (part (at + 1152 * k + 16) 32 (bits s))))
+        ∙ made-word words streams m k h (subst (λ (n : ℕ). words k < 2 ^ n) size (value-lt (part (at + multiframeBits * k + 16) 32 (bits s))))
 
     pub image-stream : bits (streamIn (imageOf s (row at m)) k) ≡ streamAt (bits s) (placeInRow at k)
     image-stream =
         ap (λ (x : List ℕ). bits (streamIn x k)) image-made ∙ ap bits (made-stream words streams m k h)
-        ∙ bits-octets 138 (streams k) (length-part (bits s) (at + 1152 * k + 16 + 32) 1104 (omega (arith, within)))
+        ∙ bits-octets streamOctets (streams k) (length-part (bits s) (at + multiframeBits * k + 16 + 32) 1104 (omega (arith, within)))

@@ -15,9 +15,16 @@ frameIndices = 7
 abbrev pub frameBits : ℕ
 frameBits = 44
 
+-- the most that an index of 6 bits holds
+abbrev pub mostNarrow : ℕ
+mostNarrow = 63
+
 -- ---- the pair packet: frame, frame, CRC of 4 (01, "Pair packet")
 abbrev pub pairFrames : ℕ
 pairFrames = 2
+
+abbrev pub pairIndices : ℕ
+pairIndices = pairFrames * frameIndices
 
 abbrev pub crcBits : ℕ
 crcBits = 4

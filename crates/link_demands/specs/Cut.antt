@@ -8,7 +8,7 @@ use lib.IntN.{ℤ}
 use lib.ListN.{length, take, getD}
 use borrow.Author.Tests.{le-ltb}
 use Rattle.lists.specs.Parts.{over}
-use Rattle.layout.specs.Layout.{multiframePairs, multiframeFrames, multiframeOctets, mostMultiframes, inverseFirst, inverseSecond}
+use Rattle.layout.specs.Layout.{multiframePairs, multiframeFrames, multiframeOctets, mostMultiframes, reportOctets, inverseFirst, inverseSecond}
 use Rattle.cutting.specs.Cutting.{cutting, whole}
 use Rattle.reader.specs.Reading.{Outcome, reading}
 use Rattle.reader.specs.declared.Summary.{Summary}
@@ -63,7 +63,7 @@ module _ (codebook thresholds : List ℤ) (index report answer : List ℕ) where
       let t = take (multiframeOctets * k) s in
       let z = read-zero answer index report (reading t codebook thresholds index report) zero in
       let q = got-is t codebook thresholds index report answer (z .0) (z .1 .0) (z .1 .1) in
-      let p : 13 * ((12 * k - 1) / 12) + 1 + (12 * k - 1) % 12 ≡ 13 * (k - 1) + 1 + 11 = omega arith in
+      let p : reportOctets * ((multiframePairs * k - 1) / multiframePairs) + 1 + (multiframePairs * k - 1) % multiframePairs ≡ reportOctets * (k - 1) + 1 + 11 = omega arith in
       at t codebook thresholds index report answer (z .0) (z .1 .0) (z .1 .1) 5
       ∙ cut-off-told-damaged u s d k less codebook thresholds index report (z .1 .0) (z .1 .1)
       (ap (λ (x : Returned). pairNoteIn (x .report) (multiframePairs * k - 1)) (sym q) ∙ ap (λ (i : ℕ). getD (c t .report) i 0) p ∙ note)

@@ -64,17 +64,17 @@ pub record Tells (u : Utterance) (s : List ℕ) (codebook thresholds : List ℤ)
 
 -- octet i of a frame
 frame-octet : (l r : List ℕ) (f i : ℕ) → i < frameIndices → part (frameIndices * f) frameIndices l ≡ r → getD l (frameIndices * f + i) 0 ≡ getD r i 0
-frame-octet l r f i h e = sym (getD-take 7 (drop (7 * f) l) i 0 h ∙ getD-drop (7 * f) l i 0) ∙ ap (λ (x : List ℕ). getD x i 0) e
+frame-octet l r f i h e = sym (getD-take frameIndices (drop (frameIndices * f) l) i 0 h ∙ getD-drop (frameIndices * f) l i 0) ∙ ap (λ (x : List ℕ). getD x i 0) e
 
 -- every clause of N.Names, where the six numbers stand in the answer
 module _ (u : Utterance) (s : List ℕ) (codebook thresholds : List ℤ) (g : Summary) (answer index report : List ℕ) (n : N.Names u s codebook thresholds g index report) where
   there : (k j : ℕ) → j < multiframePairs → pairNoteIn report (multiframePairs * k + j) ≡ pairNoteAt report k j
   there k j h =
-      let d : 13 * ((12 * k + j) / 12) + 1 + (12 * k + j) % 12 ≡ 13 * k + 1 + j = omega arith in
+      let d : reportOctets * ((multiframePairs * k + j) / multiframePairs) + 1 + (multiframePairs * k + j) % multiframePairs ≡ reportOctets * k + 1 + j = omega arith in
       ap (λ (i : ℕ). getD report i 0) d
 
   frame-there : (f : ℕ) → pairNoteIn report (f / pairFrames) ≡ frameNoteAt report f
-  frame-there f = let d : 13 * (f / 2 / 12) + 1 + f / 2 % 12 ≡ 13 * (f / 24) + 1 + f / 2 % 12 = omega arith in ap (λ (i : ℕ). getD report i 0) d
+  frame-there f = let d : reportOctets * (f / 2 / multiframePairs) + 1 + f / 2 % multiframePairs ≡ reportOctets * (f / multiframeFrames) + 1 + f / 2 % multiframePairs = omega arith in ap (λ (i : ℕ). getD report i 0) d
 
   pub tells : (number : ℕ) → number ≡ 0 → getD answer 0 0 ≡ g .settings .rate → getD answer 1 0 ≡ g .settings .kind → getD answer 2 0 ≡ g .multiframes → getD answer 4 0 ≡ g .bad
       → Tells u s codebook thresholds number answer index report
@@ -85,14 +85,14 @@ module _ (u : Utterance) (s : List ℕ) (codebook thresholds : List ℤ) (g : Su
     multiframes = c ∙ n .multiframes;
     bad = subst (Count (BadPair u s codebook thresholds) (pairsOf u)) (sym d) (n .counted);
     damaged = λ k j h l.
-        let x = n .damaged (12 * k + j) (omega arith) in ((λ e. x .0 (there k j l ∙ e)), (λ t. sym (there k j l) ∙ x .1 t));
+        let x = n .damaged (multiframePairs * k + j) (omega arith) in ((λ e. x .0 (there k j l ∙ e)), (λ t. sym (there k j l) ∙ x .1 t));
     others = λ k j h l t.
-        let x = n .others (12 * k + j) (omega arith) t in ((λ e. x .0 (λ z. e (sym (there k j l) ∙ z))), (λ r z. x .1 r (there k j l ∙ z)));
-    ruled = λ k j h l t r. sym (there k j l) ∙ n .ruled (12 * k + j) (omega arith) t r;
+        let x = n .others (multiframePairs * k + j) (omega arith) t in ((λ e. x .0 (λ z. e (sym (there k j l) ∙ z))), (λ r z. x .1 r (there k j l ∙ z)));
+    ruled = λ k j h l t r. sym (there k j l) ∙ n .ruled (multiframePairs * k + j) (omega arith) t r;
     flips = n .flips;
     frames = λ f i h l z.
-        frame-octet index (part (7 * f) 7 (u .indices)) f i l (n .frames f h (frame-there f ∙ z)) ∙ getD-take 7 (drop (7 * f) (u .indices)) i 0 l ∙ getD-drop (7 * f) (u .indices) i 0;
-    padding = λ f i p h l z. frame-octet index (replicate 7 0) f i l (n .padding f p h (frame-there f ∙ z)) ∙ no-more 7 i;
+        frame-octet index (part (frameIndices * f) frameIndices (u .indices)) f i l (n .frames f h (frame-there f ∙ z)) ∙ getD-take frameIndices (drop (frameIndices * f) (u .indices)) i 0 l ∙ getD-drop (frameIndices * f) (u .indices) i 0;
+    padding = λ f i p h l z. frame-octet index (replicate frameIndices 0) f i l (n .padding f p h (frame-there f ∙ z)) ∙ no-more frameIndices i;
   }
 
 -- octets beyond both parts of a reading are as they came
@@ -232,7 +232,7 @@ module _ (u : Utterance) (s : List ℕ) (codebook thresholds : List ℤ) (index 
       let z = read-zero answer index report (reading s codebook thresholds index report) zero in
       let q = got-is s codebook thresholds index report answer (z .0) (z .1 .0) (z .1 .1) in
       let e = I.heard-if-read u s d codebook thresholds index report (z .1 .0) (z .1 .1) (λ i h.
-      ap (λ (x : Returned). pairNoteIn (x .report) i) (sym q) ∙ none (i / 12) (i % 12) (omega arith) (omega arith)) in (
+      ap (λ (x : Returned). pairNoteIn (x .report) i) (sym q) ∙ none (i / multiframePairs) (i % multiframePairs) (omega arith) (omega arith)) in (
         hears (over report 0 (reportOctets * multiframesOf u) (mendedReport u s)) (z .0) e,
         (λ k h. ap (λ (x : Returned). headerNoteAt (x .report) k) q ∙ ap (λ (x : Outcome). headerNoteAt (x .report) k) e ∙ header-octet k h),
       )
@@ -243,10 +243,10 @@ module _ (u : Utterance) (s : List ℕ) (codebook thresholds : List ℤ) (index 
       header-octet : (k : ℕ) → k < multiframesOf u → headerNoteAt (over report 0 (reportOctets * multiframesOf u) (mendedReport u s)) k ≡ headerFlips (imageOf u) s k
       header-octet k h =
           let r = mendedReport u s in
-          let z : 13 * k ≡ 13 * k + 0 = omega arith in
+          let z : reportOctets * k ≡ reportOctets * k + 0 = omega arith in
           let l = length-joined (λ k. headerFlips (imageOf u) s k ∷ replicate multiframePairs 0) reportOctets (multiframesOf u) sizes in
-          front-at report r (reportOctets * multiframesOf u) (13 * k) (omega arith) ∙ ap (λ (i : ℕ). getD r i 0) z
-          ∙ sym (getD-take 13 (drop (13 * k) r) 0 0 (omega arith) ∙ getD-drop (13 * k) r 0 0)
+          front-at report r (reportOctets * multiframesOf u) (reportOctets * k) (omega arith) ∙ ap (λ (i : ℕ). getD r i 0) z
+          ∙ sym (getD-take reportOctets (drop (reportOctets * k) r) 0 0 (omega arith) ∙ getD-drop (reportOctets * k) r 0 0)
           ∙ ap (λ (x : List ℕ). getD x 0 0) (joined-part (λ k. headerFlips (imageOf u) s k ∷ replicate multiframePairs 0) reportOctets (multiframesOf u) k sizes h)
 
   -- THE LAST MULTIFRAME WHOLLY UNNAMED at dsr_read: speech and end are those sent
@@ -257,8 +257,8 @@ module _ (u : Utterance) (s : List ℕ) (codebook thresholds : List ℤ) (index 
       let q = got-is s codebook thresholds index report answer (z .0) (z .1 .0) (z .1 .1) in
       let f = at s codebook thresholds index report answer (z .0) (z .1 .0) (z .1 .1) in
       let l = I.last-if-read u s d codebook thresholds index report (z .1 .0) (z .1 .1) (λ i b h.
-      let k : i / 12 ≡ multiframesOf u - 1 = omega arith in
-      ap (λ (x : Returned). pairNoteIn (x .report) i) (sym q) ∙ ap (λ (x : ℕ). pairNoteAt (c .report) x (i % 12)) k ∙ none (i % 12) (omega arith)) in
+      let k : i / multiframePairs ≡ multiframesOf u - 1 = omega arith in
+      ap (λ (x : Returned). pairNoteIn (x .report) i) (sym q) ∙ ap (λ (x : ℕ). pairNoteAt (c .report) x (i % multiframePairs)) k ∙ none (i % multiframePairs) (omega arith)) in
       (f 3 ∙ l .0, f 5 ∙ l .1)
 
 -- WHAT STAYS of any input that dsr_read answers with 0

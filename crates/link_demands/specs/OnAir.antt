@@ -121,13 +121,13 @@ module _ (u : Utterance) (s : List ℕ) (from at least : ℕ) (codebook threshol
         hears room g r refl (ap (λ (x : G.Outcome). x .index) q),
         (
           (λ k h.
-              let z : 13 * k ≡ 13 * k + 0 = omega arith in
-              ap (λ (x : BitsReturned). getD (x .report) (13 * k) 0) e ∙ ap (λ (x : G.Outcome). getD (x .report) (13 * k) 0) q ∙ ap (λ (i : ℕ). getD noted i 0) z ∙ note-octet k 0 h (omega arith)),
+              let z : reportOctets * k ≡ reportOctets * k + 0 = omega arith in
+              ap (λ (x : BitsReturned). getD (x .report) (reportOctets * k) 0) e ∙ ap (λ (x : G.Outcome). getD (x .report) (reportOctets * k) 0) q ∙ ap (λ (i : ℕ). getD noted i 0) z ∙ note-octet k 0 h (omega arith)),
           (
             (λ k j h l.
-                let z : 13 * k + 1 + j ≡ 13 * k + suc j = omega arith in
-                ap (λ (x : BitsReturned). getD (x .report) (13 * k + 1 + j) 0) e ∙ ap (λ (x : G.Outcome). getD (x .report) (13 * k + 1 + j) 0) q ∙ ap (λ (i : ℕ). getD noted i 0) z
-                ∙ note-octet k (suc j) h (omega arith) ∙ no-more 12 j),
+                let z : reportOctets * k + 1 + j ≡ reportOctets * k + suc j = omega arith in
+                ap (λ (x : BitsReturned). getD (x .report) (reportOctets * k + 1 + j) 0) e ∙ ap (λ (x : G.Outcome). getD (x .report) (reportOctets * k + 1 + j) 0) q ∙ ap (λ (i : ℕ). getD noted i 0) z
+                ∙ note-octet k (suc j) h (omega arith) ∙ no-more multiframePairs j),
             record {
               outside = ap (λ (x : BitsReturned). getD (x .answer) 6 0) e;
               tested = ap (λ (x : BitsReturned). getD (x .answer) 7 0) e;
@@ -146,8 +146,8 @@ module _ (u : Utterance) (s : List ℕ) (from at least : ℕ) (codebook threshol
       note-octet k j h l =
           let r = joined (λ k. receivedFlips u s at k ∷ replicate multiframePairs 0) (multiframesOf u) in
           let n = length-joined (λ k. receivedFlips u s at k ∷ replicate multiframePairs 0) reportOctets (multiframesOf u) (λ k h. refl) in
-          front-at report r (reportOctets * multiframesOf u) (13 * k + j) (omega arith)
-          ∙ sym (getD-take 13 (drop (13 * k) r) j 0 l ∙ getD-drop (13 * k) r j 0)
+          front-at report r (reportOctets * multiframesOf u) (reportOctets * k + j) (omega arith)
+          ∙ sym (getD-take reportOctets (drop (reportOctets * k) r) j 0 l ∙ getD-drop (reportOctets * k) r j 0)
           ∙ ap (λ (x : List ℕ). getD x j 0) (joined-part (λ k. receivedFlips u s at k ∷ replicate multiframePairs 0) reportOctets (multiframesOf u) k (λ k h. refl) h)
 
   -- A LIST WITHOUT A WARNING CAN BE TRUSTED at dsr_read_bits: 0 and all notes 0, and what stands there is the utterance as written

@@ -11,7 +11,7 @@ use lib.Count.{ones}
 use lib.Dec.{lit<, lit≤}
 use lib.ListN.{length, take, getD}
 use Rattle.lists.specs.Parts.{over}
-use Rattle.layout.specs.Layout.{packetBits, multiframeOctets, reportOctets}
+use Rattle.layout.specs.Layout.{packetBits, multiframePairs, multiframeOctets, reportOctets}
 use Rattle.hunt.specs.Hunt.{fewestMatches}
 use Rattle.reader.specs.Reading.{reading}
 use Rattle.reader.specs.declared.Summary.{Summary}
@@ -94,9 +94,9 @@ heard-told =
     let w = P.heard-met P.says48 (omega arith) zeroBook zeroThresholds index48 report48 (lent-zeros (multiframesOf P.says48)) in
     let e = got-is s zeroBook zeroThresholds index48 report48 six (lit≤ tt) (spoken P.says48) (P.heard-48 .succeeds) in
     c-heard-whole P.says48 s zeroBook zeroThresholds index48 report48 six (w .damage) (ap (λ (x : Returned). x .number) e) (λ k j h l.
-    let z : 13 * ((12 * k + j) / 12) + 1 + (12 * k + j) % 12 ≡ 13 * k + 1 + j = omega arith in
-    ap (λ (x : Returned). getD (x .report) (13 * k + 1 + j) 0) e ∙ ap (λ (i : ℕ). getD (reading s zeroBook zeroThresholds index48 report48 .report) i 0) (sym z)
-    ∙ P.none-named P.says48 (omega arith) zeroBook zeroThresholds index48 report48 (lent-zeros (multiframesOf P.says48)) (12 * k + j) (omega arith))
+    let z : reportOctets * ((multiframePairs * k + j) / multiframePairs) + 1 + (multiframePairs * k + j) % multiframePairs ≡ reportOctets * k + 1 + j = omega arith in
+    ap (λ (x : Returned). getD (x .report) (reportOctets * k + 1 + j) 0) e ∙ ap (λ (i : ℕ). getD (reading s zeroBook zeroThresholds index48 report48 .report) i 0) (sym z)
+    ∙ P.none-named P.says48 (omega arith) zeroBook zeroThresholds index48 report48 (lent-zeros (multiframesOf P.says48)) (multiframePairs * k + j) (omega arith))
 
 -- CUT OFF: the first of two multiframes alone is answered with 0 and end 0
 pub cut-told : dsrRead (take (multiframeOctets * 1) (imageOf ones24)) zeroBook zeroThresholds (indexFor 1) (reportFor 1) six .answer ≡ over six 0 answerNumbers (0 ∷ 0 ∷ 1 ∷ 24 ∷ 0 ∷ 0 ∷ [])

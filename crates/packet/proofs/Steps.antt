@@ -13,13 +13,13 @@ use lib.Pow.{pow-pos, shr-lt}
 use lib.ListN.{length, take, drop, getD, set, length-append, take-append-drop, replicate, length-replicate, replicate-append-replicate}
 use lib.Seq.{take-add, drop-drop, length-take-le, drop-at}
 use Rattle.lists.specs.Parts.{part, over, over-none, over-over, length-over, set-over, behind, length-part}
-use Rattle.layout.specs.Layout.{widths, frameIndices, frameBits, firstFrame, secondFrame}
+use Rattle.layout.specs.Layout.{widths, frameIndices, frameBits, mostNarrow, pairIndices, dataBits, packetBits, firstFrame, secondFrame}
 use Rattle.bits.specs.Bits.{bits, field, value, laid, numbers, octets, total}
 use Rattle.bits.specs.Laws.{length-field, field-value, field-add, field-low, take-field, field-part, value-field, value-lt, length-laid, length-numbers, laid-append, laid-one, numbers-more, numbers-front, total-same, octets-append, length-octets, joined, joined-lt, word-add, in-word}
 use Rattle.crc.specs.Crc.{Rem, crc, code, coded, none, sent, fedAll, right}
 use Rattle.crc.specs.Laws.{crc-fed, fed-append, length-sent}
 use Rattle.crc.proofs.Register.{coded-code, right-test, code-lt}
-use Rattle.packet.specs.Packet.{frame, indices, guarded, packet, apart, row, frameAt, packetOf, stream}
+use Rattle.packet.specs.Packet.{restBits, secondBits, twoPackets, frame, indices, guarded, packet, apart, row, frameAt, packetOf, stream}
 use Rattle.packet.specs.Laws.{length-frame, total-widths, length-row, row-past, length-stream, stream-add}
 
 -- ---- a frame as a word
@@ -43,12 +43,12 @@ length-sixes : (n : ℕ) (f : List ℕ) → length (laid (replicate n 6) f) ≡ 
 length-sixes n f = length-laid (replicate n 6) f ∙ total-same n 6
 
 pub frame-more : (idx : List ℕ) (at n x v : ℕ) → n < 6 → v ≡ getD idx (at + n) 0 → x ≡ value (laid (replicate n 6) (row idx at n))
-    → bitOr x (bitAnd v 63 * 2 ^ (6 * n) % 2 ^ 64) ≡ value (laid (replicate (n + 1) 6) (row idx at (n + 1)))
+    → bitOr x (bitAnd v mostNarrow * 2 ^ (6 * n) % 2 ^ 64) ≡ value (laid (replicate (n + 1) 6) (row idx at (n + 1)))
 frame-more idx at n x v hn ev ex =
     let l = laid (replicate n 6) (row idx at n) in
     let room : 6 + 6 * n ≤ 64 = omega arith in
-    let b : field 6 (bitAnd v 63) ≡ field 6 (getD idx (at + n) 0) = ap (field 6) (and-mask v 6) ∙ field-low 6 v ∙ ap (field 6) ev in
-    word-add l (6 * n) 6 x (bitAnd v 63) (length-sixes n (row idx at n)) room ex (mask-lt v 6)
+    let b : field 6 (bitAnd v mostNarrow) ≡ field 6 (getD idx (at + n) 0) = ap (field 6) (and-mask v 6) ∙ field-low 6 v ∙ ap (field 6) ev in
+    word-add l (6 * n) 6 x (bitAnd v mostNarrow) (length-sixes n (row idx at n)) room ex (mask-lt v 6)
     ∙ ap value
     (ap (λ (m : List Bool). l ++ m) b ∙ laid-more (replicate n 6) 6 idx at n (length-replicate n 6)
     ∙ ap (λ (ws : List ℕ). laid ws (row idx at (n + 1))) (replicate-append-replicate n 1 6))
@@ -78,16 +78,16 @@ fed-two y z c l m ec ey ez =
     let e : coded y ≡ f = ap coded ey ∙ ap (λ (r : Rem). coded (code (fedAll r l))) (ap coded ec ∙ coded-code none) ∙ coded-code f in
     ez ∙ ap code (ap (λ (r : Rem). fedAll r m) e ∙ sym (fed-append none l m))
 
-pub crc-law : (a b c y z : ℕ) → a < 2 ^ 44 → c ≡ code none → y ≡ code (fedAll (coded c) (field 40 a))
-    → z ≡ code (fedAll (coded y) (field 48 (bitOr (a / 2 ^ 40) (b * 2 ^ 4 % 2 ^ 64)))) → z ≡ code (crc (field 44 a ++ field 44 b))
+pub crc-law : (a b c y z : ℕ) → a < 2 ^ frameBits → c ≡ code none → y ≡ code (fedAll (coded c) (field 40 a))
+    → z ≡ code (fedAll (coded y) (field secondBits (bitOr (a / 2 ^ 40) (b * 2 ^ 4 % 2 ^ 64)))) → z ≡ code (crc (field frameBits a ++ field frameBits b))
 crc-law a b c y z ha ec ey ez =
     let h : a / 2 ^ 40 < 2 ^ 4 = shr-lt 4 40 ha in
-    fed-two y z c (field 40 a) (field 48 (bitOr (a / 2 ^ 40) (b * 2 ^ 4 % 2 ^ 64))) ec ey ez
+    fed-two y z c (field 40 a) (field secondBits (bitOr (a / 2 ^ 40) (b * 2 ^ 4 % 2 ^ 64))) ec ey ez
     ∙ ap code
-    (crc-fed (field 40 a ++ field 48 (bitOr (a / 2 ^ 40) (b * 2 ^ 4 % 2 ^ 64)))
+    (crc-fed (field 40 a ++ field secondBits (bitOr (a / 2 ^ 40) (b * 2 ^ 4 % 2 ^ 64)))
     ∙ ap crc
-    (ap (λ (l : List Bool). field 40 a ++ l) (joined 4 44 (a / 2 ^ 40) b (lit≤ tt) h) ∙ sym (append-assoc (field 40 a) (field 4 (a / 2 ^ 40)) (field 44 b))
-    ∙ ap (λ (l : List Bool). l ++ field 44 b) (sym (field-add 40 4 a))))
+    (ap (λ (l : List Bool). field 40 a ++ l) (joined 4 frameBits (a / 2 ^ 40) b (lit≤ tt) h) ∙ sym (append-assoc (field 40 a) (field 4 (a / 2 ^ 40)) (field frameBits b))
+    ∙ ap (λ (l : List Bool). l ++ field frameBits b) (sym (field-add 40 4 a))))
 
 -- ---- a packet as a word of 64 bits and 28 more
 code-field : (r : Rem) → field 4 (code r) ≡ sent r
@@ -95,44 +95,44 @@ code-field r = ap (λ (n : ℕ). field n (code r)) (sym (length-sent r)) ∙ fie
 
 pub pack-law : (idx : List ℕ) (q a b c : ℕ) → a ≡ value (frame widths (frameAt idx (firstFrame q))) → b ≡ value (frame widths (frameAt idx (secondFrame q)))
     → c ≡ code (crc (field frameBits a ++ field frameBits b))
-    → field 64 (bitOr a (b * 2 ^ 44 % 2 ^ 64)) ++ field 28 (bitOr (b / 2 ^ 20) (c * 2 ^ 24 % 2 ^ 64)) ≡ packetOf idx q
+    → field 64 (bitOr a (b * 2 ^ frameBits % 2 ^ 64)) ++ field restBits (bitOr (b / 2 ^ 20) (c * 2 ^ 24 % 2 ^ 64)) ≡ packetOf idx q
 unfolding packetOf packet guarded
 pack-law idx q a b c ea eb ec =
     let f = frameAt idx (firstFrame q) in
     let g = frameAt idx (secondFrame q) in
-    let ha : a < 2 ^ 44 = word-small f a ea in
+    let ha : a < 2 ^ frameBits = word-small f a ea in
     let hb : b / 2 ^ 20 < 2 ^ 24 = shr-lt 24 20 (word-small g b eb) in
-    let fa : field 44 a ≡ frame widths f = word-frame f a ea in
-    let fb : field 44 b ≡ frame widths g = word-frame g b eb in
+    let fa : field frameBits a ≡ frame widths f = word-frame f a ea in
+    let fb : field frameBits b ≡ frame widths g = word-frame g b eb in
     let d = frame widths f ++ frame widths g in
     let fc : field 4 c ≡ sent (crc d) = ap (field 4) (ec ∙ ap₂ (λ (x y : List Bool). code (crc (x ++ y))) fa fb) ∙ code-field (crc d) in
-    ap₂ (λ (x y : List Bool). x ++ y) (joined 44 20 a b (lit≤ tt) ha) (joined 24 4 (b / 2 ^ 20) c (lit≤ tt) hb)
-    ∙ append-assoc (field 44 a) (field 20 b) (field 24 (b / 2 ^ 20) ++ field 4 c)
-    ∙ ap (λ (x : List Bool). field 44 a ++ x) (sym (append-assoc (field 20 b) (field 24 (b / 2 ^ 20)) (field 4 c)) ∙ ap (λ (x : List Bool). x ++ field 4 c) (sym (field-add 20 24 b)))
+    ap₂ (λ (x y : List Bool). x ++ y) (joined frameBits 20 a b (lit≤ tt) ha) (joined 24 4 (b / 2 ^ 20) c (lit≤ tt) hb)
+    ∙ append-assoc (field frameBits a) (field 20 b) (field 24 (b / 2 ^ 20) ++ field 4 c)
+    ∙ ap (λ (x : List Bool). field frameBits a ++ x) (sym (append-assoc (field 20 b) (field 24 (b / 2 ^ 20)) (field 4 c)) ∙ ap (λ (x : List Bool). x ++ field 4 c) (sym (field-add 20 24 b)))
     ∙ ap₂ (λ (x y : List Bool). x ++ y) fa (ap₂ (λ (x y : List Bool). x ++ y) fb fc) ∙ sym (append-assoc (frame widths f) (frame widths g) (sent (crc d)))
 
 pub high-small : (idx : List ℕ) (q b c : ℕ) (r : Rem) → b ≡ value (frame widths (frameAt idx (secondFrame q))) → c ≡ code r
-    → bitOr (b / 2 ^ 20) (c * 2 ^ 24 % 2 ^ 64) < 2 ^ 28
+    → bitOr (b / 2 ^ 20) (c * 2 ^ 24 % 2 ^ 64) < 2 ^ restBits
 high-small idx q b c r eb ec =
     let hb : b / 2 ^ 20 < 2 ^ 24 = shr-lt 24 20 (word-small (frameAt idx (secondFrame q)) b eb) in
     let hc : c < 2 ^ 4 = subst (λ (n : ℕ). n < 2 ^ 4) (sym ec) (code-lt r) in
     joined-lt 24 4 (b / 2 ^ 20) c (lit≤ tt) hb hc
 
 -- ---- two packets as 23 octets, by three words
-pub two-words : (a b c d : ℕ) → b < 2 ^ 28 → c < 2 ^ 64
-    → octets 23 ((field 64 a ++ field 28 b) ++ (field 64 c ++ field 28 d))
-    ≡ octets 8 (field 64 a) ++ (octets 8 (field 64 (bitOr b (c * 2 ^ 28 % 2 ^ 64))) ++ octets 7 (field 56 (bitOr (c / 2 ^ 36) (d * 2 ^ 28 % 2 ^ 64))))
+pub two-words : (a b c d : ℕ) → b < 2 ^ restBits → c < 2 ^ 64
+    → octets twoPackets ((field 64 a ++ field restBits b) ++ (field 64 c ++ field restBits d))
+    ≡ octets 8 (field 64 a) ++ (octets 8 (field 64 (bitOr b (c * 2 ^ restBits % 2 ^ 64))) ++ octets 7 (field 56 (bitOr (c / 2 ^ 36) (d * 2 ^ restBits % 2 ^ 64))))
 two-words a b c d hb hc =
-    let v = bitOr b (c * 2 ^ 28 % 2 ^ 64) in
-    let w = bitOr (c / 2 ^ 36) (d * 2 ^ 28 % 2 ^ 64) in
-    let hw : c / 2 ^ 36 < 2 ^ 28 = shr-lt 28 36 hc in
-    let ev : field 64 v ≡ field 28 b ++ field 36 c = joined 28 36 b c (lit≤ tt) hb in
-    let ew : field 56 w ≡ field 28 (c / 2 ^ 36) ++ field 28 d = joined 28 28 (c / 2 ^ 36) d (lit≤ tt) hw in
-    let e : (field 64 a ++ field 28 b) ++ (field 64 c ++ field 28 d) ≡ field 64 a ++ (field 64 v ++ field 56 w) =
-    ap (λ (x : List Bool). (field 64 a ++ field 28 b) ++ (x ++ field 28 d)) (field-add 36 28 c)
-    ∙ simp append-assoc (ap (λ (x : List Bool). field 64 a ++ x) (regroup (field 28 b) (field 36 c) (field 28 (c / 2 ^ 36)) (field 28 d)
+    let v = bitOr b (c * 2 ^ restBits % 2 ^ 64) in
+    let w = bitOr (c / 2 ^ 36) (d * 2 ^ restBits % 2 ^ 64) in
+    let hw : c / 2 ^ 36 < 2 ^ restBits = shr-lt restBits 36 hc in
+    let ev : field 64 v ≡ field restBits b ++ field 36 c = joined restBits 36 b c (lit≤ tt) hb in
+    let ew : field 56 w ≡ field restBits (c / 2 ^ 36) ++ field restBits d = joined restBits restBits (c / 2 ^ 36) d (lit≤ tt) hw in
+    let e : (field 64 a ++ field restBits b) ++ (field 64 c ++ field restBits d) ≡ field 64 a ++ (field 64 v ++ field 56 w) =
+    ap (λ (x : List Bool). (field 64 a ++ field restBits b) ++ (x ++ field restBits d)) (field-add 36 restBits c)
+    ∙ simp append-assoc (ap (λ (x : List Bool). field 64 a ++ x) (regroup (field restBits b) (field 36 c) (field restBits (c / 2 ^ 36)) (field restBits d)
     ∙ ap₂ (λ (x y : List Bool). x ++ y) (sym ev) (sym ew))) in
-    ap (octets 23) e ∙ octets-append 8 15 (field 64 a) (field 64 v ++ field 56 w) (length-field 64 a)
+    ap (octets twoPackets) e ∙ octets-append 8 15 (field 64 a) (field 64 v ++ field 56 w) (length-field 64 a)
     ∙ ap (λ (x : List ℕ). octets 8 (field 64 a) ++ x) (octets-append 8 7 (field 64 v) (field 56 w) (length-field 64 v))
   where
     regroup : (p q r s : List Bool) → p ++ (q ++ (r ++ s)) ≡ (p ++ q) ++ (r ++ s)
@@ -143,40 +143,40 @@ unfolding stream
 two-packets idx q = ap (λ (n : ℕ). packetOf idx n ++ packetOf idx (q + 1)) (add-zero q)
 
 -- three stores behind each other
-pub put-two-law : (l : List ℕ) (at : ℕ) (idx : List ℕ) (q a b c d : ℕ) {m n o : List ℕ} → at + 23 ≤ length l → b < 2 ^ 28 → c < 2 ^ 64
-    → field 64 a ++ field 28 b ≡ packetOf idx q → field 64 c ++ field 28 d ≡ packetOf idx (q + 1)
-    → m ≡ over l at 8 (octets 8 (field 64 a)) → n ≡ over m (at + 8) 8 (octets 8 (field 64 (bitOr b (c * 2 ^ 28 % 2 ^ 64))))
-    → o ≡ over n (at + 16) 7 (octets 7 (field 56 (bitOr (c / 2 ^ 36) (d * 2 ^ 28 % 2 ^ 64)))) → o ≡ over l at 23 (octets 23 (stream idx q 2))
+pub put-two-law : (l : List ℕ) (at : ℕ) (idx : List ℕ) (q a b c d : ℕ) {m n o : List ℕ} → at + twoPackets ≤ length l → b < 2 ^ restBits → c < 2 ^ 64
+    → field 64 a ++ field restBits b ≡ packetOf idx q → field 64 c ++ field restBits d ≡ packetOf idx (q + 1)
+    → m ≡ over l at 8 (octets 8 (field 64 a)) → n ≡ over m (at + 8) 8 (octets 8 (field 64 (bitOr b (c * 2 ^ restBits % 2 ^ 64))))
+    → o ≡ over n (at + 16) 7 (octets 7 (field 56 (bitOr (c / 2 ^ 36) (d * 2 ^ restBits % 2 ^ 64)))) → o ≡ over l at twoPackets (octets twoPackets (stream idx q 2))
 put-two-law l at idx q a b c d {m} {n} {o} room hb hc ep eq em en eo =
     let f = octets 8 (field 64 a) in
-    let g = octets 8 (field 64 (bitOr b (c * 2 ^ 28 % 2 ^ 64))) in
-    let h = octets 7 (field 56 (bitOr (c / 2 ^ 36) (d * 2 ^ 28 % 2 ^ 64))) in
+    let g = octets 8 (field 64 (bitOr b (c * 2 ^ restBits % 2 ^ 64))) in
+    let h = octets 7 (field 56 (bitOr (c / 2 ^ 36) (d * 2 ^ restBits % 2 ^ 64))) in
     let h8 : at + 8 ≤ length l = omega arith in
     let h16 : at + 16 ≤ length l = omega arith in
     let lf : length f ≡ 8 = length-octets 8 (field 64 a) in
-    let lg : length g ≡ 8 = length-octets 8 (field 64 (bitOr b (c * 2 ^ 28 % 2 ^ 64))) in
+    let lg : length g ≡ 8 = length-octets 8 (field 64 (bitOr b (c * 2 ^ restBits % 2 ^ 64))) in
     let lfg : length (f ++ g) ≡ 16 = rw (length-append, lf, lg) in
     let e : n ≡ over l at 16 (f ++ g) = behind l at 8 8 f g h8 lf em en in
     behind l at 16 7 (f ++ g) h h16 lfg e eo
-    ∙ ap (over l at 23)
-    (append-assoc f g h ∙ sym (two-words a b c d hb hc) ∙ ap (octets 23) (ap₂ (λ (x y : List Bool). x ++ y) ep eq ∙ sym (two-packets idx q)))
+    ∙ ap (over l at twoPackets)
+    (append-assoc f g h ∙ sym (two-words a b c d hb hc) ∙ ap (octets twoPackets) (ap₂ (λ (x y : List Bool). x ++ y) ep eq ∙ sym (two-packets idx q)))
 
 -- ---- the stream, two packets at a time
 pub stream-none : (idx : List ℕ) (q : ℕ) (l : List ℕ) (at : ℕ) → l ≡ over l at 0 (octets 0 (stream idx q 0))
 unfolding numbers
 stream-none idx q l at = over-none l at
 
-pub stream-more : (idx : List ℕ) (q g : ℕ) (l : List ℕ) (at : ℕ) {m n : List ℕ} → at + 23 * g ≤ length l
-    → m ≡ over l at (23 * g) (octets (23 * g) (stream idx q (2 * g))) → n ≡ over m (at + 23 * g) 23 (octets 23 (stream idx (q + 2 * g) 2))
-    → n ≡ over l at (23 * (g + 1)) (octets (23 * (g + 1)) (stream idx q (2 * (g + 1))))
+pub stream-more : (idx : List ℕ) (q g : ℕ) (l : List ℕ) (at : ℕ) {m n : List ℕ} → at + twoPackets * g ≤ length l
+    → m ≡ over l at (twoPackets * g) (octets (twoPackets * g) (stream idx q (2 * g))) → n ≡ over m (at + twoPackets * g) twoPackets (octets twoPackets (stream idx (q + 2 * g) 2))
+    → n ≡ over l at (twoPackets * (g + 1)) (octets (twoPackets * (g + 1)) (stream idx q (2 * (g + 1))))
 stream-more idx q g l at {m} {n} room em en =
     let x = stream idx q (2 * g) in
     let y = stream idx (q + 2 * g) 2 in
-    let lx : length x ≡ 8 * (23 * g) = length-stream idx q (2 * g) ∙ omega arith in
-    let e : 23 * g + 23 ≡ 23 * (g + 1) = omega arith in
+    let lx : length x ≡ 8 * (twoPackets * g) = length-stream idx q (2 * g) ∙ omega arith in
+    let e : twoPackets * g + twoPackets ≡ twoPackets * (g + 1) = omega arith in
     let s : 2 * g + 2 ≡ 2 * (g + 1) = omega arith in
-    behind l at (23 * g) 23 (octets (23 * g) x) (octets 23 y) room (length-octets (23 * g) x) em en
-    ∙ ap (over l at (23 * g + 23)) (sym (octets-append (23 * g) 23 x y lx) ∙ ap (octets (23 * g + 23)) (sym (stream-add idx q (2 * g) 2) ∙ ap (stream idx q) s))
+    behind l at (twoPackets * g) twoPackets (octets (twoPackets * g) x) (octets twoPackets y) room (length-octets (twoPackets * g) x) em en
+    ∙ ap (over l at (twoPackets * g + twoPackets)) (sym (octets-append (twoPackets * g) twoPackets x y lx) ∙ ap (octets (twoPackets * g + twoPackets)) (sym (stream-add idx q (2 * g) 2) ∙ ap (stream idx q) s))
     ∙ ap (λ (k : ℕ). over l at k (octets k (stream idx q (2 * (g + 1))))) e
 
 -- ---- reading: bits of a word
@@ -194,23 +194,23 @@ zeros-fed : (l : List Bool) → fedAll none (field 4 0 ++ l) ≡ fedAll none l
 unfolding fedAll field xor
 zeros-fed l = refl
 
-shifted-four : (a : ℕ) → field 48 (a * 2 ^ 4 % 2 ^ 64) ≡ field 4 0 ++ field 44 a
-shifted-four a = ap (field 48) (sym (or-zero-l (a * 2 ^ 4 % 2 ^ 64))) ∙ joined 4 44 0 a (lit≤ tt) (lit< tt)
+shifted-four : (a : ℕ) → field secondBits (a * 2 ^ 4 % 2 ^ 64) ≡ field 4 0 ++ field frameBits a
+shifted-four a = ap (field secondBits) (sym (or-zero-l (a * 2 ^ 4 % 2 ^ 64))) ∙ joined 4 frameBits 0 a (lit≤ tt) (lit< tt)
 
-pub right-law : (l : List Bool) (at a b c y z : ℕ) → at + 92 ≤ length l → a ≡ value (part at 44 l) → b ≡ value (part (at + 44) 48 l) → c ≡ code none
-    → y ≡ code (fedAll (coded c) (field 48 (a * 2 ^ 4 % 2 ^ 64))) → z ≡ code (fedAll (coded y) (field 48 b)) → eqb z 0 ≡ right 88 (part at 92 l)
+pub right-law : (l : List Bool) (at a b c y z : ℕ) → at + packetBits ≤ length l → a ≡ value (part at frameBits l) → b ≡ value (part (at + frameBits) secondBits l) → c ≡ code none
+    → y ≡ code (fedAll (coded c) (field secondBits (a * 2 ^ 4 % 2 ^ 64))) → z ≡ code (fedAll (coded y) (field secondBits b)) → eqb z 0 ≡ right dataBits (part at packetBits l)
 right-law l at a b c y z room ea eb ec ey ez =
-    let p = part at 92 l in
-    let ra : at + 44 ≤ length l = omega arith in
-    let rb : at + 44 + 48 ≤ length l = omega arith in
-    let ep : field 44 a ++ field 48 b ≡ p =
-    ap₂ (λ (x w : List Bool). x ++ w) (part-field l at 44 a ra ea) (part-field l (at + 44) 48 b rb eb)
-    ∙ ap (λ (m : List Bool). part at 44 l ++ take 48 m) (sym (drop-drop 44 at l)) ∙ sym (take-add 44 48 (drop at l)) in
+    let p = part at packetBits l in
+    let ra : at + frameBits ≤ length l = omega arith in
+    let rb : at + frameBits + secondBits ≤ length l = omega arith in
+    let ep : field frameBits a ++ field secondBits b ≡ p =
+    ap₂ (λ (x w : List Bool). x ++ w) (part-field l at frameBits a ra ea) (part-field l (at + frameBits) secondBits b rb eb)
+    ∙ ap (λ (m : List Bool). part at frameBits l ++ take secondBits m) (sym (drop-drop frameBits at l)) ∙ sym (take-add frameBits secondBits (drop at l)) in
     let e : z ≡ code (fedAll none p) =
-    fed-two y z c (field 48 (a * 2 ^ 4 % 2 ^ 64)) (field 48 b) ec ey ez
-    ∙ ap (λ (m : List Bool). code (fedAll none m)) (ap (λ (m : List Bool). m ++ field 48 b) (shifted-four a) ∙ append-assoc (field 4 0) (field 44 a) (field 48 b))
-    ∙ ap code (zeros-fed (field 44 a ++ field 48 b) ∙ ap (fedAll none) ep) in
-    ap (λ (n : ℕ). eqb n 0) e ∙ right-test 88 p (length-part l at 92 room)
+    fed-two y z c (field secondBits (a * 2 ^ 4 % 2 ^ 64)) (field secondBits b) ec ey ez
+    ∙ ap (λ (m : List Bool). code (fedAll none m)) (ap (λ (m : List Bool). m ++ field secondBits b) (shifted-four a) ∙ append-assoc (field 4 0) (field frameBits a) (field secondBits b))
+    ∙ ap code (zeros-fed (field frameBits a ++ field secondBits b) ∙ ap (fedAll none) ep) in
+    ap (λ (n : ℕ). eqb n 0) e ∙ right-test dataBits p (length-part l at packetBits room)
 
 -- ---- a frame taken apart
 pub take-none : (l : List ℕ) (to : ℕ) (m : List Bool) → l ≡ over l to 0 (numbers (replicate 0 6) m)
@@ -220,61 +220,61 @@ take-none l to m = over-none l to
 number-at : (j w k v : ℕ) → k + v ≤ j → bitAnd (w / 2 ^ k) (2 ^ v - 1) ≡ value (part k v (field j w))
 number-at j w k v h = and-mask (w / 2 ^ k) v ∙ sym (ap value (field-part j w k v h) ∙ value-field v (w / 2 ^ k))
 
-take-one : (ws : List ℕ) (v : ℕ) (l : List ℕ) (to n w : ℕ) {m : List ℕ} → length ws ≡ n → total ws + v ≤ 44 → to + n < length l
-    → m ≡ over l to n (numbers ws (field 44 w)) → set m (to + n) (bitAnd (w / 2 ^ total ws) (2 ^ v - 1)) ≡ over l to (n + 1) (numbers (ws ++ (v ∷ [])) (field 44 w))
+take-one : (ws : List ℕ) (v : ℕ) (l : List ℕ) (to n w : ℕ) {m : List ℕ} → length ws ≡ n → total ws + v ≤ frameBits → to + n < length l
+    → m ≡ over l to n (numbers ws (field frameBits w)) → set m (to + n) (bitAnd (w / 2 ^ total ws) (2 ^ v - 1)) ≡ over l to (n + 1) (numbers (ws ++ (v ∷ [])) (field frameBits w))
 take-one ws v l to n w {m} hn hv room em =
-    let f = numbers ws (field 44 w) in
-    let x = value (part (total ws) v (field 44 w)) in
+    let f = numbers ws (field frameBits w) in
+    let x = value (part (total ws) v (field frameBits w)) in
     let r : to + n ≤ length l = omega arith in
-    let lf : length f ≡ n = length-numbers ws (field 44 w) ∙ hn in
+    let lf : length f ≡ n = length-numbers ws (field frameBits w) ∙ hn in
     let lo : to + n < length (over l to n f) = rw (length-over l f to n r lf) room in
-    ap₂ (λ (y : List ℕ) (z : ℕ). set y (to + n) z) em (number-at 44 w (total ws) v hv) ∙ set-over (over l to n f) (to + n) x lo
-    ∙ over-over l f to n r lf 1 (x ∷ []) ∙ ap (over l to (n + 1)) (sym (numbers-more ws v (field 44 w)))
+    ap₂ (λ (y : List ℕ) (z : ℕ). set y (to + n) z) em (number-at frameBits w (total ws) v hv) ∙ set-over (over l to n f) (to + n) x lo
+    ∙ over-over l f to n r lf 1 (x ∷ []) ∙ ap (over l to (n + 1)) (sym (numbers-more ws v (field frameBits w)))
 
-pub take-more : (l : List ℕ) (to n w : ℕ) {m : List ℕ} → n < 6 → to + n < length l → m ≡ over l to n (numbers (replicate n 6) (field 44 w))
-    → set m (to + n) (bitAnd (w / 2 ^ (6 * n)) 63) ≡ over l to (n + 1) (numbers (replicate (n + 1) 6) (field 44 w))
+pub take-more : (l : List ℕ) (to n w : ℕ) {m : List ℕ} → n < 6 → to + n < length l → m ≡ over l to n (numbers (replicate n 6) (field frameBits w))
+    → set m (to + n) (bitAnd (w / 2 ^ (6 * n)) mostNarrow) ≡ over l to (n + 1) (numbers (replicate (n + 1) 6) (field frameBits w))
 take-more l to n w {m} hn room em =
     let t : total (replicate n 6) ≡ 6 * n = total-same n 6 in
-    let hv : total (replicate n 6) + 6 ≤ 44 = rw t (omega arith) in
-    ap (λ (k : ℕ). set m (to + n) (bitAnd (w / 2 ^ k) 63)) (sym t) ∙ take-one (replicate n 6) 6 l to n w (length-replicate n 6) hv room em
-    ∙ ap (λ (ws : List ℕ). over l to (n + 1) (numbers ws (field 44 w))) (replicate-append-replicate n 1 6)
+    let hv : total (replicate n 6) + 6 ≤ frameBits = rw t (omega arith) in
+    ap (λ (k : ℕ). set m (to + n) (bitAnd (w / 2 ^ k) mostNarrow)) (sym t) ∙ take-one (replicate n 6) 6 l to n w (length-replicate n 6) hv room em
+    ∙ ap (λ (ws : List ℕ). over l to (n + 1) (numbers ws (field frameBits w))) (replicate-append-replicate n 1 6)
 
-pub take-last : (l : List ℕ) (to w : ℕ) {m : List ℕ} → to + 6 < length l → m ≡ over l to 6 (numbers (replicate 6 6) (field 44 w))
+pub take-last : (l : List ℕ) (to w : ℕ) {m : List ℕ} → to + 6 < length l → m ≡ over l to 6 (numbers (replicate 6 6) (field frameBits w))
     → set m (to + 6) (bitAnd (w / 2 ^ 36) 255) ≡ over l to frameIndices (indices widths (field frameBits w))
 unfolding total
 take-last l to w room em = take-one (replicate 6 6) 8 l to 6 w refl (lit≤ tt) room em
 
 -- the frame in a word of at least its bits
-front-word : (l : List Bool) (w : ℕ) → w ≡ value l → 44 ≤ length l → indices widths (field 44 w) ≡ indices widths l
+front-word : (l : List Bool) (w : ℕ) → w ≡ value l → frameBits ≤ length l → indices widths (field frameBits w) ≡ indices widths l
 front-word l w e h =
-    let k = length l - 44 in
-    let n : 44 + k ≡ length l = omega arith in
-    let t : field 44 w ≡ take 44 l = sym (take-field 44 k w) ∙ ap (take 44) (ap₂ field n e ∙ field-value l) in
-    let z : length (take 44 l) ≡ total widths = length-take-le 44 l h ∙ sym total-widths in
-    ap (indices widths) t ∙ sym (ap (indices widths) (sym (take-append-drop 44 l)) ∙ numbers-front widths (take 44 l) (drop 44 l) z)
+    let k = length l - frameBits in
+    let n : frameBits + k ≡ length l = omega arith in
+    let t : field frameBits w ≡ take frameBits l = sym (take-field frameBits k w) ∙ ap (take frameBits) (ap₂ field n e ∙ field-value l) in
+    let z : length (take frameBits l) ≡ total widths = length-take-le frameBits l h ∙ sym total-widths in
+    ap (indices widths) t ∙ sym (ap (indices widths) (sym (take-append-drop frameBits l)) ∙ numbers-front widths (take frameBits l) (drop frameBits l) z)
 
-pub apart-law : (l : List Bool) (at a b : ℕ) (s : List ℕ) (to : ℕ) {m n : List ℕ} → at + 92 ≤ length l → to + 14 ≤ length s
-    → a ≡ value (part at 44 l) → b ≡ value (part (at + 44) 48 l)
-    → m ≡ over s to 7 (indices widths (field 44 a)) → n ≡ over m (to + 7) 7 (indices widths (field 44 b)) → n ≡ over s to 14 (apart widths (part at 92 l))
+pub apart-law : (l : List Bool) (at a b : ℕ) (s : List ℕ) (to : ℕ) {m n : List ℕ} → at + packetBits ≤ length l → to + pairIndices ≤ length s
+    → a ≡ value (part at frameBits l) → b ≡ value (part (at + frameBits) secondBits l)
+    → m ≡ over s to frameIndices (indices widths (field frameBits a)) → n ≡ over m (to + frameIndices) frameIndices (indices widths (field frameBits b)) → n ≡ over s to pairIndices (apart widths (part at packetBits l))
 unfolding apart
 apart-law l at a b s to {m} {n} room fit ea eb em en =
-    let f = indices widths (field 44 a) in
-    let g = indices widths (field 44 b) in
-    let p = part at 92 l in
-    let x = part at 44 l in
-    let y = part (at + 44) 48 l in
-    let ra : at + 44 ≤ length l = omega arith in
-    let rb : at + 44 + 48 ≤ length l = omega arith in
-    let lx : length x ≡ 44 = length-part l at 44 ra in
-    let ly : length y ≡ 48 = length-part l (at + 44) 48 rb in
-    let hx : 44 ≤ length x = omega arith in
-    let hy : 44 ≤ length y = omega arith in
-    let ep : p ≡ x ++ y = take-add 44 48 (drop at l) ∙ ap (λ (q : List Bool). x ++ take 48 q) (drop-drop 44 at l) in
+    let f = indices widths (field frameBits a) in
+    let g = indices widths (field frameBits b) in
+    let p = part at packetBits l in
+    let x = part at frameBits l in
+    let y = part (at + frameBits) secondBits l in
+    let ra : at + frameBits ≤ length l = omega arith in
+    let rb : at + frameBits + secondBits ≤ length l = omega arith in
+    let lx : length x ≡ frameBits = length-part l at frameBits ra in
+    let ly : length y ≡ secondBits = length-part l (at + frameBits) secondBits rb in
+    let hx : frameBits ≤ length x = omega arith in
+    let hy : frameBits ≤ length y = omega arith in
+    let ep : p ≡ x ++ y = take-add frameBits secondBits (drop at l) ∙ ap (λ (q : List Bool). x ++ take secondBits q) (drop-drop frameBits at l) in
     let ef : f ≡ indices widths p = front-word x a ea hx ∙ sym (ap (indices widths) ep ∙ numbers-front widths x y (lx ∙ sym total-widths)) in
     let eg : g ≡ indices widths (drop (total widths) p) =
-    front-word y b eb hy ∙ ap (indices widths) (sym (ap₂ drop total-widths ep ∙ drop-at x y 44 lx)) in
-    let h7 : to + 7 ≤ length s = omega arith in
-    behind s to 7 7 f g h7 (length-numbers widths (field 44 a)) em en ∙ ap₂ (λ (u v : List ℕ). over s to 14 (u ++ v)) ef eg
+    front-word y b eb hy ∙ ap (indices widths) (sym (ap₂ drop total-widths ep ∙ drop-at x y frameBits lx)) in
+    let h7 : to + frameIndices ≤ length s = omega arith in
+    behind s to frameIndices frameIndices f g h7 (length-numbers widths (field frameBits a)) em en ∙ ap₂ (λ (u v : List ℕ). over s to pairIndices (u ++ v)) ef eg
 
-pub low-small : (a b : ℕ) → a < 2 ^ 44 → bitOr a (b * 2 ^ 44 % 2 ^ 64) < 2 ^ 64
-low-small a b h = or-lt 64 a (b * 2 ^ 44 % 2 ^ 64) (lt-of-lt-of-le h (lit≤ tt)) (mod-lt (b * 2 ^ 44) (pow-pos 64))
+pub low-small : (a b : ℕ) → a < 2 ^ frameBits → bitOr a (b * 2 ^ frameBits % 2 ^ 64) < 2 ^ 64
+low-small a b h = or-lt 64 a (b * 2 ^ frameBits % 2 ^ 64) (lt-of-lt-of-le h (lit≤ tt)) (mod-lt (b * 2 ^ frameBits) (pow-pos 64))

@@ -3,12 +3,26 @@
 -- Assumes nothing.
 use mathlib.Core.Bool.{Bool}
 use mathlib.Core.List.{List, [], _∷_, _++_}
-use Prim.Native.Nat.{ℕ, zero, suc, _+_, _*_}
+use Prim.Native.Nat.{ℕ, zero, suc, _+_, _-_, _*_, _/_}
 use lib.ListN.{drop, getD}
-use Rattle.layout.specs.Layout.{widths, frameIndices, firstFrame, secondFrame}
+use Rattle.layout.specs.Layout.{widths, frameIndices, frameBits, crcBits, packetBits, firstFrame, secondFrame}
 use Rattle.bits.specs.Bits.{laid, numbers, total}
 use Rattle.crc.specs.Crc.{crc, sent}
 
+-- ---- sizes of the words and octets by which packets are written and read
+-- a packet's bits behind its first 64
+abbrev pub restBits : ℕ
+restBits = packetBits - 64
+
+-- the second frame and the CRC
+abbrev pub secondBits : ℕ
+secondBits = frameBits + crcBits
+
+-- the octets of two packets
+abbrev pub twoPackets : ℕ
+twoPackets = 2 * packetBits / 8
+
+-- ---- frames, packets and streams
 -- a frame's bits: its indices as fields of the widths ws, one after the other; a missing index counts as 0
 abbrev pub frame : List ℕ → List ℕ → List Bool
 frame ws f = laid ws f

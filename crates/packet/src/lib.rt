@@ -11,10 +11,10 @@ ghost use mathlib.Core.List.{_++_};
 ghost use Prim.Native.Nat.{_+_, _*_, _%_, _^_, _≤_, _<_};
 ghost use lib.ListN.{length};
 ghost use Rattle.lists.specs.Parts.{part, over};
-ghost use Rattle.layout.specs.Layout.{widths, frameIndices, frameBits, pairFrames, dataBits, packetBits, packetStart, multiframePairs, streamOctets};
+ghost use Rattle.layout.specs.Layout.{widths, frameIndices, frameBits, pairIndices, dataBits, packetBits, packetStart, multiframePairs, streamOctets};
 ghost use Rattle.bits.specs.Bits.{bits, field, value, octets};
 ghost use Rattle.crc.specs.Crc.{crc, code, right};
-ghost use Rattle.packet.specs.Packet.{frame, indices, apart, frameAt, packetOf, stream};
+ghost use Rattle.packet.specs.Packet.{restBits, secondBits, twoPackets, frame, indices, apart, frameAt, packetOf, stream};
 
 // Bits of a word, and the packet's bits that are left when one is full.
 const WORD: usize = 64;
@@ -97,8 +97,8 @@ pub struct Packed {
 // pack gives the packet of pair q.
 pub fn pack(idx: &[u8], q: Pair) -> Packed
     requires { ⌜ (length (now idx) % frameIndices ≡ 0) × (q .0 < 2 ^ 20) ⌝ }
-    ensures bits { λ r. ⌜ field 64 (r .low) ++ field 28 (r .high) ≡ packetOf (now (idx .entry)) (q .0) ⌝ }
-    ensures fits { λ r. ⌜ (r .low < 2 ^ 64) × (r .high < 2 ^ 28) ⌝ }
+    ensures bits { λ r. ⌜ field 64 (r .low) ++ field restBits (r .high) ≡ packetOf (now (idx .entry)) (q .0) ⌝ }
+    ensures fits { λ r. ⌜ (r .low < 2 ^ 64) × (r .high < 2 ^ restBits) ⌝ }
 {
     let a = frame_word(idx, q.first());
     let b = frame_word(idx, q.second());
@@ -112,8 +112,8 @@ pub fn pack(idx: &[u8], q: Pair) -> Packed
 // put_two stores the packets of pairs q and q + 1 from octet at on, by three words; nothing is read back.
 fn put_two(idx: &[u8], q: Pair, out: &mut [u8], at: usize)
     requires { ⌜ (length (now idx) % frameIndices ≡ 0) × (q .0 + 1 < 2 ^ 20) ⌝ }
-    requires { ⌜ at + 23 ≤ length (now out) ⌝ }
-    ensures { λ _. ⌜ now (out .exit) ≡ over (now (out .entry)) at 23 (octets 23 (stream (now (idx .entry)) (q .0) 2)) ⌝ }
+    requires { ⌜ at + twoPackets ≤ length (now out) ⌝ }
+    ensures { λ _. ⌜ now (out .exit) ≡ over (now (out .entry)) at twoPackets (octets twoPackets (stream (now (idx .entry)) (q .0) 2)) ⌝ }
 {
     let a = pack(idx, q);
     let b = pack(idx, Pair(q.0 + 1));
@@ -152,7 +152,7 @@ fn first_word(s: &[u8], p: Pair) -> u64
 // second_word gives the bits of the second frame and the CRC. Its word starts four octets on and never passes the packet's last octet.
 fn second_word(s: &[u8], p: Pair) -> u64
     requires { ⌜ packetStart (p .0) + packetBits ≤ 8 * length (now s) ⌝ }
-    ensures { λ r. ⌜ r ≡ value (part (packetStart (p .0) + frameBits) 48 (bits (now (s .entry)))) ⌝ }
+    ensures { λ r. ⌜ r ≡ value (part (packetStart (p .0) + frameBits) secondBits (bits (now (s .entry)))) ⌝ }
 {
     let at = p.start();
     (bits::word(s, at / 8 + AHEAD) >> (INTO + at % 8)) & SECOND_MASK
@@ -183,8 +183,8 @@ fn take_frame(w: u64, idx: &mut [u8], to: usize)
 
 // take_apart stores the two frames of pair p's packet in a stream as fourteen octets from octet to on; every other octet stays.
 pub fn take_apart(s: &[u8], p: Pair, idx: &mut [u8], to: usize)
-    requires { ⌜ (packetStart (p .0) + packetBits ≤ 8 * length (now s)) × (to + pairFrames * frameIndices ≤ length (now idx)) ⌝ }
-    ensures { λ _. ⌜ now (idx .exit) ≡ over (now (idx .entry)) to (pairFrames * frameIndices) (apart widths (part (packetStart (p .0)) packetBits (bits (now (s .entry))))) ⌝ }
+    requires { ⌜ (packetStart (p .0) + packetBits ≤ 8 * length (now s)) × (to + pairIndices ≤ length (now idx)) ⌝ }
+    ensures { λ _. ⌜ now (idx .exit) ≡ over (now (idx .entry)) to pairIndices (apart widths (part (packetStart (p .0)) packetBits (bits (now (s .entry))))) ⌝ }
 {
     take_frame(first_word(s, p), idx, to);
     take_frame(second_word(s, p), idx, to + FrameLayout::INDICES);

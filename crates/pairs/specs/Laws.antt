@@ -1,6 +1,6 @@
 -- What a reader of 01 would ask of the pairs' notes and frames, and the steps by which the code works them out.
 -- Assumes nothing.
-use Prim.Native.Nat.{ℕ, zero, suc, _+_, _*_, _/_, _≤_, _<_}
+use Prim.Native.Nat.{ℕ, zero, suc, _+_, _*_, _≤_, _<_}
 use mathlib.Core.Path.{_≡_, refl, sym, ap, ap₂, _∙_, subst}
 use mathlib.Core.List.{List, [], _∷_, _++_, append-nil}
 use mathlib.Core.Bool.{Bool, true, false, not}
@@ -13,7 +13,7 @@ use native.Mathlib.Omega.{arith}
 use Rattle.lists.specs.Tests.{when}
 use Rattle.lists.specs.Parts.{part, over, over-none, set-over, behind, over-behind}
 use Rattle.lists.specs.Rows.{each, joined, length-each, each-at, length-joined, joined-part, same-each, same-joined, each-add, joined-add}
-use Rattle.layout.specs.Layout.{widths, frameIndices, pairFrames, dataBits, packetBits, multiframePairs, indexOctets, multiframeOf, firstPair, packetStart}
+use Rattle.layout.specs.Layout.{widths, frameIndices, pairIndices, dataBits, packetBits, multiframePairs, streamOctets, indexOctets, multiframeOf, firstPair, packetStart}
 use Rattle.cutting.specs.Laws.{Placed}
 use Rattle.carrier.specs.Carrier.{streamAt, streamPacket, inPlaces, received, pairCount}
 use Rattle.carrier.specs.Laws.{length-stream, packet-inside, packet-of}
@@ -27,7 +27,7 @@ use Rattle.judging.specs.Laws.{notes-length, no-failed-no-bad, only-undecided, 
 use Rattle.pairs.specs.Pairs.{pairFails, framesOf, allFrames, crcNote, crcNotes, pairInconsistent, pairNotes}
 
 -- ---- sizes
-pub length-frames : (packets : ℕ → List Bool) (q : ℕ) → length (framesOf packets q) ≡ pairFrames * frameIndices
+pub length-frames : (packets : ℕ → List Bool) (q : ℕ) → length (framesOf packets q) ≡ pairIndices
 unfolding framesOf apart
 length-frames packets q =
     let p = packets q in
@@ -35,14 +35,14 @@ length-frames packets q =
 
 module _ (packets : ℕ → List Bool) (n : ℕ) where
   -- fourteen octets for each pair
-  pub length-all : length (allFrames packets n) ≡ pairFrames * frameIndices * n
+  pub length-all : length (allFrames packets n) ≡ pairIndices * n
   unfolding allFrames
-  length-all = length-joined (framesOf packets) (pairFrames * frameIndices) n (λ k h. length-frames packets k)
+  length-all = length-joined (framesOf packets) pairIndices n (λ k h. length-frames packets k)
 
   -- pair q's frames stand at their place
-  pub frames-at : (q : ℕ) → q < n → part (pairFrames * frameIndices * q) (pairFrames * frameIndices) (allFrames packets n) ≡ framesOf packets q
+  pub frames-at : (q : ℕ) → q < n → part (pairIndices * q) pairIndices (allFrames packets n) ≡ framesOf packets q
   unfolding allFrames
-  frames-at q h = joined-part (framesOf packets) (pairFrames * frameIndices) n q (λ k i. length-frames packets k) h
+  frames-at q h = joined-part (framesOf packets) pairIndices n q (λ k i. length-frames packets k) h
 
   module _ (codebook thresholds : List ℤ) where
     -- a note for each pair
@@ -253,36 +253,36 @@ module _ (packets : ℕ → List Bool) (s : List Bool) (k : ℕ) (same : (p : �
       → n ≡ over m (firstPair k) multiframePairs (crcNotes (streamPacket s) multiframePairs)
       → n ≡ over l 0 (firstPair (k + 1)) (crcNotes packets (firstPair (k + 1)))
   noted-on l m n room em en =
-      let z : 0 + 12 * k ≡ 12 * k = omega arith in
-      let t : 12 * k + 12 ≡ 12 * (k + 1) = omega arith in
-      behind l 0 (12 * k) 12 (crcNotes packets (12 * k)) (crcNotes (streamPacket s) 12) (omega arith) (length-crcs packets (12 * k)) em
-      (en ∙ ap (λ (i : ℕ). over m i 12 (crcNotes (streamPacket s) 12)) (sym z))
-      ∙ ap (over l 0 (12 * k + 12)) (ap (λ (x : List ℕ). crcNotes packets (12 * k) ++ x) (sym notes-of) ∙ sym (each-add (λ q. crcNote (pairFails packets q)) (12 * k) 12))
+      let z : 0 + firstPair k ≡ firstPair k = omega arith in
+      let t : firstPair k + multiframePairs ≡ firstPair (k + 1) = omega arith in
+      behind l 0 (firstPair k) multiframePairs (crcNotes packets (firstPair k)) (crcNotes (streamPacket s) multiframePairs) (omega arith) (length-crcs packets (firstPair k)) em
+      (en ∙ ap (λ (i : ℕ). over m i multiframePairs (crcNotes (streamPacket s) multiframePairs)) (sym z))
+      ∙ ap (over l 0 (firstPair k + multiframePairs)) (ap (λ (x : List ℕ). crcNotes packets (firstPair k) ++ x) (sym notes-of) ∙ sym (each-add (λ q. crcNote (pairFails packets q)) (firstPair k) multiframePairs))
       ∙ ap (λ (i : ℕ). over l 0 i (crcNotes packets i)) t
 
   -- and its frames
-  pub laid-on : (l m n : List ℕ) → pairFrames * frameIndices * (firstPair k + multiframePairs) ≤ length l
-      → m ≡ over l 0 (pairFrames * frameIndices * firstPair k) (allFrames packets (firstPair k))
-      → n ≡ over m (pairFrames * frameIndices * firstPair k) indexOctets (allFrames (streamPacket s) multiframePairs)
-      → n ≡ over l 0 (pairFrames * frameIndices * firstPair (k + 1)) (allFrames packets (firstPair (k + 1)))
+  pub laid-on : (l m n : List ℕ) → pairIndices * (firstPair k + multiframePairs) ≤ length l
+      → m ≡ over l 0 (pairIndices * firstPair k) (allFrames packets (firstPair k))
+      → n ≡ over m (pairIndices * firstPair k) indexOctets (allFrames (streamPacket s) multiframePairs)
+      → n ≡ over l 0 (pairIndices * firstPair (k + 1)) (allFrames packets (firstPair (k + 1)))
   unfolding allFrames
   laid-on l m n room em en =
       let fs = framesOf packets in
-      let more = joined (framesOf (streamPacket s)) 12 in
-      let z : 0 + 14 * (12 * k) ≡ 14 * (12 * k) = omega arith in
-      let t : 12 * k + 12 ≡ 12 * (k + 1) = omega arith in
-      let u : 14 * (12 * k) + 168 ≡ 14 * (12 * k + 12) = omega arith in
-      behind l 0 (14 * (12 * k)) 168 (joined fs (12 * k)) more (omega arith) (length-all packets (12 * k)) em (en ∙ ap (λ (i : ℕ). over m i 168 more) (sym z))
-      ∙ ap (over l 0 (14 * (12 * k) + 168)) (ap (λ (x : List ℕ). joined fs (12 * k) ++ x) (sym frames-of) ∙ sym (joined-add fs (12 * k) 12))
-      ∙ ap (λ (i : ℕ). over l 0 i (joined fs (12 * k + 12))) u ∙ ap (λ (i : ℕ). over l 0 (14 * i) (joined fs i)) t
+      let more = joined (framesOf (streamPacket s)) multiframePairs in
+      let z : 0 + pairIndices * firstPair k ≡ pairIndices * firstPair k = omega arith in
+      let t : firstPair k + multiframePairs ≡ firstPair (k + 1) = omega arith in
+      let u : pairIndices * firstPair k + indexOctets ≡ pairIndices * (firstPair k + multiframePairs) = omega arith in
+      behind l 0 (pairIndices * firstPair k) indexOctets (joined fs (firstPair k)) more (omega arith) (length-all packets (firstPair k)) em (en ∙ ap (λ (i : ℕ). over m i indexOctets more) (sym z))
+      ∙ ap (over l 0 (pairIndices * firstPair k + indexOctets)) (ap (λ (x : List ℕ). joined fs (firstPair k) ++ x) (sym frames-of) ∙ sym (joined-add fs (firstPair k) multiframePairs))
+      ∙ ap (λ (i : ℕ). over l 0 i (joined fs (firstPair k + multiframePairs))) u ∙ ap (λ (i : ℕ). over l 0 (pairIndices * i) (joined fs i)) t
 
 -- ---- what the code finds in a packet
 pub fails-is : (packets : ℕ → List Bool) (q : ℕ) (r : Bool) → r ≡ right dataBits (packets q) → not r ≡ pairFails packets q
 unfolding pairFails
 fails-is packets q r e = ap not e
 
-pub put-is : (packets : ℕ → List Bool) (q : ℕ) (l m : List ℕ) (to : ℕ) → m ≡ over l to (pairFrames * frameIndices) (apart widths (packets q))
-    → m ≡ over l to (pairFrames * frameIndices) (framesOf packets q)
+pub put-is : (packets : ℕ → List Bool) (q : ℕ) (l m : List ℕ) (to : ℕ) → m ≡ over l to pairIndices (apart widths (packets q))
+    → m ≡ over l to pairIndices (framesOf packets q)
 unfolding framesOf
 put-is packets q l m to e = e
 
@@ -290,7 +290,7 @@ put-is packets q l m to e = e
 pub stream-size : (octets places : List ℕ) (q : ℕ) → Placed octets places → q < pairCount places → (s : List ℕ)
     → s ≡ streamAt octets (inPlaces places) (multiframeOf q) → packetStart q + packetBits ≤ 8 * length s
 stream-size octets places q ok h s e =
-    let size : length s ≡ 138 = ap length e ∙ length-stream octets (getD places (q / 12) 0) (ok (q / 12) (omega arith)) in
+    let size : length s ≡ streamOctets = ap length e ∙ length-stream octets (getD places (multiframeOf q) 0) (ok (multiframeOf q) (omega arith)) in
     packet-inside q (length s) (omega arith)
 
 -- ---- one multiframe more: the notes of its stream, and its frames
@@ -302,10 +302,10 @@ module _ (octets places : List ℕ) (k f : ℕ) (ef : f ≡ firstPair k) (s : Li
       noted-on (received octets places) (bits (streamAt octets (inPlaces places) k)) k (packet-of octets (inPlaces places) k) l m n room em
       (en ∙ ap₂ (λ (i : ℕ) (x : List ℕ). over m i multiframePairs (crcNotes (streamPacket (bits x)) multiframePairs)) ef es)
 
-  pub laid-more : (l m n : List ℕ) → pairFrames * frameIndices * (firstPair k + multiframePairs) ≤ length l
-      → m ≡ over l 0 (pairFrames * frameIndices * firstPair k) (allFrames (received octets places) (firstPair k))
-      → n ≡ over m (pairFrames * frameIndices * f) indexOctets (allFrames (streamPacket (bits s)) multiframePairs)
-      → n ≡ over l 0 (pairFrames * frameIndices * firstPair (k + 1)) (allFrames (received octets places) (firstPair (k + 1)))
+  pub laid-more : (l m n : List ℕ) → pairIndices * (firstPair k + multiframePairs) ≤ length l
+      → m ≡ over l 0 (pairIndices * firstPair k) (allFrames (received octets places) (firstPair k))
+      → n ≡ over m (pairIndices * f) indexOctets (allFrames (streamPacket (bits s)) multiframePairs)
+      → n ≡ over l 0 (pairIndices * firstPair (k + 1)) (allFrames (received octets places) (firstPair (k + 1)))
   laid-more l m n room em en =
       laid-on (received octets places) (bits (streamAt octets (inPlaces places) k)) k (packet-of octets (inPlaces places) k) l m n room em
-      (en ∙ ap₂ (λ (i : ℕ) (x : List ℕ). over m (pairFrames * frameIndices * i) indexOctets (allFrames (streamPacket (bits x)) multiframePairs)) ef es)
+      (en ∙ ap₂ (λ (i : ℕ) (x : List ℕ). over m (pairIndices * i) indexOctets (allFrames (streamPacket (bits x)) multiframePairs)) ef es)

@@ -10,7 +10,7 @@ ghost use Prim.Native.Nat.{_+_, _*_, _≤_, _<_};
 ghost use lib.ListN.{length, getD};
 ghost use Rattle.lists.specs.Tests.{when};
 ghost use Rattle.lists.specs.Parts.{over};
-ghost use Rattle.layout.specs.Layout.{frameIndices, pairFrames, multiframePairs, streamOctets, indexOctets, multiframeOf, codebookNumbers, thresholdNumbers, mostMultiframes};
+ghost use Rattle.layout.specs.Layout.{pairIndices, multiframePairs, streamOctets, indexOctets, multiframeOf, codebookNumbers, thresholdNumbers, mostMultiframes};
 ghost use Rattle.cutting.specs.Laws.{Placed};
 ghost use Rattle.bits.specs.Bits.{bits};
 ghost use Rattle.carrier.specs.Carrier.{streamAt, streamPacket, inPlaces, received, pairCount};
@@ -149,8 +149,8 @@ pub fn judge(
 
 // take_stream_apart puts the frames of a stream's twelve packets into idx, from the place of pair first on; every other octet stays.
 pub fn take_stream_apart(stream: &[u8], idx: &mut [u8], first: Pair)
-    requires { ⌜ (streamOctets ≤ length (now stream)) × (pairFrames * frameIndices * (first .0 + multiframePairs) ≤ length (now idx)) ⌝ }
-    ensures { λ _. ⌜ now (idx .exit) ≡ over (now (idx .entry)) (pairFrames * frameIndices * first .0) indexOctets (allFrames (streamPacket (bits (now (stream .entry)))) multiframePairs) ⌝ }
+    requires { ⌜ (streamOctets ≤ length (now stream)) × (pairIndices * (first .0 + multiframePairs) ≤ length (now idx)) ⌝ }
+    ensures { λ _. ⌜ now (idx .exit) ≡ over (now (idx .entry)) (pairIndices * first .0) indexOctets (allFrames (streamPacket (bits (now (stream .entry)))) multiframePairs) ⌝ }
 {
     let from = FRAMES * first.0;
     for p in 0..MultiframeLayout::PAIRS {
@@ -161,8 +161,8 @@ pub fn take_stream_apart(stream: &[u8], idx: &mut [u8], first: Pair)
 // take_all_apart puts the frames of all pairs in order to the front of idx, seven octets each; the rest of idx stays.
 pub fn take_all_apart(octets: &[u8], places: &[usize], idx: &mut [u8])
     requires { ⌜ Placed (now octets) (now places) × (length (now places) ≤ mostMultiframes) ⌝ }
-    requires { ⌜ pairFrames * frameIndices * pairCount (now places) ≤ length (now idx) ⌝ }
-    ensures { λ _. ⌜ now (idx .exit) ≡ over (now (idx .entry)) 0 (pairFrames * frameIndices * pairCount (now (places .entry))) (allFrames (received (now (octets .entry)) (now (places .entry))) (pairCount (now (places .entry)))) ⌝ }
+    requires { ⌜ pairIndices * pairCount (now places) ≤ length (now idx) ⌝ }
+    ensures { λ _. ⌜ now (idx .exit) ≡ over (now (idx .entry)) 0 (pairIndices * pairCount (now (places .entry))) (allFrames (received (now (octets .entry)) (now (places .entry))) (pairCount (now (places .entry)))) ⌝ }
 {
     let mut k = 0;
     while k < places.len() {

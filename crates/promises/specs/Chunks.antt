@@ -57,13 +57,13 @@ cut-behind (multiframe f ∷ cs) r p m ok few =
     let l = octetsOf cs ++ r in
     let a : getD (f ++ l) 0 0 ≡ syncFirst = List·getD-append f l 0 0 (omega (arith, ok .0)) ∙ ok .1 in
     let b : getD (f ++ l) 1 0 ≡ syncSecond = List·getD-append f l 0 1 (omega (arith, ok .0)) ∙ ok .2 in
-    let n : 144 ≤ length (f ++ l) = omega (arith, length-append f l, ok .0) in
+    let n : multiframeOctets ≤ length (f ++ l) = omega (arith, length-append f l, ok .0) in
     let q : pieceOf (f ++ l) m ≡ Multiframe = rw (a, b) (multiframe-met (length (f ++ l)) m n (omega arith)) in
-    let w : walk 0 (f ++ l) p m ≡ prepend p (walk 0 l (p + 144) (m + 1)) = walk-step (f ++ l) p m ∙ rw (q, drop-at f l 144 (ok .0)) in
-    let i : p + 144 + length (octetsOf cs) ≡ p + length (f ++ octetsOf cs) = omega (arith, length-append f (octetsOf cs), ok .0) in
+    let w : walk 0 (f ++ l) p m ≡ prepend p (walk 0 l (p + multiframeOctets) (m + 1)) = walk-step (f ++ l) p m ∙ rw (q, drop-at f l multiframeOctets (ok .0)) in
+    let i : p + multiframeOctets + length (octetsOf cs) ≡ p + length (f ++ octetsOf cs) = omega (arith, length-append f (octetsOf cs), ok .0) in
     let k : m + 1 + multiframeCount cs ≡ m + suc (multiframeCount cs) = omega arith in
     ap (λ (s : List ℕ). walk 0 s p m .ending) (append-assoc f (octetsOf cs) r) ∙ ap (λ (x : Cutting). x .ending) w
-    ∙ cut-behind cs r (p + 144) (m + 1) (ok .3) (omega arith) ∙ ap₂ (λ (i n : ℕ). walk 0 r i n .ending) i k
+    ∙ cut-behind cs r (p + multiframeOctets) (m + 1) (ok .3) (omega arith) ∙ ap₂ (λ (i n : ℕ). walk 0 r i n .ending) i k
 cut-behind (inverse ∷ cs) r p m ok few =
     let l = octetsOf cs ++ r in
     let n : 2 ≤ length (inverseFirst ∷ inverseSecond ∷ l) = omega arith in
@@ -99,19 +99,19 @@ chunked-on n (x ∷ l) p m h e rest =
     rw (walk-step s p m) (by (pieceOf s m) (says (length s) x (getD l 0 0) m) (ap (λ (w : Cutting). w .ending) (sym (walk-step s p m)) ∙ e))
   where
     by : (q : Piece) → Says (length (x ∷ l)) x (getD l 0 0) m q
-        → step q p (walk 0 (drop 144 (x ∷ l)) (p + 144) (m + 1)) (walk 0 (drop 2 (x ∷ l)) (p + 2) m) .ending ≡ whole
-        → Chunked (x ∷ l) (length (step q p (walk 0 (drop 144 (x ∷ l)) (p + 144) (m + 1)) (walk 0 (drop 2 (x ∷ l)) (p + 2) m) .places))
+        → step q p (walk 0 (drop multiframeOctets (x ∷ l)) (p + multiframeOctets) (m + 1)) (walk 0 (drop 2 (x ∷ l)) (p + 2) m) .ending ≡ whole
+        → Chunked (x ∷ l) (length (step q p (walk 0 (drop multiframeOctets (x ∷ l)) (p + multiframeOctets) (m + 1)) (walk 0 (drop 2 (x ∷ l)) (p + 2) m) .places))
     by End z e = absurd (omega arith)
     by Unknown z e = absurd (not-whole (RR.Unknown p) e)
     by CutShort z e = absurd (not-whole (RR.CutShort p) e)
     by TooMany z e = absurd (not-whole (RR.TooMany p) e)
     by Multiframe z e =
         let s = x ∷ l in
-        let c = rest (drop 144 s) (p + 144) (m + 1) (omega (arith, length-drop 144 s)) e in
+        let c = rest (drop multiframeOctets s) (p + multiframeOctets) (m + 1) (omega (arith, length-drop multiframeOctets s)) e in
         record {
-          chunks = multiframe (take 144 s) ∷ c .chunks;
-          proper = (length-take-le 144 s (z .0), z .2, getD-take 144 s 1 0 (omega arith) ∙ z .3, c .proper);
-          octets = ap (λ (r : List ℕ). take 144 s ++ r) (c .octets) ∙ take-append-drop 144 s;
+          chunks = multiframe (take multiframeOctets s) ∷ c .chunks;
+          proper = (length-take-le multiframeOctets s (z .0), z .2, getD-take multiframeOctets s 1 0 (omega arith) ∙ z .3, c .proper);
+          octets = ap (λ (r : List ℕ). take multiframeOctets s ++ r) (c .octets) ∙ take-append-drop multiframeOctets s;
           counted = ap suc (c .counted);
         }
     by Inverse z e =

@@ -11,7 +11,7 @@ use lib.IntN.{ℤ}
 use lib.ListN.{length, take, drop, getD}
 use Rattle.lists.specs.Tests.{true-false, not-false, when}
 use Rattle.lists.specs.Parts.{part, over}
-use Rattle.layout.specs.Layout.{dataBits, multiframePairs, multiframeOctets, indexOctets, reportOctets, frameIndices}
+use Rattle.layout.specs.Layout.{dataBits, multiframePairs, multiframeFrames, multiframeOctets, indexOctets, reportOctets, frameIndices}
 use Rattle.frames.specs.Frames.{zeroFrame, allZero}
 use Rattle.crc.specs.Crc.{right}
 use Rattle.packet.specs.Packet.{packetOf}
@@ -100,15 +100,15 @@ module _ (u : Utterance) (s : List ℕ) (d : Damage (multiframesOf u) (imageOf u
       by (whole x r) = x
       by (hit x r) = absurd (true-false (sym passed ∙ r))
 
-  speaks : zeroFrame (indexPart came (rowOf k) ns) (24 * k - 1) ≡ false
+  speaks : zeroFrame (indexPart came (rowOf k) ns) (multiframeFrames * k - 1) ≡ false
   speaks =
       let all = receivedFrames came (rowOf k) in
       let some : 0 < k = some in
-      let p : (24 * k - 1) / 2 ≡ q = omega arith in
-      F.frame-speaks (u .indices) (replaced ns all) (24 * k - 1) (F.border-speaks u k some less)
-      (good-kept ns (record { pair = q; within = omega (arith, size, rows); good = last-note }) all (24 * k - 1) (omega (arith, size, length-all (received came (rowOf k)) (pairCount (rowOf k))))
+      let p : (multiframeFrames * k - 1) / 2 ≡ q = omega arith in
+      F.frame-speaks (u .indices) (replaced ns all) (multiframeFrames * k - 1) (F.border-speaks u k some less)
+      (good-kept ns (record { pair = q; within = omega (arith, size, rows); good = last-note }) all (multiframeFrames * k - 1) (omega (arith, size, length-all (received came (rowOf k)) (pairCount (rowOf k))))
       (omega (arith, size, rows)) (ap (λ (i : ℕ). getD ns i 0) p ∙ last-note)
-      ∙ F.frame-first u s d k within (24 * k - 1) (omega arith) (subst (λ (i : ℕ). packetIn s i ≡ packetOf (u .indices) i) (sym p) last-sent))
+      ∙ F.frame-first u s d k within (multiframeFrames * k - 1) (omega arith) (subst (λ (i : ℕ). packetIn s i ≡ packetOf (u .indices) i) (sym p) last-sent))
 
   ends : given .end ≡ 0
   ends =

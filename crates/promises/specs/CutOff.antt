@@ -17,7 +17,7 @@ use lib.ListN.{length, take, drop, getD, replicate, length-drop}
 use lib.Seq.{length-take-le, take-all, take-add, ext-getD, getD-take, getD-drop}
 use Rattle.lists.specs.Parts.{part, over, length-part}
 use Rattle.lists.specs.Rows.{each-at, same-joined}
-use Rattle.layout.specs.Layout.{dataBits, multiframeFrames, multiframePairs, multiframeOctets, mostMultiframes, indexOctets, reportOctets, firstPair, sync, syncFirst, syncSecond}
+use Rattle.layout.specs.Layout.{frameIndices, dataBits, multiframeFrames, multiframePairs, multiframeOctets, mostMultiframes, indexOctets, reportOctets, firstPair, sync, syncFirst, syncSecond}
 use Rattle.settings.specs.declared.Settings.{Settings}
 use Rattle.settings.specs.Settings.{settings}
 use Rattle.frames.specs.Frames.{zeroFrame}
@@ -92,25 +92,25 @@ module _ (u : Utterance) (k : ℕ) (some : 0 < k) (less : k < multiframesOf u) w
   -- the frames read are the first 24k
   frames-are : all ≡ take (indexOctets * k) (u .indices)
   frames-are =
-      let la : length all ≡ 168 * k = length-all (received first (rowOf k)) (pairCount (rowOf k)) ∙ omega (arith, rows) in
-      let lt : length (take (168 * k) (u .indices)) ≡ 168 * k = length-take-le (168 * k) (u .indices) (omega (arith, whole-frames u)) in
-      ext-getD 0 all (take (168 * k) (u .indices)) (la ∙ sym lt) (λ i h.
-      let j : i % 7 < 7 = omega arith in
-      let z : 7 * (i / 7) + i % 7 ≡ i = omega arith in
-      ap (λ (t : ℕ). getD all t 0) (sym z) ∙ sym (getD-take 7 (drop (7 * (i / 7)) all) (i % 7) 0 j ∙ getD-drop (7 * (i / 7)) all (i % 7) 0)
-      ∙ ap (λ (f : List ℕ). getD f (i % 7) 0) (F.frame-first u s d k within (i / 7) (omega (arith, la)) (sent (i / 7 / 2) (omega (arith, la))))
-      ∙ getD-row (u .indices) (7 * (i / 7)) 7 (i % 7) j ∙ ap (λ (t : ℕ). getD (u .indices) t 0) z ∙ sym (getD-take (168 * k) (u .indices) i 0 (omega (arith, la))))
+      let la : length all ≡ indexOctets * k = length-all (received first (rowOf k)) (pairCount (rowOf k)) ∙ omega (arith, rows) in
+      let lt : length (take (indexOctets * k) (u .indices)) ≡ indexOctets * k = length-take-le (indexOctets * k) (u .indices) (omega (arith, whole-frames u)) in
+      ext-getD 0 all (take (indexOctets * k) (u .indices)) (la ∙ sym lt) (λ i h.
+      let j : i % frameIndices < frameIndices = omega arith in
+      let z : frameIndices * (i / frameIndices) + i % frameIndices ≡ i = omega arith in
+      ap (λ (t : ℕ). getD all t 0) (sym z) ∙ sym (getD-take frameIndices (drop (frameIndices * (i / frameIndices)) all) (i % frameIndices) 0 j ∙ getD-drop (frameIndices * (i / frameIndices)) all (i % frameIndices) 0)
+      ∙ ap (λ (f : List ℕ). getD f (i % frameIndices) 0) (F.frame-first u s d k within (i / frameIndices) (omega (arith, la)) (sent (i / frameIndices / 2) (omega (arith, la))))
+      ∙ getD-row (u .indices) (frameIndices * (i / frameIndices)) frameIndices (i % frameIndices) j ∙ ap (λ (t : ℕ). getD (u .indices) t 0) z ∙ sym (getD-take (indexOctets * k) (u .indices) i 0 (omega (arith, la))))
 
   -- the last of them is not zero
-  speaks : zeroFrame all (24 * k - 1) ≡ false
+  speaks : zeroFrame all (multiframeFrames * k - 1) ≡ false
   speaks =
-      F.frame-speaks (u .indices) all (24 * k - 1) (F.border-speaks u k some less)
-      (F.frame-first u s d k within (24 * k - 1) (omega arith) (sent ((24 * k - 1) / 2) (omega arith)))
+      F.frame-speaks (u .indices) all (multiframeFrames * k - 1) (F.border-speaks u k some less)
+      (F.frame-first u s d k within (multiframeFrames * k - 1) (omega arith) (sent ((multiframeFrames * k - 1) / 2) (omega arith)))
 
   speech-is : speechOf k all ≡ multiframeFrames * k
   speech-is =
-      let z : 24 * (k - 1) + (24 - 1) ≡ 24 * k - 1 = omega arith in
-      ap (λ (n : ℕ). 24 * (k - 1) + n) (place-stop all (24 * (k - 1)) 24 (omega arith) (ap (zeroFrame all) z ∙ speaks)) ∙ omega arith
+      let z : multiframeFrames * (k - 1) + (multiframeFrames - 1) ≡ multiframeFrames * k - 1 = omega arith in
+      ap (λ (n : ℕ). multiframeFrames * (k - 1) + n) (place-stop all (multiframeFrames * (k - 1)) multiframeFrames (omega arith) (ap (zeroFrame all) z ∙ speaks)) ∙ omega arith
 
   end-is : endOf k all ≡ 0
   end-is = rw speaks
@@ -137,15 +137,15 @@ module _ (u : Utterance) (k : ℕ) (some : 0 < k) (less : k < multiframesOf u) w
     note-row : (i : ℕ) → i < length (rowOf k)
         → headerNote (sentCommon u) i (getD (readings first (rowOf k)) i Lost) ∷ part (firstPair i) multiframePairs ns ≡ replicate reportOctets 0
     note-row i h =
-        let p = part (12 * i) 12 ns in
-        let l : length p ≡ 12 = length-part ns (12 * i) 12 (omega (arith, size)) in
+        let p = part (multiframePairs * i) multiframePairs ns in
+        let l : length p ≡ multiframePairs = length-part ns (multiframePairs * i) multiframePairs (omega (arith, size)) in
         let r : getD (readings first (rowOf k)) i Lost ≡ Codeword (F.decoded u s d k within i) =
         ap (λ (hs : List Header). getD hs i Lost) (F.headers-first u s d k within)
         ∙ each-at (λ i. Codeword (F.decoded u s d k within i)) k i Lost (omega (arith, rows)) in
         let z = header-near u s i (omega (arith, rows)) ∙ no-flips i in
         ap₂ (λ (x : ℕ) (y : List ℕ). x ∷ y)
         (ap (headerNote (sentCommon u) i) r ∙ clean-note (sentCommon u) i (F.decoded u s d k within i) z (count-back (u .settings) (i + 1) 0) (common-sent u i))
-        (zeros p (λ j g. getD-take 12 (drop (12 * i) ns) j 0 (omega (arith, l)) ∙ getD-drop (12 * i) ns j 0 ∙ quiet (12 * i + j) (omega (arith, l, size)))
+        (zeros p (λ j g. getD-take multiframePairs (drop (multiframePairs * i) ns) j 0 (omega (arith, l)) ∙ getD-drop (multiframePairs * i) ns j 0 ∙ quiet (multiframePairs * i + j) (omega (arith, l, size)))
         ∙ ap (λ (w : ℕ). replicate w 0) l)
 
     report-is : reportPart first (rowOf k) ns (sentCommon u) ≡ replicate (reportOctets * k) 0
@@ -161,14 +161,14 @@ module _ (u : Utterance) (k : ℕ) (some : 0 < k) (less : k < multiframesOf u) w
     answer-is : summary first (rowOf k) ns (sentCommon u) ≡ heard u k
     unfolding make
     answer-is =
-        let x : speechOf (length (rowOf k)) (indexPart first (rowOf k) ns) ≡ 24 * k = ap₂ speechOf rows index-is ∙ speech-is in
+        let x : speechOf (length (rowOf k)) (indexPart first (rowOf k) ns) ≡ multiframeFrames * k = ap₂ speechOf rows index-is ∙ speech-is in
         let y : endOf (length (rowOf k)) (indexPart first (rowOf k) ns) ≡ 0 = ap₂ endOf rows index-is ∙ end-is in
         let c = sentCommon u in
         let speech = speechOf (length (rowOf k)) (indexPart first (rowOf k) ns) in
         let end = endOf (length (rowOf k)) (indexPart first (rowOf k) ns) in
-        let p : make (settingsOf c) (length (rowOf k)) speech (badPairs ns) end ≡ make (u .settings) k (24 * k) 0 0 =
+        let p : make (settingsOf c) (length (rowOf k)) speech (badPairs ns) end ≡ make (u .settings) k (multiframeFrames * k) 0 0 =
         ap (λ (a : Settings). make a (length (rowOf k)) speech (badPairs ns) end) (settings-sent u)
-        ∙ ap₂ (λ (a b : ℕ). make (u .settings) a b (badPairs ns) end) rows x ∙ ap₂ (λ (a b : ℕ). make (u .settings) k (24 * k) a b) (none-bad ns quiet) y in
+        ∙ ap₂ (λ (a b : ℕ). make (u .settings) a b (badPairs ns) end) rows x ∙ ap₂ (λ (a b : ℕ). make (u .settings) k (multiframeFrames * k) a b) (none-bad ns quiet) y in
         p
 
     good : Good ns
@@ -228,7 +228,7 @@ pub whole-ends : (u : Utterance) (codebook thresholds : List ℤ) (index report 
     → (reading (take (multiframeOctets * multiframesOf u) (imageOf u)) codebook thresholds index report .answer ≡ Read (spoken u)) × (spoken u .end ≡ 1)
 whole-ends u codebook thresholds index report lent =
     let m = multiframesOf u in
-    let e : take (144 * m) (imageOf u) ≡ imageOf u = take-all (144 * m) (imageOf u) (omega (arith, length-image (u .settings) (u .indices) m)) in
+    let e : take (multiframeOctets * m) (imageOf u) ≡ imageOf u = take-all (multiframeOctets * m) (imageOf u) (omega (arith, length-image (u .settings) (u .indices) m)) in
     (ap (λ (l : List ℕ). reading l codebook thresholds index report .answer) e ∙ ap (λ (o : Outcome). o .answer) (reads-image u codebook thresholds index report lent), refl)
 
 -- ---- A CUT INSIDE A MULTIFRAME IS REFUSAL 13, at the place of that multiframe
@@ -249,7 +249,7 @@ pub cut-inside-damaged : (u : Utterance) (s : List ℕ) → Damage (multiframesO
 cut-inside-damaged u s d k j less some short codebook thresholds index report tables =
     subst (Refuses (reading (take (multiframeOctets * k + j) s) codebook thresholds index report) index report 13) place
     (cut-refuses (take (multiframeOctets * k + j) s) codebook thresholds index report tables (RR.CutShort (length (octetsOf (c .chunks))))
-    (ap (λ (l : List ℕ). cutting l .ending) (take-add (144 * k) j s ∙ ap (λ (l : List ℕ). l ++ r) (sym (c .octets)))
+    (ap (λ (l : List ℕ). cutting l .ending) (take-add (multiframeOctets * k) j s ∙ ap (λ (l : List ℕ). l ++ r) (sym (c .octets)))
     ∙ refused-behind (c .chunks) r CutShort (RR.CutShort (length (octetsOf (c .chunks)))) (c .proper) (omega (arith, count, F.few u s d k (omega arith))) bad (λ v w. refl)))
   where
     r : List ℕ
@@ -265,11 +265,11 @@ cut-inside-damaged u s d k j less some short codebook thresholds index report ta
     place = ap length (c .octets) ∙ F.size-first u s d k (omega arith)
 
     size : length (take j (drop (multiframeOctets * k) s)) ≡ j
-    size = length-take-le j (drop (144 * k) s) (omega (arith, length-drop (144 * k) s, F.size u s d k (omega arith)))
+    size = length-take-le j (drop (multiframeOctets * k) s) (omega (arith, length-drop (multiframeOctets * k) s, F.size u s d k (omega arith)))
 
     octet : (i : ℕ) → i < j → i < 2 → getD (take j (drop (multiframeOctets * k) s)) i 0 ≡ getD sync i 0
     octet i h l =
-        getD-take j (drop (144 * k) s) i 0 h ∙ sym (getD-take 2 (drop (144 * k) s) i 0 l) ∙ ap (λ (x : List ℕ). getD x i 0) (F.syncs u s d k (omega arith) k less)
+        getD-take j (drop (multiframeOctets * k) s) i 0 h ∙ sym (getD-take 2 (drop (multiframeOctets * k) s) i 0 l) ∙ ap (λ (x : List ℕ). getD x i 0) (F.syncs u s d k (omega arith) k less)
 
     bad : pieceOf (take j (drop (multiframeOctets * k) s)) (multiframeCount (c .chunks)) ≡ CutShort
     bad =
@@ -290,22 +290,22 @@ nothing-refused u codebook thresholds index report tables = nothing-14 codebook 
 pub cut-anywhere : (u : Utterance) (n : ℕ) → n < length (imageOf u) → (codebook thresholds : List ℤ) (index report : List ℕ) (given : Summary)
     → reading (take n (imageOf u)) codebook thresholds index report .answer ≡ Read given → (n ≡ multiframeOctets * given .multiframes) × (given .end ≡ 0)
 cut-anywhere u n short codebook thresholds index report given e =
-    elim (ℕ-discrete (n % 144) 0) [
+    elim (ℕ-discrete (n % multiframeOctets) 0) [
       | yes z ↦
-          let w : n ≡ 144 * (n / 144) = omega arith in
-          let g = cut-off-answer u (n / 144) less codebook thresholds index report given
+          let w : n ≡ multiframeOctets * (n / multiframeOctets) = omega arith in
+          let g = cut-off-answer u (n / multiframeOctets) less codebook thresholds index report given
           (ap (λ (i : ℕ). reading (take i (imageOf u)) codebook thresholds index report .answer) (sym w) ∙ e) in
-          (w ∙ ap (λ (g : Summary). 144 * g .multiframes) (sym g), ap (λ (g : Summary). g .end) g)
+          (w ∙ ap (λ (g : Summary). multiframeOctets * g .multiframes) (sym g), ap (λ (g : Summary). g .end) g)
       | no z ↦
-          let w : 144 * (n / 144) + n % 144 ≡ n = omega arith in
-          let r = cut-inside u (n / 144) (n % 144) less (omega arith) (omega arith) codebook thresholds index report tables in
+          let w : multiframeOctets * (n / multiframeOctets) + n % multiframeOctets ≡ n = omega arith in
+          let r = cut-inside u (n / multiframeOctets) (n % multiframeOctets) less (omega arith) (omega arith) codebook thresholds index report tables in
           let x : Refused (r .refusal) ≡ Read given =
           sym (ap (λ (o : Outcome). o .answer) (r .is-refused)) ∙ ap (λ (i : ℕ). reading (take i (imageOf u)) codebook thresholds index report .answer) w ∙ e in
           let y : _≡_ {A = ℕ} 0 1 = cc in
           absurd (omega arith)
     ]
   where
-    less : n / 144 < multiframesOf u
+    less : n / multiframeOctets < multiframesOf u
     less = omega (arith, length-image (u .settings) (u .indices) (multiframesOf u))
 
     tables : Tables codebook thresholds

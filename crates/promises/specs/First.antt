@@ -13,7 +13,7 @@ use lib.ListN.{length, take, drop, getD, take-append-drop}
 use lib.Seq.{length-take-le, take-at, take-all}
 use Rattle.lists.specs.Parts.{part, over, part-left, part-right}
 use Rattle.lists.specs.Rows.{each, length-each, each-at, same-each}
-use Rattle.layout.specs.Layout.{widths, frameIndices, multiframeFrames, multiframePairs, multiframeOctets, mostMultiframes, indexOctets, reportOctets, pairOf, firstFrame, secondFrame, sync}
+use Rattle.layout.specs.Layout.{widths, frameIndices, multiframeFrames, multiframePairs, streamOctets, multiframeOctets, mostMultiframes, indexOctets, reportOctets, pairOf, firstFrame, secondFrame, sync}
 use Rattle.frames.specs.Frames.{allZero, zeroFrame, all-zero-at, Nonzero}
 use Rattle.bits.specs.Bits.{value, bits}
 use Rattle.packet.specs.Packet.{apart, frameAt, packetOf}
@@ -56,17 +56,17 @@ all-have g c (suc n) h = have-one-more (each (λ k. Codeword (g k)) n) (g n) c (
 -- ---- a frame that is not zero, as it was written
 pub frame-speaks : (idx l : List ℕ) (j : ℕ) → Nonzero idx j → part (frameIndices * j) frameIndices l ≡ frameAt idx j → zeroFrame l j ≡ false
 unfolding zeroFrame
-frame-speaks idx l j x e = by (allZero (part (7 * j) 7 l)) refl
+frame-speaks idx l j x e = by (allZero (part (frameIndices * j) frameIndices l)) refl
   where
-    by : (t : Bool) → allZero (part (7 * j) 7 l) ≡ t → allZero (part (7 * j) 7 l) ≡ false
+    by : (t : Bool) → allZero (part (frameIndices * j) frameIndices l) ≡ t → allZero (part (frameIndices * j) frameIndices l) ≡ false
     by false z = z
     by true z =
-        absurd (x .nonzero (sym (ap (λ (f : List ℕ). getD f (x .place) 0) e ∙ getD-row idx (7 * j) 7 (x .place) (x .within)) ∙ all-zero-at (part (7 * j) 7 l) (x .place) z))
+        absurd (x .nonzero (sym (ap (λ (f : List ℕ). getD f (x .place) 0) e ∙ getD-row idx (frameIndices * j) frameIndices (x .place) (x .within)) ∙ all-zero-at (part (frameIndices * j) frameIndices l) (x .place) z))
 
 -- the last frame of a multiframe but the last is one that the writer refuses to be zero
 pub border-speaks : (u : Utterance) (k : ℕ) → 0 < k → k < multiframesOf u → Nonzero (u .indices) (multiframeFrames * k - 1)
 border-speaks u k some less =
-    boundary-speaks (u .settings) (u .indices) (needed (u .indices)) (needed (u .indices)) (is-accepted u) (24 * k - 1) (omega arith) (omega arith)
+    boundary-speaks (u .settings) (u .indices) (needed (u .indices)) (needed (u .indices)) (is-accepted u) (multiframeFrames * k - 1) (omega arith) (omega arith)
 
 -- ---- a pair's note: by the pair before it, its own CRC and consistency, and the next pair's CRC
 module _ (octets places : List ℕ) (codebook thresholds : List ℤ) (q : ℕ) (inside : q < pairCount places) where
@@ -115,10 +115,10 @@ module _ (u : Utterance) (s : List ℕ) (d : Damage (multiframesOf u) (imageOf u
   size = d .size ∙ length-image (u .settings) (u .indices) m
 
   pub size-first : length first ≡ multiframeOctets * k
-  size-first = length-take-le (144 * k) s (omega (arith, size))
+  size-first = length-take-le (multiframeOctets * k) s (omega (arith, size))
 
   pub part-first : (a v : ℕ) → a + v ≤ multiframeOctets * k → part a v first ≡ part a v s
-  part-first a v h = sym (ap (part a v) (sym (take-append-drop (144 * k) s)) ∙ part-left first (drop (144 * k) s) a v (omega (arith, size-first)))
+  part-first a v h = sym (ap (part a v) (sym (take-append-drop (multiframeOctets * k) s)) ∙ part-left first (drop (multiframeOctets * k) s) a v (omega (arith, size-first)))
 
   pub few : m ≤ mostMultiframes
   few = few-multiframes (u .settings) (u .indices) (is-accepted u .sizes)
@@ -127,7 +127,7 @@ module _ (u : Utterance) (s : List ℕ) (d : Damage (multiframesOf u) (imageOf u
   syncs i h = d .syncs i h ∙ image-sync (u .settings) (u .indices) m i h
 
   pub syncs-first : (i : ℕ) → i < k → syncIn first i ≡ sync
-  syncs-first i h = part-first (144 * i) 2 (omega arith) ∙ syncs i (omega arith)
+  syncs-first i h = part-first (multiframeOctets * i) 2 (omega arith) ∙ syncs i (omega arith)
 
   pub cut-first : cutting first ≡ record { places = rowOf k; ending = whole }
   cut-first = cut-is first k (omega (arith, few)) size-first syncs-first
@@ -146,7 +146,7 @@ module _ (u : Utterance) (s : List ℕ) (d : Damage (multiframesOf u) (imageOf u
   headers-first =
       readings-are first k
       ∙ same-each (λ i. H.reading (wordIn first i)) (λ i. Codeword (decoded i)) k (λ i h.
-      ap (λ (l : List ℕ). H.reading (value (bits l))) (part-first (144 * i + 2) 4 (omega arith)) ∙ header-read u s i (omega arith) (d .headers i (omega arith)))
+      ap (λ (l : List ℕ). H.reading (value (bits l))) (part-first (multiframeOctets * i + 2) 4 (omega arith)) ∙ header-read u s i (omega arith) (d .headers i (omega arith)))
 
   pub settles-first : 0 < k → (2 ≤ k) ⊎ (flips 0 ≡ 0) → settling (readings first (rowOf k)) ≡ Settled (sentCommon u)
   settles-first some x = ap settling headers-first ∙ by (decLt k 2) x
@@ -167,7 +167,7 @@ module _ (u : Utterance) (s : List ℕ) (d : Damage (multiframesOf u) (imageOf u
   -- its packets are those of the image
   pub packet-first : (q : ℕ) → q < multiframePairs * k → received first (rowOf k) q ≡ packetIn s q
   packet-first q h =
-      packet-at first k q h ∙ ap (λ (l : List ℕ). streamPacket (bits l) q) (part-first (144 * (q / 12) + 2 + 4) 138 (omega arith))
+      packet-at first k q h ∙ ap (λ (l : List ℕ). streamPacket (bits l) q) (part-first (multiframeOctets * (q / multiframePairs) + 2 + 4) streamOctets (omega arith))
 
   abbrev pub all : List ℕ
   all = receivedFrames first (rowOf k)
@@ -179,21 +179,21 @@ module _ (u : Utterance) (s : List ℕ) (d : Damage (multiframesOf u) (imageOf u
       let q = j / 2 in
       let f = frameAt (u .indices) (2 * q) in
       let g = frameAt (u .indices) (2 * q + 1) in
-      let lf : length f ≡ 7 = length-row (u .indices) (7 * (2 * q)) 7 in
-      let lg : length g ≡ 7 = length-row (u .indices) (7 * (2 * q + 1)) 7 in
+      let lf : length f ≡ frameIndices = length-row (u .indices) (frameIndices * (2 * q)) frameIndices in
+      let lg : length g ≡ frameIndices = length-row (u .indices) (frameIndices * (2 * q + 1)) frameIndices in
       let pair : part (14 * q) 14 all ≡ f ++ g =
       frames-at (received first (rowOf k)) (pairCount (rowOf k)) q (omega (arith, rows)) ∙ ap (apart widths) (packet-first q (omega arith) ∙ e)
       ∙ packetOf-back (u .indices) q (fits-each-frame u (firstFrame q)) (fits-each-frame u (secondFrame q)) in
       let room : 14 * q + 14 ≤ length all = omega (arith, length-all (received first (rowOf k)) (pairCount (rowOf k)), rows) in
       elim (ℕ-discrete (2 * q) j) [
         | yes x ↦
-            let a : 7 * j ≡ 14 * q + 0 = omega arith in
-            ap (λ (i : ℕ). part i 7 all) a ∙ part-within all (14 * q) 14 0 7 room (omega arith) ∙ ap (part 0 7) pair ∙ take-at f g 7 lf ∙ ap (frameAt (u .indices)) x
+            let a : frameIndices * j ≡ 14 * q + 0 = omega arith in
+            ap (λ (i : ℕ). part i frameIndices all) a ∙ part-within all (14 * q) 14 0 frameIndices room (omega arith) ∙ ap (part 0 frameIndices) pair ∙ take-at f g frameIndices lf ∙ ap (frameAt (u .indices)) x
         | no x ↦
-            let a : 7 * j ≡ 14 * q + 7 = omega arith in
+            let a : frameIndices * j ≡ 14 * q + frameIndices = omega arith in
             let b : 2 * q + 1 ≡ j = omega arith in
-            ap (λ (i : ℕ). part i 7 all) a ∙ part-within all (14 * q) 14 7 7 room (omega arith) ∙ ap (part 7 7) pair ∙ part-right f g 7 7 lf
-            ∙ take-all 7 g (omega arith) ∙ ap (frameAt (u .indices)) b
+            ap (λ (i : ℕ). part i frameIndices all) a ∙ part-within all (14 * q) 14 frameIndices frameIndices room (omega arith) ∙ ap (part frameIndices frameIndices) pair ∙ part-right f g frameIndices frameIndices lf
+            ∙ take-all frameIndices g (omega arith) ∙ ap (frameAt (u .indices)) b
       ]
 
   module _ (codebook thresholds : List ℤ) where

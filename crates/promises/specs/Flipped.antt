@@ -97,8 +97,8 @@ module _ (f : ℕ → List Bool) where
 
     packed-part : (q : ℕ) → streamPacket (packed (multiframeOf q)) q ≡ f q
     packed-part q =
-        let z : 12 * (q / 12) + q % 12 ≡ q = omega arith in
-        joined-part (λ r. f (firstPair (q / 12) + r)) packetBits multiframePairs (q % 12) (λ r h. long (firstPair (q / 12) + r)) (omega arith) ∙ ap f z
+        let z : multiframePairs * (q / multiframePairs) + q % multiframePairs ≡ q = omega arith in
+        joined-part (λ r. f (firstPair (q / multiframePairs) + r)) packetBits multiframePairs (q % multiframePairs) (λ r h. long (firstPair (q / multiframePairs) + r)) (omega arith) ∙ ap f z
 
 -- ---- an image with flips in its headers and any packets
 module _ (u : Utterance) (e : ℕ → ℕ) (f : ℕ → List Bool) where
@@ -130,7 +130,7 @@ module _ (u : Utterance) (e : ℕ → ℕ) (f : ℕ → List Bool) where
     module _ (long : (q : ℕ) → length (f q) ≡ packetBits) where
       -- the packets are those
       pub packets-are : (q : ℕ) → q < pairsOf u → packetIn flipped q ≡ f q
-      packets-are q h = made-packet flippedWord (packed f) (multiframesOf u) q h (length-packed f long (q / 12)) ∙ packed-part f long q
+      packets-are q h = made-packet flippedWord (packed f) (multiframesOf u) q h (length-packed f long (q / multiframePairs)) ∙ packed-part f long q
 
       -- so with packets that are damaged or not it is a damaged image
       pub flipped-damage : (most : ℕ) → ((k : ℕ) → k < multiframesOf u → ones (e k) ≤ most)
@@ -365,9 +365,9 @@ module _ (s : List ℕ) (m q : ℕ) (h : q < multiframePairs * m) (whole : right
   unfolding pairFails
   never-fails = ap (λ (p : List Bool). not (right dataBits p)) (packet-at s m q h) ∙ ap not whole
 
-  never-odd : pairInconsistent (received s (rowOf m)) zeroBook zeroThresholds q ≡ false
+  never-inconsistent : pairInconsistent (received s (rowOf m)) zeroBook zeroThresholds q ≡ false
   unfolding pairInconsistent
-  never-odd = zero-consistent (take frameIndices (framesOf (received s (rowOf m)) q)) (drop frameIndices (framesOf (received s (rowOf m)) q))
+  never-inconsistent = zero-consistent (take frameIndices (framesOf (received s (rowOf m)) q)) (drop frameIndices (framesOf (received s (rowOf m)) q))
 
   pub right-good : getD (receivedNotes s (rowOf m) zeroBook zeroThresholds) q 0 ≡ 0
   unfolding pairNotes
@@ -378,7 +378,7 @@ module _ (s : List ℕ) (m q : ℕ) (h : q < multiframePairs * m) (whole : right
       let l : q < n = omega (arith, every-length 0 m) in
       note-at false fs os q (omega (arith, length-each (pairFails (received s (rowOf m))) n))
       ∙ ap₂ (λ (x y : Bool). noteBy (badBefore false (notes fs os) q) x y (getD fs (suc q) false)) (each-at (pairFails (received s (rowOf m))) n q false l ∙ never-fails)
-      (each-at (pairInconsistent (received s (rowOf m)) zeroBook zeroThresholds) n q false l ∙ never-odd)
+      (each-at (pairInconsistent (received s (rowOf m)) zeroBook zeroThresholds) n q false l ∙ never-inconsistent)
       ∙ consistent-is-good (badBefore false (notes fs os) q) (getD fs (suc q) false)
 
   -- so there is a good one

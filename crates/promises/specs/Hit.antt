@@ -62,8 +62,8 @@ module _ (u : Utterance) (p : ℕ) where
 
   hit-part : (q : ℕ) → streamPacket (hitStream (multiframeOf q)) q ≡ hitAt q
   hit-part q =
-      let e : 12 * (q / 12) + q % 12 ≡ q = omega arith in
-      joined-part (λ r. hitAt (firstPair (q / 12) + r)) packetBits multiframePairs (q % 12) (λ r h. hit-length (firstPair (q / 12) + r)) (omega arith) ∙ ap hitAt e
+      let e : multiframePairs * (q / multiframePairs) + q % multiframePairs ≡ q = omega arith in
+      joined-part (λ r. hitAt (firstPair (q / multiframePairs) + r)) packetBits multiframePairs (q % multiframePairs) (λ r h. hit-length (firstPair (q / multiframePairs) + r)) (omega arith) ∙ ap hitAt e
 
   one-flip : (q : ℕ) → Damaged (packetOf (u .indices) q) (flip (packetOf (u .indices) q) 0)
   one-flip q = inl (flip-burst (packetOf (u .indices) q) 0 (omega (arith, length-packetOf (u .indices) q)))
@@ -87,7 +87,7 @@ module _ (u : Utterance) (p : ℕ) where
       }
 
   got : (q : ℕ) → q < pairsOf u → packetIn hitImage q ≡ hitAt q
-  got q h = made-packet word hitStream (multiframesOf u) q h (stream-length (q / 12)) ∙ hit-part q
+  got q h = made-packet word hitStream (multiframesOf u) q h (stream-length (q / multiframePairs)) ∙ hit-part q
 
   sent : (q : ℕ) → q < pairsOf u → packetIn (imageOf u) q ≡ packetOf (u .indices) q
   sent q h = image-packet (u .settings) (u .indices) (multiframesOf u) q h

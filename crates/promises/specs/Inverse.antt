@@ -51,16 +51,16 @@ at-places : (cs : List Chunk) (pre : List ℕ) (k : ℕ) → Proper cs → k < l
     → part (getD (placesOf (length pre) cs) k 0) multiframeOctets (pre ++ octetsOf cs) ≡ getD (multiframesIn cs) k []
 at-places [] pre k ok h = absurd (omega arith)
 at-places (multiframe f ∷ cs) pre zero ok h =
-    part-right pre (f ++ octetsOf cs) (length pre) 144 refl ∙ take-at f (octetsOf cs) 144 (ok .0)
+    part-right pre (f ++ octetsOf cs) (length pre) multiframeOctets refl ∙ take-at f (octetsOf cs) multiframeOctets (ok .0)
 at-places (multiframe f ∷ cs) pre (suc k) ok h =
-    let l : length (pre ++ f) ≡ length pre + 144 = length-append pre f ∙ ap (λ (n : ℕ). length pre + n) (ok .0) in
+    let l : length (pre ++ f) ≡ length pre + multiframeOctets = length-append pre f ∙ ap (λ (n : ℕ). length pre + n) (ok .0) in
     let x = at-places cs (pre ++ f) k (ok .3) (subst (λ (n : ℕ). k < length (placesOf n cs)) (sym l) (omega arith)) in
-    ap₂ (λ (n : ℕ) (o : List ℕ). part (getD (placesOf n cs) k 0) 144 o) (sym l) (sym (append-assoc pre f (octetsOf cs))) ∙ x
+    ap₂ (λ (n : ℕ) (o : List ℕ). part (getD (placesOf n cs) k 0) multiframeOctets o) (sym l) (sym (append-assoc pre f (octetsOf cs))) ∙ x
 at-places (inverse ∷ cs) pre k ok h =
     let i : List ℕ = inverseFirst ∷ inverseSecond ∷ [] in
     let l : length (pre ++ i) ≡ length pre + 2 = length-append pre i in
     let x = at-places cs (pre ++ i) k ok (subst (λ (n : ℕ). k < length (placesOf n cs)) (sym l) h) in
-    ap₂ (λ (n : ℕ) (o : List ℕ). part (getD (placesOf n cs) k 0) 144 o) (sym l) (sym (append-assoc pre i (octetsOf cs))) ∙ x
+    ap₂ (λ (n : ℕ) (o : List ℕ). part (getD (placesOf n cs) k 0) multiframeOctets o) (sym l) (sym (append-assoc pre i (octetsOf cs))) ∙ x
 
 -- ---- THE THEOREM: whole multiframes, 1 to 255 of them, with any inverse syncs anywhere among them, are read as without them
 pub inverses-change-nothing : (cs : List Chunk) → Proper cs → 0 < multiframeCount cs → multiframeCount cs ≤ mostMultiframes
@@ -70,8 +70,8 @@ inverses-change-nothing cs ok some few codebook thresholds index report =
     same-read (octetsOf cs) (placesOf 0 cs) (octetsOf (plain cs)) (placesOf 0 (plain cs)) count
     (λ k h. at-places cs [] k ok h ∙ sym (ap (λ (l : List (List ℕ)). getD l k []) (same-multiframes cs))
     ∙ sym (at-places (plain cs) [] k (plain-proper cs ok) (omega (arith, count))))
-    (λ k h. subst (λ (w : Cutting). k < length (w .places) → getD (w .places) k 0 + 144 ≤ length (octetsOf cs)) c₁ (places-placed (octetsOf cs) k) h)
-    (λ k h. subst (λ (w : Cutting). k < length (w .places) → getD (w .places) k 0 + 144 ≤ length (octetsOf (plain cs))) c₂ (places-placed (octetsOf (plain cs)) k) h)
+    (λ k h. subst (λ (w : Cutting). k < length (w .places) → getD (w .places) k 0 + multiframeOctets ≤ length (octetsOf cs)) c₁ (places-placed (octetsOf cs) k) h)
+    (λ k h. subst (λ (w : Cutting). k < length (w .places) → getD (w .places) k 0 + multiframeOctets ≤ length (octetsOf (plain cs))) c₂ (places-placed (octetsOf (plain cs)) k) h)
     codebook thresholds index report c₁ c₂ (omega (arith, places-count cs 0))
   where
     count : length (placesOf 0 cs) ≡ length (placesOf 0 (plain cs))
@@ -134,9 +134,9 @@ pub one-in-image : (u : Utterance) (s : List ℕ) → Damage (multiframesOf u) (
     → reading (take (multiframeOctets * k) s ++ (inverseFirst ∷ inverseSecond ∷ drop (multiframeOctets * k) s)) codebook thresholds index report
     ≡ reading s codebook thresholds index report
 one-in-image u s d k within codebook thresholds index report =
-    one-inverse (take (144 * k) s) (drop (144 * k) s) (ap (λ (w : Cutting). w .ending) front) (ap (λ (w : Cutting). w .ending) back) (omega (arith, n)) (omega (arith, n, few))
+    one-inverse (take (multiframeOctets * k) s) (drop (multiframeOctets * k) s) (ap (λ (w : Cutting). w .ending) front) (ap (λ (w : Cutting). w .ending) back) (omega (arith, n)) (omega (arith, n, few))
     codebook thresholds index report
-    ∙ ap (λ (l : List ℕ). reading l codebook thresholds index report) (take-append-drop (144 * k) s)
+    ∙ ap (λ (l : List ℕ). reading l codebook thresholds index report) (take-append-drop (multiframeOctets * k) s)
   where
     few : multiframesOf u ≤ mostMultiframes
     few = F.few u s d k within
@@ -146,11 +146,11 @@ one-in-image u s d k within codebook thresholds index report =
 
     syncs : (i : ℕ) → i < multiframesOf u - k → syncIn (drop (multiframeOctets * k) s) i ≡ sync
     syncs i h =
-        let e : 144 * k + 144 * i ≡ 144 * (k + i) = omega arith in
-        ap (take 2) (drop-drop (144 * i) (144 * k) s ∙ ap (λ (j : ℕ). drop j s) e) ∙ F.syncs u s d k within (k + i) (omega arith)
+        let e : multiframeOctets * k + multiframeOctets * i ≡ multiframeOctets * (k + i) = omega arith in
+        ap (take 2) (drop-drop (multiframeOctets * i) (multiframeOctets * k) s ∙ ap (λ (j : ℕ). drop j s) e) ∙ F.syncs u s d k within (k + i) (omega arith)
 
     back : cutting (drop (multiframeOctets * k) s) ≡ record { places = rowOf (multiframesOf u - k); ending = whole }
-    back = cut-is (drop (144 * k) s) (multiframesOf u - k) (omega (arith, few)) (length-drop (144 * k) s ∙ omega (arith, F.size u s d k within)) syncs
+    back = cut-is (drop (multiframeOctets * k) s) (multiframesOf u - k) (omega (arith, few)) (length-drop (multiframeOctets * k) s ∙ omega (arith, F.size u s d k within)) syncs
 
     n : found (take (multiframeOctets * k) s) + found (drop (multiframeOctets * k) s) ≡ multiframesOf u
     n =
@@ -214,38 +214,38 @@ module _ (g : ℕ → ℕ) (s : List ℕ) where
   unfolding spacedChunks
   spaced-octets k zero = quiet-octets (g k) [] ∙ append-nil (inverses (g k))
   spaced-octets k (suc n) =
-      quiet-octets (g k) (multiframe (part (144 * k) 144 s) ∷ spacedChunks g s (suc k) n)
-      ∙ ap (λ (l : List ℕ). inverses (g k) ++ (part (144 * k) 144 s ++ l)) (spaced-octets (suc k) n)
+      quiet-octets (g k) (multiframe (part (multiframeOctets * k) multiframeOctets s) ∷ spacedChunks g s (suc k) n)
+      ∙ ap (λ (l : List ℕ). inverses (g k) ++ (part (multiframeOctets * k) multiframeOctets s ++ l)) (spaced-octets (suc k) n)
 
   spaced-plain : (k n : ℕ) → length s ≡ multiframeOctets * (k + n) → octetsOf (plain (spacedChunks g s k n)) ≡ drop (multiframeOctets * k) s
   unfolding spacedChunks
   spaced-plain k zero size =
-      let e : 144 * k ≡ length s = omega arith in
+      let e : multiframeOctets * k ≡ length s = omega arith in
       ap octetsOf (quiet-plain (g k) []) ∙ sym (ap (λ (i : ℕ). drop i s) e ∙ drop-length s)
   spaced-plain k (suc n) size =
-      let e : 144 * suc k ≡ 144 * k + 144 = omega arith in
-      ap octetsOf (quiet-plain (g k) (multiframe (part (144 * k) 144 s) ∷ spacedChunks g s (suc k) n))
-      ∙ ap (λ (l : List ℕ). part (144 * k) 144 s ++ l)
-      (spaced-plain (suc k) n (omega arith) ∙ ap (λ (i : ℕ). drop i s) e ∙ sym (drop-drop 144 (144 * k) s))
-      ∙ take-append-drop 144 (drop (144 * k) s)
+      let e : multiframeOctets * suc k ≡ multiframeOctets * k + multiframeOctets = omega arith in
+      ap octetsOf (quiet-plain (g k) (multiframe (part (multiframeOctets * k) multiframeOctets s) ∷ spacedChunks g s (suc k) n))
+      ∙ ap (λ (l : List ℕ). part (multiframeOctets * k) multiframeOctets s ++ l)
+      (spaced-plain (suc k) n (omega arith) ∙ ap (λ (i : ℕ). drop i s) e ∙ sym (drop-drop multiframeOctets (multiframeOctets * k) s))
+      ∙ take-append-drop multiframeOctets (drop (multiframeOctets * k) s)
 
   spaced-count : (k n : ℕ) → multiframeCount (spacedChunks g s k n) ≡ n
   unfolding spacedChunks
   spaced-count k zero = quiet-count (g k) []
-  spaced-count k (suc n) = quiet-count (g k) (multiframe (part (144 * k) 144 s) ∷ spacedChunks g s (suc k) n) ∙ ap suc (spaced-count (suc k) n)
+  spaced-count k (suc n) = quiet-count (g k) (multiframe (part (multiframeOctets * k) multiframeOctets s) ∷ spacedChunks g s (suc k) n) ∙ ap suc (spaced-count (suc k) n)
 
   module _ (m : ℕ) (size : length s ≡ multiframeOctets * m) (syncs : (k : ℕ) → k < m → syncIn s k ≡ sync) where
     in-sync : (k i : ℕ) → k < m → i < 2 → getD (part (multiframeOctets * k) multiframeOctets s) i 0 ≡ getD sync i 0
     in-sync k i h l =
-        getD-take 144 (drop (144 * k) s) i 0 (omega arith) ∙ sym (getD-take 2 (drop (144 * k) s) i 0 l) ∙ ap (λ (x : List ℕ). getD x i 0) (syncs k h)
+        getD-take multiframeOctets (drop (multiframeOctets * k) s) i 0 (omega arith) ∙ sym (getD-take 2 (drop (multiframeOctets * k) s) i 0 l) ∙ ap (λ (x : List ℕ). getD x i 0) (syncs k h)
 
     spaced-proper : (k n : ℕ) → k + n ≡ m → Proper (spacedChunks g s k n)
     unfolding spacedChunks
     spaced-proper k zero e = quiet-proper (g k) [] tt
     spaced-proper k (suc n) e =
         let h : k < m = omega arith in
-        quiet-proper (g k) (multiframe (part (144 * k) 144 s) ∷ spacedChunks g s (suc k) n)
-        (length-part s (144 * k) 144 (omega arith), in-sync k 0 h (omega arith), in-sync k 1 h (omega arith), spaced-proper (suc k) n (omega arith))
+        quiet-proper (g k) (multiframe (part (multiframeOctets * k) multiframeOctets s) ∷ spacedChunks g s (suc k) n)
+        (length-part s (multiframeOctets * k) multiframeOctets (omega arith), in-sync k 0 h (omega arith), in-sync k 1 h (omega arith), spaced-proper (suc k) n (omega arith))
 
 -- they change nothing of the reading of m multiframes, each with its sync
 pub spaced-same : (s : List ℕ) (m : ℕ) → 0 < m → m ≤ mostMultiframes → length s ≡ multiframeOctets * m
@@ -296,8 +296,8 @@ apart-24 = record {
         let a = part 0 multiframeOctets (hurtImage says24) in
         let b = part multiframeOctets multiframeOctets (hurtImage says24) in
         let three : List ℕ = 0x78 ∷ 0x4D ∷ 0x78 ∷ 0x4D ∷ 0x78 ∷ 0x4D ∷ [] in
-        let la : length a ≡ 144 = length-part (hurtImage says24) 0 144 (omega (arith, size)) in
-        let lb : length b ≡ 144 = length-part (hurtImage says24) 144 144 (omega (arith, size)) in
+        let la : length a ≡ multiframeOctets = length-part (hurtImage says24) 0 multiframeOctets (omega (arith, size)) in
+        let lb : length b ≡ multiframeOctets = length-part (hurtImage says24) multiframeOctets multiframeOctets (omega (arith, size)) in
         omega (arith, length-append a (0x78 ∷ 0x4D ∷ 0x78 ∷ 0x4D ∷ (b ++ three)), length-append b three, size)
 
     same : reading apart24 zeroBook zeroThresholds (indexFor 2) (reportFor 2) ≡ reading (hurtImage says24) zeroBook zeroThresholds (indexFor 2) (reportFor 2)

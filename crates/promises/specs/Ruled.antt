@@ -18,12 +18,12 @@ use Rattle.reader.specs.declared.Answer.the-variants.{Read, Refused}
 use Rattle.writer.specs.Image.{Utterance, multiframesOf, pairsOf, imageOf}
 use Rattle.demands.specs.Damage.{Touched}
 use Rattle.demands.specs.Whole.{Lent, pairNoteIn}
-use Rattle.demands.specs.Received.{Odd, BadBefore, ByRule, BadPair, Count, count-once, count-one, count-none}
+use Rattle.demands.specs.Received.{Inconsistent, BadBefore, ByRule, BadPair, Count, count-once, count-one, count-none}
 use Rattle.demands.specs.Met.{indexFor, reportFor}
 use Rattle.demands.specs.Needed.{all-bad-refuses}
 use Rattle.demands.specs.NamesTheDamage as N
 use Rattle.promises.specs.Hit.{hitImage, hits, is-hit, not-hit, clean-header}
-use Rattle.promises.specs.Said.{rises23, rises47, rises7, stairBook, fours, lent-stairs, odd-23, odd-47, odd-7, even-7}
+use Rattle.promises.specs.Said.{rises23, rises47, rises7, stairBook, fours, lent-stairs, inconsistent-23, inconsistent-47, inconsistent-7, consistent-7}
 
 -- ---- which pairs are bad where pair p alone is damaged, whatever the utterance and the tables
 module _ (u : Utterance) (p : ℕ) (inside : p < pairsOf u) (codebook thresholds : List ℤ) where
@@ -31,21 +31,21 @@ module _ (u : Utterance) (p : ℕ) (inside : p < pairsOf u) (codebook thresholds
   s = hitImage u p
 
   -- the pair before it, if it is inconsistent
-  pub ruled-before : (q : ℕ) → suc q ≡ p → Odd u s codebook thresholds q → ByRule u s codebook thresholds q
-  ruled-before q e odd = (odd, inl (omega arith, subst (λ (x : ℕ). Touched (imageOf u) s x) (sym e) (is-hit u p inside)))
+  pub ruled-before : (q : ℕ) → suc q ≡ p → Inconsistent u s codebook thresholds q → ByRule u s codebook thresholds q
+  ruled-before q e inconsistent = (inconsistent, inl (omega arith, subst (λ (x : ℕ). Touched (imageOf u) s x) (sym e) (is-hit u p inside)))
 
   -- THE CHAIN: each pair behind it, if that and all between are inconsistent
-  bad-behind : (q : ℕ) → p < q → ((i : ℕ) → p < i → i < q → Odd u s codebook thresholds i) → BadBefore u s codebook thresholds q
+  bad-behind : (q : ℕ) → p < q → ((i : ℕ) → p < i → i < q → Inconsistent u s codebook thresholds i) → BadBefore u s codebook thresholds q
   unfolding BadBefore
-  bad-behind zero h odd = absurd (omega arith)
-  bad-behind (suc q) h odd =
+  bad-behind zero h inconsistent = absurd (omega arith)
+  bad-behind (suc q) h inconsistent =
       elim (ℕ-discrete q p) [
         | yes e ↦ inl (subst (λ (x : ℕ). Touched (imageOf u) s x) (sym e) (is-hit u p inside))
-        | no n ↦ inr (odd q (omega arith) (omega arith), inr (bad-behind q (omega arith) (λ i a b. odd i a (omega arith))))
+        | no n ↦ inr (inconsistent q (omega arith) (omega arith), inr (bad-behind q (omega arith) (λ i a b. inconsistent i a (omega arith))))
       ]
 
-  pub ruled-behind : (q : ℕ) → p < q → ((i : ℕ) → p < i → i ≤ q → Odd u s codebook thresholds i) → ByRule u s codebook thresholds q
-  ruled-behind q h odd = (odd q h (omega arith), inr (bad-behind q h (λ i a b. odd i a (omega arith))))
+  pub ruled-behind : (q : ℕ) → p < q → ((i : ℕ) → p < i → i ≤ q → Inconsistent u s codebook thresholds i) → ByRule u s codebook thresholds q
+  ruled-behind q h inconsistent = (inconsistent q h (omega arith), inr (bad-behind q h (λ i a b. inconsistent i a (omega arith))))
 
   -- no pair before that is bad, however inconsistent
   none-from : (q : ℕ) → q < p → BadBefore u s codebook thresholds q → ⊥
@@ -61,20 +61,20 @@ module _ (u : Utterance) (p : ℕ) (inside : p < pairsOf u) (codebook thresholds
       (λ r. ⊎-elim (λ t. not-hit u p (suc q) (t .0) (λ e. omega arith) (t .1)) (none-from q (omega arith)) (r .1)) b
 
   -- and the chain stops at the first consistent pair r: neither it nor any behind it is bad
-  none-past : (r : ℕ) → p < r → (Odd u s codebook thresholds r → ⊥) → (q : ℕ) → r < q → q ≤ pairsOf u → BadBefore u s codebook thresholds q → ⊥
+  none-past : (r : ℕ) → p < r → (Inconsistent u s codebook thresholds r → ⊥) → (q : ℕ) → r < q → q ≤ pairsOf u → BadBefore u s codebook thresholds q → ⊥
   unfolding BadBefore
-  none-past r h even zero l i b = absurd (omega arith)
-  none-past r h even (suc q) l i b =
+  none-past r h consistent zero l i b = absurd (omega arith)
+  none-past r h consistent (suc q) l i b =
       ⊎-elim (not-hit u p q (omega arith) (λ e. omega arith))
       (λ x. ⊎-elim (λ t. not-hit u p (suc q) (t .0) (λ e. omega arith) (t .1))
       (λ y. elim (ℕ-discrete q r) [
-        | yes e ↦ even (subst (λ (j : ℕ). Odd u s codebook thresholds j) e (x .0))
-        | no n ↦ none-past r h even q (omega arith) (omega arith) y
+        | yes e ↦ consistent (subst (λ (j : ℕ). Inconsistent u s codebook thresholds j) e (x .0))
+        | no n ↦ none-past r h consistent q (omega arith) (omega arith) y
       ]) (x .1)) b
 
-  pub good-past : (r : ℕ) → p < r → (Odd u s codebook thresholds r → ⊥) → (q : ℕ) → r ≤ q → q < pairsOf u → BadPair u s codebook thresholds q → ⊥
+  pub good-past : (r : ℕ) → p < r → (Inconsistent u s codebook thresholds r → ⊥) → (q : ℕ) → r ≤ q → q < pairsOf u → BadPair u s codebook thresholds q → ⊥
   unfolding BadBefore
-  good-past r h even q l i = none-past r h even (suc q) (omega arith) (omega arith)
+  good-past r h consistent q l i = none-past r h consistent (suc q) (omega arith) (omega arith)
 
   -- any pair that is not bad meets the premises of NAMES THE DAMAGE, also of one multiframe, since no header is touched
   pub met : (index report : List ℕ) → Lent (multiframesOf u) codebook thresholds index report → (q : ℕ) → q < pairsOf u → (BadPair u s codebook thresholds q → ⊥)
@@ -111,16 +111,16 @@ pub record Chain (u : Utterance) (p : ℕ) (codebook thresholds : List ℤ) (ind
   pub count : p - 1 + given .bad ≡ pairsOf u
 
 -- if it is not one of the first two pairs, so that one is good
-pub chain : (u : Utterance) (p : ℕ) (codebook thresholds : List ℤ) (index report : List ℕ) → ((q : ℕ) → q < pairsOf u → Odd u (hitImage u p) codebook thresholds q)
+pub chain : (u : Utterance) (p : ℕ) (codebook thresholds : List ℤ) (index report : List ℕ) → ((q : ℕ) → q < pairsOf u → Inconsistent u (hitImage u p) codebook thresholds q)
     → 2 ≤ p → p < pairsOf u → Lent (multiframesOf u) codebook thresholds index report → Chain u p codebook thresholds index report
-chain u p codebook thresholds index report odd two inside lent = record {
+chain u p codebook thresholds index report inconsistent two inside lent = record {
   alone = not-hit u p;
   premises = premises;
   given = named .given;
   is-read = named .succeeds;
   hit = named .names .damaged p inside .1 (is-hit u p inside);
-  before = λ q e. note-2 q (omega arith) (λ x. omega arith) (ruled-before u p inside codebook thresholds q e (odd q (omega arith)));
-  behind = λ q h l. note-2 q l (λ x. omega arith) (ruled-behind u p inside codebook thresholds q h (λ i a b. odd i (omega arith)));
+  before = λ q e. note-2 q (omega arith) (λ x. omega arith) (ruled-before u p inside codebook thresholds q e (inconsistent q (omega arith)));
+  behind = λ q h l. note-2 q l (λ x. omega arith) (ruled-behind u p inside codebook thresholds q h (λ i a b. inconsistent i (omega arith)));
   earlier = λ q h. elim (ℕ-discrete (note q) 0) [
     | yes z ↦ z
     | no z ↦ absurd (good-before u p inside codebook thresholds q h (inr (named .names .others q (omega arith) (not-hit u p q (omega arith) (λ e. omega arith)) .0 z)))
@@ -145,8 +145,8 @@ chain u p codebook thresholds index report odd two inside lent = record {
     bad-from q l h = by (decLt q p) (decLt p q)
       where
         by : Dec (q < p) → Dec (p < q) → BadPair u (hitImage u p) codebook thresholds q
-        by (yes a) b = inr (ruled-before u p inside codebook thresholds q (omega arith) (odd q h))
-        by (no a) (yes b) = inr (ruled-behind u p inside codebook thresholds q b (λ i x y. odd i (omega arith)))
+        by (yes a) b = inr (ruled-before u p inside codebook thresholds q (omega arith) (inconsistent q h))
+        by (no a) (yes b) = inr (ruled-behind u p inside codebook thresholds q b (λ i x y. inconsistent i (omega arith)))
         by (no a) (no b) = let e : p ≡ q = omega arith in inl (subst (λ (x : ℕ). Touched (imageOf u) (hitImage u p) x) e (is-hit u p inside))
 
     all-behind : Count (BadPair u (hitImage u p) codebook thresholds) (pairsOf u) (pairsOf u - (p - 1))
@@ -158,11 +158,11 @@ chain u p codebook thresholds index report odd two inside lent = record {
 
 -- it is so of one multiframe
 pub chain-23 : Chain rises23 5 stairBook fours (indexFor 1) (reportFor 1)
-chain-23 = chain rises23 5 stairBook fours (indexFor 1) (reportFor 1) odd-23 (omega arith) (omega arith) (lent-stairs 1)
+chain-23 = chain rises23 5 stairBook fours (indexFor 1) (reportFor 1) inconsistent-23 (omega arith) (omega arith) (lent-stairs 1)
 
 -- of two, where the chain runs on from the first into the second
 pub chain-47 : Chain rises47 10 stairBook fours (indexFor 2) (reportFor 2)
-chain-47 = chain rises47 10 stairBook fours (indexFor 2) (reportFor 2) odd-47 (omega arith) (omega arith) (lent-stairs 2)
+chain-47 = chain rises47 10 stairBook fours (indexFor 2) (reportFor 2) inconsistent-47 (omega arith) (omega arith) (lent-stairs 2)
 
 -- and a chain that stops: of 7 frames the first pair is damaged, the three behind it are bad by the rule, and the padding behind them is good
 pub record Stops : Type 0 where
@@ -175,27 +175,27 @@ pub stops-7 : Stops
 stops-7 = record {
   premises = met rises7 0 (omega arith) stairBook fours (indexFor 1) (reportFor 1) (lent-stairs 1) 4 (omega arith) (good 4 (omega arith) (omega arith));
   hit = is-hit rises7 0 (omega arith);
-  ruled = λ q h l. ruled-behind rises7 0 (omega arith) stairBook fours q h (λ i a b. odd-7 i (omega arith));
+  ruled = λ q h l. ruled-behind rises7 0 (omega arith) stairBook fours q h (λ i a b. inconsistent-7 i (omega arith));
   good = good;
 }
   where
     good : (q : ℕ) → 4 ≤ q → q < 12 → BadPair rises7 (hitImage rises7 0) stairBook fours q → ⊥
-    good = good-past rises7 0 (omega arith) stairBook fours 4 (omega arith) (λ e. true-false (sym e ∙ even-7))
+    good = good-past rises7 0 (omega arith) stairBook fours 4 (omega arith) (λ e. true-false (sym e ∙ consistent-7))
 
 -- ---- ONE UNDAMAGED PAIR IS NOT ENOUGH: only the first pair is damaged, every other is bad by the rule, and the reading is refused, 20
-pub undamaged-not-enough : (u : Utterance) (codebook thresholds : List ℤ) (index report : List ℕ) → ((q : ℕ) → q < pairsOf u → Odd u (hitImage u 0) codebook thresholds q)
+pub undamaged-not-enough : (u : Utterance) (codebook thresholds : List ℤ) (index report : List ℕ) → ((q : ℕ) → q < pairsOf u → Inconsistent u (hitImage u 0) codebook thresholds q)
     → Lent (multiframesOf u) codebook thresholds index report
     → ((q : ℕ) → 0 < q → q < pairsOf u → Touched (imageOf u) (hitImage u 0) q → ⊥)
     × (reading (hitImage u 0) codebook thresholds index report ≡ outcome (Refused AllBad) index report)
-undamaged-not-enough u codebook thresholds index report odd lent = (
+undamaged-not-enough u codebook thresholds index report inconsistent lent = (
   (λ q h l. not-hit u 0 q l (λ e. omega arith)),
   all-bad-refuses u (hitImage u 0) (hits u 0) codebook thresholds index report lent (inr (clean-header u 0 0 (omega arith))) every,
 )
   where
     every : (q : ℕ) → q < pairsOf u → BadPair u (hitImage u 0) codebook thresholds q
     every zero h = inl (is-hit u 0 h)
-    every (suc q) h = inr (ruled-behind u 0 (omega arith) codebook thresholds (suc q) (omega arith) (λ i a b. odd i (omega arith)))
+    every (suc q) h = inr (ruled-behind u 0 (omega arith) codebook thresholds (suc q) (omega arith) (λ i a b. inconsistent i (omega arith)))
 
 -- it is so of one multiframe
 pub all-but-one : reading (hitImage rises23 0) stairBook fours (indexFor 1) (reportFor 1) ≡ outcome (Refused AllBad) (indexFor 1) (reportFor 1)
-all-but-one = undamaged-not-enough rises23 stairBook fours (indexFor 1) (reportFor 1) odd-23 (lent-stairs 1) .1
+all-but-one = undamaged-not-enough rises23 stairBook fours (indexFor 1) (reportFor 1) inconsistent-23 (lent-stairs 1) .1

@@ -111,26 +111,26 @@ lent-stairs m = record {
 }
 
 -- which pairs are inconsistent: of 23 and of 47 frames all, also the last, whose second frame is padding
-abbrev oddPair : List ℕ → ℕ → Bool
-oddPair idx q = inconsistent stairBook fours (frameAt idx (firstFrame q)) (frameAt idx (secondFrame q))
+abbrev inconsistentPair : List ℕ → ℕ → Bool
+inconsistentPair idx q = inconsistent stairBook fours (frameAt idx (firstFrame q)) (frameAt idx (secondFrame q))
 
 is-true : (b : Bool) → T b → b ≡ true
 is-true true t = refl
 is-true false t = absurd t
 
-pub odd-23 : (q : ℕ) → q < 12 → inconsistent stairBook fours (frameAt (rising 11) (firstFrame q)) (frameAt (rising 11) (secondFrame q)) ≡ true
+pub inconsistent-23 : (q : ℕ) → q < 12 → inconsistent stairBook fours (frameAt (rising 11) (firstFrame q)) (frameAt (rising 11) (secondFrame q)) ≡ true
 unfolding inconsistent flags flagged row
-odd-23 q h = is-true (oddPair (rising 11) q) (all-holds (oddPair (rising 11)) 12 tt q h)
+inconsistent-23 q h = is-true (inconsistentPair (rising 11) q) (all-holds (inconsistentPair (rising 11)) 12 tt q h)
 
-pub odd-47 : (q : ℕ) → q < 24 → inconsistent stairBook fours (frameAt (rising 23) (firstFrame q)) (frameAt (rising 23) (secondFrame q)) ≡ true
+pub inconsistent-47 : (q : ℕ) → q < 24 → inconsistent stairBook fours (frameAt (rising 23) (firstFrame q)) (frameAt (rising 23) (secondFrame q)) ≡ true
 unfolding inconsistent flags flagged row
-odd-47 q h = is-true (oddPair (rising 23) q) (all-holds (oddPair (rising 23)) 24 tt q h)
+inconsistent-47 q h = is-true (inconsistentPair (rising 23) q) (all-holds (inconsistentPair (rising 23)) 24 tt q h)
 
 -- of 7 frames the first four pairs, and not the fifth, which is padding
-pub odd-7 : (q : ℕ) → q < 4 → inconsistent stairBook fours (frameAt (rising 3) (firstFrame q)) (frameAt (rising 3) (secondFrame q)) ≡ true
+pub inconsistent-7 : (q : ℕ) → q < 4 → inconsistent stairBook fours (frameAt (rising 3) (firstFrame q)) (frameAt (rising 3) (secondFrame q)) ≡ true
 unfolding inconsistent flags flagged row
-odd-7 q h = is-true (oddPair (rising 3) q) (all-holds (oddPair (rising 3)) 4 tt q h)
+inconsistent-7 q h = is-true (inconsistentPair (rising 3) q) (all-holds (inconsistentPair (rising 3)) 4 tt q h)
 
-pub even-7 : inconsistent stairBook fours (frameAt (rising 3) (firstFrame 4)) (frameAt (rising 3) (secondFrame 4)) ≡ false
+pub consistent-7 : inconsistent stairBook fours (frameAt (rising 3) (firstFrame 4)) (frameAt (rising 3) (secondFrame 4)) ≡ false
 unfolding inconsistent flags flagged row
-even-7 = refl
+consistent-7 = refl

@@ -12,7 +12,7 @@ use borrow.Author.Tests.{ne-eqb}
 use Rattle.lists.specs.Tests.{when}
 use Rattle.lists.specs.Parts.{part, over}
 use Rattle.lists.specs.Rows.{each, joined, same-each, same-joined}
-use Rattle.layout.specs.Layout.{widths, frameIndices, dataBits, multiframePairs, multiframeOctets, indexOctets, reportOctets, codebookNumbers, thresholdNumbers, firstPair}
+use Rattle.layout.specs.Layout.{widths, frameIndices, dataBits, multiframePairs, streamOctets, multiframeOctets, indexOctets, reportOctets, codebookNumbers, thresholdNumbers, firstPair}
 use Rattle.bits.specs.Bits.{value, bits}
 use Rattle.crc.specs.Crc.{right}
 use Rattle.packet.specs.Packet.{apart}
@@ -55,10 +55,10 @@ module _ (o₁ p₁ o₂ p₂ : List ℕ) (count : length p₁ ≡ length p₂)
   stream-same k h =
       let a : getD p₁ k 0 + 2 + 4 ≡ getD p₁ k 0 + 6 = omega arith in
       let b : getD p₂ k 0 + 6 ≡ getD p₂ k 0 + 2 + 4 = omega arith in
-      ap (λ (i : ℕ). part i 138 o₁) a ∙ piece k 6 138 h (omega arith) ∙ ap (λ (i : ℕ). part i 138 o₂) b
+      ap (λ (i : ℕ). part i streamOctets o₁) a ∙ piece k 6 streamOctets h (omega arith) ∙ ap (λ (i : ℕ). part i streamOctets o₂) b
 
   packet-same : (q : ℕ) → q < multiframePairs * length p₁ → received o₁ p₁ q ≡ received o₂ p₂ q
-  packet-same q h = ap (λ (l : List ℕ). streamPacket (bits l) q) (stream-same (q / 12) (omega arith))
+  packet-same q h = ap (λ (l : List ℕ). streamPacket (bits l) q) (stream-same (q / multiframePairs) (omega arith))
 
   pairs-count : pairCount p₁ ≡ pairCount p₂
   pairs-count = ap (λ (n : ℕ). multiframePairs * n) count

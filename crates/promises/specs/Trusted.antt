@@ -114,7 +114,7 @@ module _ (u : Utterance) (s : List ℕ) (p : Premises u s) (codebook thresholds 
       ap (λ (l : List ℕ). getD (readings s l) k Lost) cut ∙ ap (λ (l : List Header). getD l k Lost) (readings-are s m) ∙ each-at (λ k. H.reading (wordIn s k)) m k Lost h in
       let z : headerNote c k (getD (readings s places) k Lost) ≡ 0 =
       sym (ap (λ (o : Outcome). headerNoteIn (o .report) k) (w .result-is) ∙ header-note-is s places ns report c (reportOctets * length places) notes-size k (omega (arith, rows)))
-      ∙ x .notes-0 (13 * k) (omega (arith, count)) in
+      ∙ x .notes-0 (reportOctets * k) (omega (arith, count)) in
       clean-header c k (wordIn s k) (w .reader-accepts .fitting .usable .exp) (ap (headerNote c k) (sym r) ∙ z)
 
   -- of which one is that near to the one sent
@@ -152,7 +152,7 @@ module _ (u : Utterance) (s : List ℕ) (p : Premises u s) (codebook thresholds 
       z : getD ns q 0 ≡ 0
       z =
           sym (ap (λ (o : Outcome). pairNoteIn (o .report) q) (w .result-is) ∙ pair-note-is s places ns report c (reportOctets * length places) notes-size q (omega (arith, rows)))
-          ∙ x .notes-0 (13 * (q / 12) + 1 + q % 12) (omega (arith, count))
+          ∙ x .notes-0 (reportOctets * (q / multiframePairs) + 1 + q % multiframePairs) (omega (arith, count))
 
       by : Fate u s d q h → packetOf (u .indices) q ≡ packetIn s q
       by (whole a r) = sym a

@@ -1,5 +1,6 @@
 -- When each refusal is given (01, the reader's table): the answer is that refusal exactly if its own condition holds and that of none before it in
--- 01's order. `Given` has a line for each of 11 to 20, in 01's words.
+-- 01's order. `Given` has a line for each of 11 to 20, in 01's words; of 12, 13 and 15 it speaks by where cutting gets to and what stands there,
+-- not by cutting's answer.
 -- Assumes nothing.
 use Prim.Native.Nat.{ℕ, _*_, _≤_, _<_}
 use native.Mathlib.Omega.{arith}
@@ -15,7 +16,8 @@ use Rattle.layout.specs.Layout.{indexOctets, reportOctets, codebookNumbers, thr
 use Rattle.refusals.specs.declared.Reading.{Reading as Refusal}
 use Rattle.refusals.specs.declared.Reading.the-variants.{WrongTables, Unknown, CutShort, Empty, TooMany, Unsettled, Unfit, IndexShort, ReportShort, AllBad}
 use Rattle.cutting.specs.Cutting.{Ending, whole, refused, cutting}
-use Rattle.cutting.specs.Laws.{Met, sound}
+use Rattle.cutting.specs.Reached.{Reached, Meets, Reason, ends-exactly, whole-exactly}
+use Rattle.cutting.specs.declared.Piece.the-variants as P
 use Rattle.header.specs.Message.{rateOf, expOf}
 use Rattle.settling.specs.Settling.{readings, settling}
 use Rattle.settling.specs.declared.Settlement.{Settlement}
@@ -37,9 +39,9 @@ module _ (octets : List ℕ) (codebook thresholds : List ℤ) (index report : �
   abbrev pub Tables : Type 0
   Tables = (length codebook ≡ codebookNumbers) × (length thresholds ≡ thresholdNumbers)
 
-  -- none of 11, 12, 13 and 15
+  -- none of 11, 12, 13 and 15: cutting gets to the end of the octets
   abbrev pub CutUp : Type 0
-  CutUp = Tables × (cutting octets .ending ≡ whole)
+  CutUp = Tables × Reached octets (length octets) (length places)
 
   -- nor 14
   abbrev pub Some : Type 0
@@ -61,11 +63,13 @@ module _ (octets : List ℕ) (codebook thresholds : List ℤ) (index report : �
   abbrev pub Given : Refusal → Type 0
   -- 11: codebook not 1,280 or thresholds not 14. It comes first
   Given WrongTables = Tables → ⊥
-  -- 12, 13 and 15 come as cutting meets them: octets at p begin nothing known; sync with too few octets, or a lone last 87 or 78; a sync after 255
-  -- multiframes, even a cut one (`Says` of cutting has these words, and by `sound` they hold at the place)
-  Given (Unknown p) = Tables × (cutting octets .ending ≡ refused (Unknown p))
-  Given (CutShort p) = Tables × (cutting octets .ending ≡ refused (CutShort p))
-  Given (TooMany p) = Tables × (cutting octets .ending ≡ refused (TooMany p))
+  -- 12, 13 and 15 come as cutting meets them: it gets to p (`Reached`), and of the octets there and the multiframes before holds what the table
+  -- says (`Says`). 12: octets at p begin nothing known
+  Given (Unknown p) = Tables × Meets octets p P.Unknown
+  -- 13: sync with too few octets, or a lone last 87 or 78
+  Given (CutShort p) = Tables × Meets octets p P.CutShort
+  -- 15: a sync after 255 multiframes, even a cut one
+  Given (TooMany p) = Tables × Meets octets p P.TooMany
   -- 14: no multiframe
   Given (Empty n) = CutUp × (length places ≡ 0) × (n ≡ length octets)
   -- 16: settings not settled
@@ -97,12 +101,12 @@ module _ (octets : List ℕ) (codebook thresholds : List ℤ) (index report : �
 
   pub refuses-empty : CutUp → length places ≡ 0 → verdict octets codebook thresholds index report ≡ Refuse (Empty (length octets))
   unfolding wholeVerdict
-  refuses-empty w z = ends (w .0) whole (w .1) ∙ rw (eq-eqb (length places) 0 z)
+  refuses-empty w z = ends (w .0) whole (whole-exactly octets .1 (w .1)) ∙ rw (eq-eqb (length places) 0 z)
 
   settled : Some → (s : Settlement) → settling (readings octets places) ≡ s
       → verdict octets codebook thresholds index report ≡ settledVerdict (length places) (badPairs (receivedNotes octets places codebook thresholds)) (pairCount places) index report s
   unfolding wholeVerdict
-  settled w s e = ends (w .0 .0) whole (w .0 .1) ∙ rw (ne-eqb (length places) 0 (w .1), e)
+  settled w s e = ends (w .0 .0) whole (whole-exactly octets .1 (w .0 .1)) ∙ rw (ne-eqb (length places) 0 (w .1), e)
 
   pub refuses-unsettled : Some → settling (readings octets places) ≡ S.Unsettled → verdict octets codebook thresholds index report ≡ Refuse Unsettled
   unfolding settledVerdict
@@ -137,9 +141,9 @@ module _ (octets : List ℕ) (codebook thresholds : List ℤ) (index report : �
 
   given-refused : (r : Refusal) → Given r → verdict octets codebook thresholds index report ≡ Refuse r
   given-refused WrongTables g = refuses-tables g
-  given-refused (Unknown p) g = refuses-cut (g .0) (Unknown p) (g .1)
-  given-refused (CutShort p) g = refuses-cut (g .0) (CutShort p) (g .1)
-  given-refused (TooMany p) g = refuses-cut (g .0) (TooMany p) (g .1)
+  given-refused (Unknown p) g = refuses-cut (g .0) (Unknown p) (ends-exactly octets (refused (Unknown p)) .1 (g .1))
+  given-refused (CutShort p) g = refuses-cut (g .0) (CutShort p) (ends-exactly octets (refused (CutShort p)) .1 (g .1))
+  given-refused (TooMany p) g = refuses-cut (g .0) (TooMany p) (ends-exactly octets (refused (TooMany p)) .1 (g .1))
   given-refused (Empty n) g = refuses-empty (g .0) (g .1) ∙ ap (λ (k : ℕ). Refuse (Empty k)) (sym (g .2))
   given-refused Unsettled g = refuses-unsettled (g .0) (g .1)
   given-refused Unfit g = refuses-unfit (g .0) (g .1 .0) (g .1 .1 .0) (g .1 .1 .1)
@@ -177,21 +181,21 @@ module _ (octets : List ℕ) (codebook thresholds : List ℤ) (index report : �
       by-test Shows (eqb (length places) 0) (λ h. (w, eqb-true (length places) 0 h, refl)) (λ h. shows-settled (w, eqb-false (length places) 0 h) (settling (readings octets places)) refl)
 
   -- what cutting refuses is 12, 13 or 15
-  shows-cut : Tables → (r : Refusal) → cutting octets .ending ≡ refused r → Met octets r → Given r
-  shows-cut t (Unknown p) e m = (t, e)
-  shows-cut t (CutShort p) e m = (t, e)
-  shows-cut t (TooMany p) e m = (t, e)
-  shows-cut t WrongTables e m = absurd m
-  shows-cut t (Empty n) e m = absurd m
-  shows-cut t Unsettled e m = absurd m
-  shows-cut t Unfit e m = absurd m
-  shows-cut t (IndexShort n) e m = absurd m
-  shows-cut t (ReportShort n) e m = absurd m
-  shows-cut t AllBad e m = absurd m
+  shows-cut : Tables → (r : Refusal) → Reason octets r → Given r
+  shows-cut t (Unknown p) m = (t, m)
+  shows-cut t (CutShort p) m = (t, m)
+  shows-cut t (TooMany p) m = (t, m)
+  shows-cut t WrongTables m = absurd m
+  shows-cut t (Empty n) m = absurd m
+  shows-cut t Unsettled m = absurd m
+  shows-cut t Unfit m = absurd m
+  shows-cut t (IndexShort n) m = absurd m
+  shows-cut t (ReportShort n) m = absurd m
+  shows-cut t AllBad m = absurd m
 
   shows-end : Tables → (e : Ending) → cutting octets .ending ≡ e → Shows (endVerdict octets codebook thresholds index report places e)
-  shows-end t whole e = shows-whole (t, e)
-  shows-end t (refused r) e = shows-cut t r e (rw e at (sound octets .close))
+  shows-end t whole e = shows-whole (t, whole-exactly octets .0 e)
+  shows-end t (refused r) e = shows-cut t r (ends-exactly octets (refused r) .0 e)
 
   shows : Shows (verdict octets codebook thresholds index report)
   unfolding verdict

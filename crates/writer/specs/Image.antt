@@ -15,7 +15,7 @@ use Rattle.lists.specs.Tests.{true-false}
 use Rattle.lists.specs.Parts.{part, over}
 use Rattle.settings.specs.declared.Settings.{Settings}
 use Rattle.settings.specs.Settings.{settingsRight, rate-right, kind-right, right-not-2}
-use Rattle.layout.specs.Layout.{widths, frameIndices, multiframeFrames, multiframePairs, multiframeOctets, headerOctets, streamOctets, firstFrame, secondFrame, firstPair, sync}
+use Rattle.layout.specs.Layout.{widths, frameIndices, mostNarrow, multiframeFrames, multiframePairs, multiframeOctets, headerOctets, streamOctets, firstFrame, secondFrame, multiframeOf, firstPair, sync}
 use Rattle.frames.specs.Frames.{Nonzero, unzero}
 use Rattle.bits.specs.Bits.{field, octets, Fits}
 use Rattle.packet.specs.Packet.{stream, packetOf, frameAt}
@@ -72,10 +72,10 @@ module _ (settings : Settings) (idx : List ℕ) where
   -- ITS PACKETS are those of the pairs, which run on through all multiframes
   pub image-packet : (m q : ℕ) → q < multiframePairs * m → packetIn (image settings idx m) q ≡ packetOf idx q
   image-packet m q h =
-      let e : 12 * (q / 12) + q % 12 ≡ q = omega arith in
-      let l : q % 12 < 12 = omega arith in
-      ap (λ (s : List ℕ). packetIn s q) (image-made m) ∙ made-packet words streams m q h (length-stream idx (firstPair (q / 12)) multiframePairs)
-      ∙ stream-part idx (firstPair (q / 12)) multiframePairs (q % 12) l ∙ ap (packetOf idx) e
+      let e : firstPair (multiframeOf q) + q % multiframePairs ≡ q = omega arith in
+      let l : q % multiframePairs < multiframePairs = omega arith in
+      ap (λ (s : List ℕ). packetIn s q) (image-made m) ∙ made-packet words streams m q h (length-stream idx (firstPair (multiframeOf q)) multiframePairs)
+      ∙ stream-part idx (firstPair (multiframeOf q)) multiframePairs (q % multiframePairs) l ∙ ap (packetOf idx) e
 
 -- ---- what an accepted utterance has
 module _ (settings : Settings) (idx : List ℕ) (out n : ℕ) (a : Accepted settings idx out n) where
@@ -92,16 +92,16 @@ module _ (settings : Settings) (idx : List ℕ) (out n : ℕ) (a : Accepted sett
       ]
 
   -- THE FIRST SIX INDICES OF EVERY FRAME ARE AT MOST 63
-  pub narrow : (k j : ℕ) → k < frameCount idx → j < frameIndices - 1 → getD idx (frameIndices * k + j) 0 ≤ 63
+  pub narrow : (k j : ℕ) → k < frameCount idx → j < frameIndices - 1 → getD idx (frameIndices * k + j) 0 ≤ mostNarrow
   narrow k j h l =
-      ltb-false 63 (getD idx (frameIndices * k + j) 0)
-      (go (firstFrom (λ j. ltb 63 (getD idx j 0)) (frameIndices * k) (frameIndices - 1)) refl
+      ltb-false mostNarrow (getD idx (frameIndices * k + j) 0)
+      (go (firstFrom (λ j. ltb mostNarrow (getD idx j 0)) (frameIndices * k) (frameIndices - 1)) refl
       (first-nowhere (isWide idx) 0 (frameCount idx) (a .narrow-indices) k (omega arith) (omega arith)))
     where
-      go : (s : Search) → firstFrom (λ j. ltb 63 (getD idx j 0)) (frameIndices * k) (frameIndices - 1) ≡ s → isFound s ≡ false
-          → ltb 63 (getD idx (frameIndices * k + j) 0) ≡ false
+      go : (s : Search) → firstFrom (λ j. ltb mostNarrow (getD idx j 0)) (frameIndices * k) (frameIndices - 1) ≡ s → isFound s ≡ false
+          → ltb mostNarrow (getD idx (frameIndices * k + j) 0) ≡ false
       go (at i) f z = absurd (true-false z)
-      go nowhere f z = first-nowhere (λ j. ltb 63 (getD idx j 0)) (frameIndices * k) (frameIndices - 1) f (frameIndices * k + j) (omega arith) (omega arith)
+      go nowhere f z = first-nowhere (λ j. ltb mostNarrow (getD idx j 0)) (frameIndices * k) (frameIndices - 1) f (frameIndices * k + j) (omega arith) (omega arith)
 
   -- so every frame, padding too, fits its widths, if each index is an octet
   pub fits : Small idx → (k : ℕ) → Fits widths (frameAt idx k)
@@ -121,16 +121,16 @@ module _ (settings : Settings) (idx : List ℕ) (out n : ℕ) (a : Accepted sett
 
       each : (i : ℕ) → i < frameIndices → Dec (k < frameCount idx) → getD idx (frameIndices * k + i) 0 < 2 ^ getD widths i 0
       each i h (no d) =
-          let e : getD idx (7 * k + i) 0 ≡ 0 = List·getD-eq-default idx 0 (omega (arith, whole)) in
+          let e : getD idx (frameIndices * k + i) 0 ≡ 0 = List·getD-eq-default idx 0 (omega (arith, whole)) in
           subst (λ (x : ℕ). x < 2 ^ getD widths i 0) (sym e) (pow-pos (getD widths i 0))
       each i h (yes l) =
           elim (decLt i 6) [
             | yes s ↦
-                let b : getD idx (7 * k + i) 0 < 2 ^ 6 = omega (arith, narrow k i l s) in
-                subst (λ (w : ℕ). getD idx (7 * k + i) 0 < 2 ^ w) (sym (six i s)) b
+                let b : getD idx (frameIndices * k + i) 0 < 2 ^ 6 = omega (arith, narrow k i l s) in
+                subst (λ (w : ℕ). getD idx (frameIndices * k + i) 0 < 2 ^ w) (sym (six i s)) b
             | no d ↦
                 let e : i ≡ 6 = omega arith in
-                subst (λ (x : ℕ). getD idx (7 * k + i) 0 < 2 ^ getD widths x 0) (sym e) (small (7 * k + i))
+                subst (λ (x : ℕ). getD idx (frameIndices * k + i) 0 < 2 ^ getD widths x 0) (sym e) (small (frameIndices * k + i))
           ]
 
 -- ---- an utterance that the writer accepts, given room for its image
@@ -213,7 +213,7 @@ module _ (u v : Utterance) (same : (i : ℕ) → getD (u .indices) i 0 ≡ getD 
       by (yes h) =
           let k = frameCount (v .indices) - 1 in
           let l = last-speaks (v .settings) (v .indices) (needed (v .indices)) (needed (v .indices)) (is-accepted v) k (omega arith) in
-          absurd (l .nonzero (sym (same (7 * k + l .place)) ∙ List·getD-eq-default (u .indices) 0 (omega (arith, whole-frames u))))
+          absurd (l .nonzero (sym (same (frameIndices * k + l .place)) ∙ List·getD-eq-default (u .indices) 0 (omega (arith, whole-frames u))))
 
 module _ (u v : Utterance) (count : multiframesOf u ≡ multiframesOf v) (packets : (q : ℕ) → q < pairsOf u → packetOf (u .indices) q ≡ packetOf (v .indices) q) where
   same-frame : (k : ℕ) → k < multiframeFrames * multiframesOf u → frameAt (u .indices) k ≡ frameAt (v .indices) k
@@ -228,11 +228,11 @@ module _ (u v : Utterance) (count : multiframesOf u ≡ multiframesOf v) (packet
   same-index i =
       elim (decLt i (frameIndices * (multiframeFrames * multiframesOf u))) [
         | yes h ↦
-            let e : 7 * (i / 7) + i % 7 ≡ i = omega arith in
-            let l : i % 7 < 7 = omega arith in
+            let e : frameIndices * (i / frameIndices) + i % frameIndices ≡ i = omega arith in
+            let l : i % frameIndices < frameIndices = omega arith in
             subst (λ (j : ℕ). getD (u .indices) j 0 ≡ getD (v .indices) j 0) e
-            (sym (getD-row (u .indices) (7 * (i / 7)) 7 (i % 7) l) ∙ ap (λ (f : List ℕ). getD f (i % 7) 0) (same-frame (i / 7) (omega arith))
-            ∙ getD-row (v .indices) (7 * (i / 7)) 7 (i % 7) l)
+            (sym (getD-row (u .indices) (frameIndices * (i / frameIndices)) frameIndices (i % frameIndices) l) ∙ ap (λ (f : List ℕ). getD f (i % frameIndices) 0) (same-frame (i / frameIndices) (omega arith))
+            ∙ getD-row (v .indices) (frameIndices * (i / frameIndices)) frameIndices (i % frameIndices) l)
         | no d ↦
             List·getD-eq-default (u .indices) 0 (omega (arith, whole-frames u)) ∙ sym (List·getD-eq-default (v .indices) 0 (omega (arith, whole-frames v, count)))
       ]

@@ -164,24 +164,24 @@ sync-octets = refl
 pub laid-multiframe : (settings : Settings) (idx : List ℕ) (k word q : ℕ) (out synced headed done : List ℕ)
     → multiframeOctets * k + multiframeOctets ≤ length out → word ≡ codeword (message settings (k + 1) 0) → q ≡ firstPair k
     → synced ≡ over out (multiframeOctets * k) syncOctets (octets syncOctets (field (8 * syncOctets) syncWord))
-    → headed ≡ over synced (multiframeOctets * k + 2) headerOctets (octets headerOctets (field 32 word))
-    → done ≡ over headed (multiframeOctets * k + 2 + 4) streamOctets (octets streamOctets (stream idx q multiframePairs))
+    → headed ≡ over synced (multiframeOctets * k + syncOctets) headerOctets (octets headerOctets (field 32 word))
+    → done ≡ over headed (multiframeOctets * k + syncOctets + headerOctets) streamOctets (octets streamOctets (stream idx q multiframePairs))
     → done ≡ over out (multiframeOctets * k) multiframeOctets (multiframe settings idx k)
 unfolding multiframe
 laid-multiframe settings idx k word q out synced headed done room ew eq es eh ed =
     let at = multiframeOctets * k in
     let head = octets headerOctets (field 32 (codeword (message settings (k + 1) 0))) in
     let body = octets streamOctets (stream idx (firstPair k) multiframePairs) in
-    let r₁ : at + 2 ≤ length out = omega arith in
-    let r₂ : at + 6 ≤ length out = omega arith in
-    let e₁ : synced ≡ over out at 2 sync = es ∙ ap (over out at 2) sync-octets in
-    let e₂ : headed ≡ over synced (at + 2) 4 head = eh ∙ ap (λ (w : ℕ). over synced (at + 2) 4 (octets headerOctets (field 32 w))) ew in
-    let f : headed ≡ over out at 6 (sync ++ head) = behind out at 2 4 sync head r₁ refl e₁ e₂ in
-    let p : at + 2 + 4 ≡ at + 6 = omega arith in
-    let e₃ : done ≡ over headed (at + 6) 138 body =
-    ed ∙ ap₂ (λ (x y : ℕ). over headed x 138 (octets streamOctets (stream idx y multiframePairs))) p eq in
-    let size : length (sync ++ head) ≡ 6 = ap (λ (n : ℕ). suc (suc n)) (length-octets 4 (field 32 (codeword (message settings (k + 1) 0)))) in
-    behind out at 6 138 (sync ++ head) body r₂ size f e₃ ∙ ap (over out at 144) (append-assoc sync head body)
+    let r₁ : at + syncOctets ≤ length out = omega arith in
+    let r₂ : at + (syncOctets + headerOctets) ≤ length out = omega arith in
+    let e₁ : synced ≡ over out at syncOctets sync = es ∙ ap (over out at syncOctets) sync-octets in
+    let e₂ : headed ≡ over synced (at + syncOctets) headerOctets head = eh ∙ ap (λ (w : ℕ). over synced (at + syncOctets) headerOctets (octets headerOctets (field 32 w))) ew in
+    let f : headed ≡ over out at (syncOctets + headerOctets) (sync ++ head) = behind out at syncOctets headerOctets sync head r₁ refl e₁ e₂ in
+    let p : at + syncOctets + headerOctets ≡ at + (syncOctets + headerOctets) = omega arith in
+    let e₃ : done ≡ over headed (at + (syncOctets + headerOctets)) streamOctets body =
+    ed ∙ ap₂ (λ (x y : ℕ). over headed x streamOctets (octets streamOctets (stream idx y multiframePairs))) p eq in
+    let size : length (sync ++ head) ≡ syncOctets + headerOctets = ap (λ (n : ℕ). suc (suc n)) (length-octets headerOctets (field 32 (codeword (message settings (k + 1) 0)))) in
+    behind out at (syncOctets + headerOctets) streamOctets (sync ++ head) body r₂ size f e₃ ∙ ap (over out at multiframeOctets) (append-assoc sync head body)
 
 -- ---- the image's length, and its multiframes one behind the other
 pub length-multiframe : (settings : Settings) (idx : List ℕ) (k : ℕ) → length (multiframe settings idx k) ≡ multiframeOctets
@@ -189,7 +189,7 @@ unfolding multiframe
 length-multiframe settings idx k =
     ap (λ (n : ℕ). suc (suc n))
     (length-append (octets headerOctets (field 32 (codeword (message settings (k + 1) 0)))) (octets streamOctets (stream idx (firstPair k) multiframePairs))
-    ∙ ap₂ _+_ (length-octets 4 (field 32 (codeword (message settings (k + 1) 0)))) (length-octets 138 (stream idx (firstPair k) multiframePairs)))
+    ∙ ap₂ _+_ (length-octets headerOctets (field 32 (codeword (message settings (k + 1) 0)))) (length-octets streamOctets (stream idx (firstPair k) multiframePairs)))
 
 pub length-image : (settings : Settings) (idx : List ℕ) (m : ℕ) → length (image settings idx m) ≡ multiframeOctets * m
 unfolding image

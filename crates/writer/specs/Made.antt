@@ -4,7 +4,7 @@
 use mathlib.Core.Path.{_≡_, refl, sym, ap, ap₂, _∙_, subst}
 use mathlib.Core.Bool.{Bool}
 use mathlib.Core.List.{List, [], _∷_, _++_}
-use Prim.Native.Nat.{ℕ, zero, suc, _+_, _*_, _/_, _^_, _≤_, _<_}
+use Prim.Native.Nat.{ℕ, zero, suc, _+_, _*_, _^_, _≤_, _<_}
 use native.Mathlib.Nat.{mod-eq-of-lt, mul-zero, mul-suc}
 use native.Mathlib.Decide.{decLt}
 use native.Mathlib.Omega.{arith}
@@ -58,7 +58,7 @@ module _ (w : ℕ) (x : List Bool) where
   pub length-framed : length (framed w x) ≡ multiframeOctets
   length-framed =
       ap (λ (n : ℕ). suc (suc n))
-      (length-append (octets headerOctets (field 32 w)) (octets streamOctets x) ∙ ap₂ _+_ (length-octets 4 (field 32 w)) (length-octets 138 x))
+      (length-append (octets headerOctets (field 32 w)) (octets streamOctets x) ∙ ap₂ _+_ (length-octets headerOctets (field 32 w)) (length-octets streamOctets x))
 
   -- its sync, its header's octets and its stream's octets
   pub framed-sync : part 0 syncOctets (framed w x) ≡ sync
@@ -101,15 +101,15 @@ module _ (w : ℕ → ℕ) (x : ℕ → List Bool) where
 
     pub made-stream : streamIn (made w x m) k ≡ octets streamOctets (x k)
     made-stream =
-        let z : multiframeOctets * k + 2 + 4 ≡ multiframeOctets * k + (syncOctets + headerOctets) = omega arith in
+        let z : multiframeOctets * k + syncOctets + headerOctets ≡ multiframeOctets * k + (syncOctets + headerOctets) = omega arith in
         ap (λ (i : ℕ). part i streamOctets (made w x m)) z ∙ inside (syncOctets + headerOctets) streamOctets (omega arith) ∙ framed-stream (w k) (x k)
 
   pub made-packet : (m q : ℕ) → q < multiframePairs * m → length (x (multiframeOf q)) ≡ 8 * streamOctets
       → packetIn (made w x m) q ≡ streamPacket (x (multiframeOf q)) q
   made-packet m q h l =
-      let k : q / 12 < m = omega arith in
-      ap (λ (s : List ℕ). part (packetStart q) packetBits (bits s)) (made-stream m (q / 12) k)
-      ∙ ap (part (packetStart q) packetBits) (bits-octets streamOctets (x (q / 12)) l)
+      let k : multiframeOf q < m = omega arith in
+      ap (λ (s : List ℕ). part (packetStart q) packetBits (bits s)) (made-stream m (multiframeOf q) k)
+      ∙ ap (part (packetStart q) packetBits) (bits-octets streamOctets (x (multiframeOf q)) l)
 
 -- what is made holds octets
 small-append : (l m : List ℕ) → Small l → Small m → Small (l ++ m)
@@ -162,16 +162,15 @@ module _ (s : List ℕ) (m : ℕ) (size : length s ≡ multiframeOctets * m) (sm
       let d = drop at s in
       let head = headerIn s k in
       let body = streamIn s k in
-      let lh : length head ≡ 4 = length-part s (at + 2) 4 (omega arith) in
-      let lb : length body ≡ 138 = length-part s (at + 2 + 4) 138 (omega arith) in
+      let lh : length head ≡ headerOctets = length-part s (at + syncOctets) headerOctets (omega arith) in
+      let lb : length body ≡ streamOctets = length-part s (at + syncOctets + headerOctets) streamOctets (omega arith) in
       let bh : length (bits head) ≡ 32 = length-bits head ∙ ap (λ (n : ℕ). n * 8) lh in
       let fh : field 32 (value (bits head)) ≡ bits head = subst (λ (n : ℕ). field n (value (bits head)) ≡ bits head) bh (field-value (bits head)) in
-      let oh : octets 4 (bits head) ≡ head = subst (λ (n : ℕ). octets n (bits head) ≡ head) lh (octets-bits head (small-part (at + 2) 4 s small)) in
-      let ob : octets 138 (bits body) ≡ body = subst (λ (n : ℕ). octets n (bits body) ≡ body) lb (octets-bits body (small-part (at + 2 + 4) 138 s small)) in
-      let z : at + 2 + 4 ≡ at + 6 = omega arith in
-      ap₂ (λ (x y : List ℕ). x ++ y) (sym (syncs k h)) (ap₂ (λ (x y : List ℕ). x ++ y) (ap (octets 4) fh ∙ oh) ob)
-      ∙ sym (take-add 2 142 d ∙ ap (λ (l : List ℕ). take 2 d ++ l) (ap (take 142) (drop-drop 2 at s) ∙ take-add 4 138 (drop (at + 2) s)
-      ∙ ap (λ (l : List ℕ). head ++ take 138 l) (drop-drop 4 (at + 2) s)))
+      let oh : octets headerOctets (bits head) ≡ head = subst (λ (n : ℕ). octets n (bits head) ≡ head) lh (octets-bits head (small-part (at + syncOctets) headerOctets s small)) in
+      let ob : octets streamOctets (bits body) ≡ body = subst (λ (n : ℕ). octets n (bits body) ≡ body) lb (octets-bits body (small-part (at + syncOctets + headerOctets) streamOctets s small)) in
+      ap₂ (λ (x y : List ℕ). x ++ y) (sym (syncs k h)) (ap₂ (λ (x y : List ℕ). x ++ y) (ap (octets headerOctets) fh ∙ oh) ob)
+      ∙ sym (take-add syncOctets (headerOctets + streamOctets) d ∙ ap (λ (l : List ℕ). take syncOctets d ++ l) (ap (take (headerOctets + streamOctets)) (drop-drop syncOctets at s) ∙ take-add headerOctets streamOctets (drop (at + syncOctets) s)
+      ∙ ap (λ (l : List ℕ). head ++ take streamOctets l) (drop-drop headerOctets (at + syncOctets) s)))
 
   pub made-again : made (wordIn s) (λ k. bits (streamIn s k)) m ≡ s
   made-again =

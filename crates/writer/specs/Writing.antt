@@ -10,7 +10,7 @@ use Rattle.lists.specs.Tests.{when}
 use Rattle.lists.specs.Parts.{over}
 use Rattle.settings.specs.declared.Settings.{Settings}
 use Rattle.settings.specs.Settings.{settingsRight}
-use Rattle.layout.specs.Layout.{frameIndices, multiframeFrames, multiframePairs, multiframeOctets, headerOctets, streamOctets, mostFrames, firstPair, sync}
+use Rattle.layout.specs.Layout.{frameIndices, mostNarrow, multiframeFrames, multiframePairs, multiframeOctets, headerOctets, streamOctets, mostFrames, firstPair, sync}
 use Rattle.frames.specs.Frames.{zeroFrame}
 use Rattle.bits.specs.Bits.{field, octets}
 use Rattle.packet.specs.Packet.{stream}
@@ -54,7 +54,7 @@ multiframesFor n = n / multiframeFrames + 1
 
 -- one of the first six indices of frame k is above 63
 abbrev pub isWide : List ℕ → ℕ → Bool
-isWide idx k = isFound (firstFrom (λ j. ltb 63 (getD idx j 0)) (frameIndices * k) (frameIndices - 1))
+isWide idx k = isFound (firstFrom (λ j. ltb mostNarrow (getD idx j 0)) (frameIndices * k) (frameIndices - 1))
 
 -- frame k of n must not be zero: it is the last, or its number from 1 is a multiple of 24
 abbrev pub mustSpeak : ℕ → ℕ → Bool

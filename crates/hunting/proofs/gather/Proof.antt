@@ -5,6 +5,7 @@ use native.Mathlib.Omega.{arith}
 use borrow.Author.Needs.{needs}
 use lib.ListN.{length}
 use denote.Ref.{now}
+use Rattle.layout.specs.Layout.{mostMultiframes}
 use Rattle.bits.specs.Bits.{bits}
 use Rattle.hunt.specs.Laws.{searched-lt}
 use Rattle.hunting.proofs.Turns.{Going, begun, room-for-more, in-bits, few-tested, going-on, too-many, few-tested-last, finished}
@@ -19,7 +20,7 @@ abbrev Inv-loop : tie.InvT-loop
 Inv-loop octets from least image₀ m₀ at₀ tested₀ image m at tested = Going octets from least image m at tested × (length image ≡ length image₀)
 
 abbrev μ-loop : tie.MeasureT-loop
-μ-loop octets from least image₀ m₀ at₀ tested₀ image m at tested = 255 - m
+μ-loop octets from least image₀ m₀ at₀ tested₀ image m at tested = mostMultiframes - m
 
 loop-holds : tie.Need-loop-holds Inv-loop μ-loop
 loop-holds c = (begun _ _ _ _ (c .before .before .pre .1), refl)

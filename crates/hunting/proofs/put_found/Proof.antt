@@ -4,6 +4,7 @@ use mathlib.Core.Path.{_∙_}
 use native.Mathlib.Omega.{arith}
 use denote.Ref.{now}
 use lib.ListN.{length-set}
+use Rattle.layout.specs.Layout.{multiframeOctets}
 use Rattle.bits.specs.Bits.{bits}
 use Rattle.bits.specs.Laws.{length-bits}
 use Rattle.hunt.specs.Laws.{searched-le, searched-lt}
@@ -45,7 +46,7 @@ same-length c = c .before .before .copy .kept .1 .1 .1 .0 ∙ rw (length-set, le
 returns : tie.Need-returns
 returns c =
     let a = c .before .before .before .before .before .before .before .args in
-    put-is (a .octets .now) (a .image .now) _ (a .place) (144 * a .k .0) (omega arith) (c .before .before .copy .ensures)
+    put-is (a .octets .now) (a .image .now) _ (a .place) (multiframeOctets * a .k .0) (omega arith) (c .before .before .copy .ensures)
 
 pub put-found-spec : {M : Type 1} → statement M
 put-found-spec =

@@ -5,7 +5,7 @@ use Prim.Native.Nat.{_+_, _≤_}
 use native.Mathlib.Omega.{arith}
 use denote.Ref.{now}
 use lib.ListN.{length}
-use Rattle.layout.specs.Layout.{packetStart}
+use Rattle.layout.specs.Layout.{packetBits, packetStart}
 use Rattle.bits.specs.Bits.{bits}
 use Rattle.bits.specs.Laws.{length-bits}
 use Rattle.packet.proofs.Steps.{right-law}
@@ -40,7 +40,7 @@ returns c =
     let f = b .before in
     let a = f .before .before .args in
     let l = bits (now (a .s)) in
-    let room : packetStart (a .p .0) + 92 ≤ length l = rw length-bits (omega arith) in
+    let room : packetStart (a .p .0) + packetBits ≤ length l = rw length-bits (omega arith) in
     right-law l (packetStart (a .p .0)) (f .first-word .result) (b .second-word .result) (n .new .result .0) (y .octets .result .0) (z .octets2 .result .0) room
     (f .first-word .ensures) (b .second-word .ensures) (n .new .ensures) (y .octets .ensures) (z .octets2 .ensures)
 

@@ -7,14 +7,14 @@ use lib.ListN.{length}
 use denote.Ref.{now}
 use Rattle.lists.specs.Parts.{over}
 use Rattle.bits.specs.Bits.{octets}
-use Rattle.packet.specs.Packet.{stream}
+use Rattle.packet.specs.Packet.{twoPackets, stream}
 use Rattle.packet.proofs.Steps.{stream-none, stream-more}
 use borrow.Author.Needs.{needs}
 use Rattle.packet.proofs.put_stream.Statement.{statement}
 use Rattle.packet.proofs.put_stream.Tie as tie
 
 abbrev Inv-loop : tie.InvT-loop
-Inv-loop idx q out₀ at g₀ out g = (g ≤ 6) × (length out ≡ length out₀) × (out ≡ over out₀ at (23 * g) (octets (23 * g) (stream idx (q .0) (2 * g))))
+Inv-loop idx q out₀ at g₀ out g = (g ≤ 6) × (length out ≡ length out₀) × (out ≡ over out₀ at (twoPackets * g) (octets (twoPackets * g) (stream idx (q .0) (2 * g))))
 
 abbrev μ-loop : tie.MeasureT-loop
 μ-loop idx q out₀ at g₀ out g = 6 - g
@@ -63,7 +63,7 @@ returns c =
     let l = c .before .loop in
     let a = c .before .before .before .before .args in
     let e : l .g ≡ 6 = omega arith in
-    l .inv .2 ∙ ap (λ (g : ℕ). over (now (a .out)) (a .at) (23 * g) (octets (23 * g) (stream (now (a .idx)) (a .q .0) (2 * g)))) e
+    l .inv .2 ∙ ap (λ (g : ℕ). over (now (a .out)) (a .at) (twoPackets * g) (octets (twoPackets * g) (stream (now (a .idx)) (a .q .0) (2 * g)))) e
 
 pub put-stream-spec : {M : Type 1} → statement M
 put-stream-spec =

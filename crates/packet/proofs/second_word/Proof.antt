@@ -4,7 +4,8 @@ use mathlib.Core.Path.{_≡_}
 use Prim.Native.Nat.{_+_, _*_, _/_, _%_}
 use native.Mathlib.Omega.{arith}
 use denote.Ref.{now}
-use Rattle.layout.specs.Layout.{packetStart}
+use Rattle.layout.specs.Layout.{frameBits, packetStart}
+use Rattle.packet.specs.Packet.{secondBits}
 use Rattle.packet.proofs.Steps.{masked-word}
 use borrow.Author.Needs.{needs}
 use Rattle.packet.proofs.second_word.Statement.{statement}
@@ -29,8 +30,8 @@ returns : tie.Need-returns
 returns c =
     let a = c .before .before .before .args in
     let at = c .before .start .result in
-    let e : 8 * (at / 8 + 4) + (12 + at % 8) ≡ packetStart (a .p .0) + 44 = omega (arith, c .before .start .ensures) in
-    masked-word (now (a .s)) (at / 8 + 4) (12 + at % 8) 48 (c .word .result) (packetStart (a .p .0) + 44) (omega arith) (omega arith) e (c .word .ensures)
+    let e : 8 * (at / 8 + 4) + (12 + at % 8) ≡ packetStart (a .p .0) + frameBits = omega (arith, c .before .start .ensures) in
+    masked-word (now (a .s)) (at / 8 + 4) (12 + at % 8) secondBits (c .word .result) (packetStart (a .p .0) + frameBits) (omega arith) (omega arith) e (c .word .ensures)
 
 pub second-word-spec : {M : Type 1} → statement M
 second-word-spec =

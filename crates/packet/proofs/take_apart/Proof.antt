@@ -4,7 +4,7 @@ use Prim.Native.Nat.{_+_, _≤_}
 use native.Mathlib.Omega.{arith}
 use denote.Ref.{now}
 use lib.ListN.{length}
-use Rattle.layout.specs.Layout.{packetStart}
+use Rattle.layout.specs.Layout.{packetBits, packetStart}
 use Rattle.bits.specs.Bits.{bits}
 use Rattle.bits.specs.Laws.{length-bits}
 use Rattle.packet.proofs.Steps.{apart-law}
@@ -41,7 +41,7 @@ returns c =
     let pre = st .pre in
     let l = bits (now (a .s)) in
     let at = packetStart (a .p .0) in
-    let room : at + 92 ≤ length l = rw length-bits (omega arith) in
+    let room : at + packetBits ≤ length l = rw length-bits (omega arith) in
     apart-law l at (w1 .first-word .result) (w2 .second-word .result) (now (a .idx)) (a .to) room (pre .1) (w1 .first-word .ensures) (w2 .second-word .ensures)
     (t1 .take-frame .ensures) (t2 .take-frame2 .ensures)
 

@@ -9,6 +9,7 @@ use lib.Dec.{lit≤}
 use lib.ListN.{length, length-set, replicate, set}
 use denote.Ref.{now}
 use Rattle.lists.specs.Parts.{over}
+use Rattle.layout.specs.Layout.{frameBits, mostNarrow}
 use Rattle.bits.specs.Bits.{field, numbers}
 use Rattle.packet.proofs.Steps.{take-none, take-more, take-last}
 use borrow.Author.Needs.{needs}
@@ -16,17 +17,17 @@ use Rattle.packet.proofs.take_frame.Statement.{statement}
 use Rattle.packet.proofs.take_frame.Tie as tie
 
 -- six bits fit an octet
-small : (n : ℕ) → bitAnd n 63 < 2 ^ 8
+small : (n : ℕ) → bitAnd n mostNarrow < 2 ^ 8
 small n = lt-of-lt-of-le (mask-lt n 6) (lit≤ tt)
 
 abbrev Inv-loop : tie.InvT-loop
-Inv-loop w idx₀ to i₀ idx i = (i ≤ 6) × (length idx ≡ length idx₀) × (idx ≡ over idx₀ to i (numbers (replicate i 6) (field 44 w)))
+Inv-loop w idx₀ to i₀ idx i = (i ≤ 6) × (length idx ≡ length idx₀) × (idx ≡ over idx₀ to i (numbers (replicate i 6) (field frameBits w)))
 
 abbrev μ-loop : tie.MeasureT-loop
 μ-loop w idx₀ to i₀ idx i = 6 - i
 
 loop-holds : tie.Need-loop-holds Inv-loop μ-loop
-loop-holds c = (search needs, refl, take-none (now (c .args .idx)) (c .args .to) (field 44 (c .args .w)))
+loop-holds c = (search needs, refl, take-none (now (c .args .idx)) (c .args .to) (field frameBits (c .args .w)))
 
 mul-idx : tie.Need-mul-idx Inv-loop μ-loop
 mul-idx c = search needs
@@ -75,8 +76,8 @@ returns c =
     let l = c .before .loop in
     let a = c .before .before .args in
     let e : l .i ≡ 6 = omega arith in
-    let m : l .idx ≡ over (now (a .idx)) (a .to) 6 (numbers (replicate 6 6) (field 44 (a .w))) =
-    l .inv .2 ∙ ap (λ (n : ℕ). over (now (a .idx)) (a .to) n (numbers (replicate n 6) (field 44 (a .w)))) e in
+    let m : l .idx ≡ over (now (a .idx)) (a .to) 6 (numbers (replicate 6 6) (field frameBits (a .w))) =
+    l .inv .2 ∙ ap (λ (n : ℕ). over (now (a .idx)) (a .to) n (numbers (replicate n 6) (field frameBits (a .w)))) e in
     ap (λ (n : ℕ). set (l .idx) (a .to + n) (bitAnd (a .w / 2 ^ 36) 255)) refl ∙ take-last (now (a .idx)) (a .to) (a .w) (omega arith) m
 
 pub take-frame-spec : {M : Type 1} → statement M

@@ -6,7 +6,7 @@ use mathlib.Core.Path.{_≡_, refl, ap, _∙_}
 use denote.Ref.{now}
 use lib.ListN.{length, replicate}
 use Rattle.lists.specs.Parts.{over}
-use Rattle.layout.specs.Layout.{widths}
+use Rattle.layout.specs.Layout.{widths, pairIndices}
 use Rattle.bits.specs.Bits.{bits}
 use Rattle.carrier.specs.Carrier.{streamPacket, received}
 use Rattle.packet.specs.Packet.{apart}
@@ -24,8 +24,8 @@ found c =
     let st = s .before .before .before in
     let q = st .args .q .0 in
     let packets = received (st .args .octets .now) (st .args .places .now) in
-    let e = ap (λ (x : List ℕ). over (replicate 14 0) 0 14 (apart widths (streamPacket (bits x) q))) (s .stream-of .ensures) in
-    put-is packets q (replicate 14 0) (c .take-apart .last .1 .1 .0) 0 (c .take-apart .ensures ∙ e) ∙ over-all (replicate 14 0) (framesOf packets q) 14 refl
+    let e = ap (λ (x : List ℕ). over (replicate pairIndices 0) 0 pairIndices (apart widths (streamPacket (bits x) q))) (s .stream-of .ensures) in
+    put-is packets q (replicate pairIndices 0) (c .take-apart .last .1 .1 .0) 0 (c .take-apart .ensures ∙ e) ∙ over-all (replicate pairIndices 0) (framesOf packets q) pairIndices refl
 
 stream-of-requires : tie.Need-stream-of-requires
 stream-of-requires c κs = search needs
@@ -48,7 +48,7 @@ is-inconsistent-requires c κs =
     let st = p .before .before .before .before .before in
     let packets = received (st .args .octets .now) (st .args .places .now) in
     let e = found p in
-    let size : length (p .take-apart .last .1 .1 .0) ≡ 14 = ap length e ∙ length-frames packets (st .args .q .0) in
+    let size : length (p .take-apart .last .1 .1 .0) ≡ pairIndices = ap length e ∙ length-frames packets (st .args .q .0) in
     (st .pre .1, ((omega arith, omega arith), ranges packets (st .args .q .0) (p .take-apart .last .1 .1 .0) e (st .args .codebook .now) (st .args .thresholds .now)))
 
 returns : tie.Need-returns

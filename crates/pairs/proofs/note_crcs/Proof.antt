@@ -5,7 +5,7 @@ use native.Mathlib.Omega.{arith}
 use denote.Ref.{now}
 use lib.ListN.{length}
 use Rattle.lists.specs.Parts.{over, over-none}
-use Rattle.layout.specs.Layout.{firstPair}
+use Rattle.layout.specs.Layout.{streamOctets, firstPair}
 use Rattle.carrier.specs.Carrier.{received, pairCount}
 use Rattle.carrier.specs.Laws.{length-stream}
 use Rattle.pairs.specs.Pairs.{crcNotes}
@@ -47,7 +47,7 @@ note-stream-requires c κs =
     let f = s .before .before in
     let l = f .before .before in
     let st = l .before .before .before .before in
-    let size : length (now (s .stream-at .result)) ≡ 138 = ap length (s .stream-at .ensures) ∙ length-stream _ _ (st .pre .0 (l .loop .k) (omega arith)) in
+    let size : length (now (s .stream-at .result)) ≡ streamOctets = ap length (s .stream-at .ensures) ∙ length-stream _ _ (st .pre .0 (l .loop .k) (omega arith)) in
     (omega arith, omega (arith, f .first-pair .ensures, st .pre .1, l .loop .inv .1))
 
 add-k : tie.Need-add-k Inv-loop μ-loop

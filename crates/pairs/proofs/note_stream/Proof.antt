@@ -5,6 +5,7 @@ use native.Mathlib.Omega.{arith}
 use lib.ListN.{length, length-set}
 use Rattle.lists.specs.Parts.{over, over-none}
 use Rattle.lists.specs.Rows.{each-on}
+use Rattle.layout.specs.Layout.{multiframePairs}
 use Rattle.bits.specs.Bits.{bits}
 use Rattle.carrier.specs.Carrier.{streamPacket}
 use Rattle.pairs.specs.Pairs.{pairFails, crcNote, crcNotes}
@@ -14,10 +15,10 @@ use Rattle.pairs.proofs.note_stream.Statement.{statement}
 use Rattle.pairs.proofs.note_stream.Tie as tie
 
 abbrev Inv-loop : tie.InvT-loop
-Inv-loop stream notes₀ from p₀ notes p = (p ≤ 12) × (length notes ≡ length notes₀) × (notes ≡ over notes₀ from p (crcNotes (streamPacket (bits stream)) p))
+Inv-loop stream notes₀ from p₀ notes p = (p ≤ multiframePairs) × (length notes ≡ length notes₀) × (notes ≡ over notes₀ from p (crcNotes (streamPacket (bits stream)) p))
 
 abbrev μ-loop : tie.MeasureT-loop
-μ-loop stream notes₀ from p₀ notes p = 12 - p
+μ-loop stream notes₀ from p₀ notes p = multiframePairs - p
 
 loop-holds : tie.Need-loop-holds Inv-loop μ-loop
 loop-holds c = (omega arith, refl, over-none _ (c .before .before .args .first .0))
@@ -62,7 +63,7 @@ returns : tie.Need-returns Inv-loop μ-loop
 returns c =
     let a = c .before in
     let st = a .before .before .before in
-    let e : a .loop .p ≡ 12 = omega (arith, a .loop .inv .0) in
+    let e : a .loop .p ≡ multiframePairs = omega (arith, a .loop .inv .0) in
     a .loop .inv .2 ∙ ap (λ (p : ℕ). over (st .args .notes .now) (st .args .first .0) p (crcNotes (streamPacket (bits (st .args .stream .now))) p)) e
 
 pub note-stream-spec : {M : Type 1} → statement M

@@ -5,7 +5,7 @@ use native.Mathlib.Omega.{arith}
 use denote.Ref.{now}
 use lib.ListN.{length}
 use Rattle.lists.specs.Parts.{over, over-none}
-use Rattle.layout.specs.Layout.{frameIndices, pairFrames, firstPair}
+use Rattle.layout.specs.Layout.{pairIndices, streamOctets, firstPair}
 use Rattle.carrier.specs.Carrier.{received}
 use Rattle.carrier.specs.Laws.{length-stream}
 use Rattle.pairs.specs.Pairs.{allFrames}
@@ -15,7 +15,7 @@ use Rattle.pairs.proofs.take_all_apart.Statement.{statement}
 use Rattle.pairs.proofs.take_all_apart.Tie as tie
 
 abbrev Inv-loop : tie.InvT-loop
-Inv-loop octets places idx₀ k₀ idx k = (k ≤ length places) × (length idx ≡ length idx₀) × (idx ≡ over idx₀ 0 (pairFrames * frameIndices * firstPair k) (allFrames (received octets places) (firstPair k)))
+Inv-loop octets places idx₀ k₀ idx k = (k ≤ length places) × (length idx ≡ length idx₀) × (idx ≡ over idx₀ 0 (pairIndices * firstPair k) (allFrames (received octets places) (firstPair k)))
 
 abbrev μ-loop : tie.MeasureT-loop
 μ-loop octets places idx₀ k₀ idx k = length places - k
@@ -48,7 +48,7 @@ take-stream-apart-requires c κs =
     let f = s .before .before in
     let l = f .before .before in
     let st = l .before .before .before .before in
-    let size : length (now (s .stream-at .result)) ≡ 138 = ap length (s .stream-at .ensures) ∙ length-stream _ _ (st .pre .0 .0 (l .loop .k) (omega arith)) in
+    let size : length (now (s .stream-at .result)) ≡ streamOctets = ap length (s .stream-at .ensures) ∙ length-stream _ _ (st .pre .0 .0 (l .loop .k) (omega arith)) in
     (omega arith, omega (arith, f .first-pair .ensures, st .pre .1, l .loop .inv .1))
 
 add-k : tie.Need-add-k Inv-loop μ-loop
@@ -75,7 +75,7 @@ returns c =
     let a = c .before in
     let st = a .before .before .before .before in
     let e : a .loop .k ≡ length (st .args .places .now) = omega (arith, a .loop .inv .0) in
-    a .loop .inv .2 ∙ ap (λ (k : ℕ). over (st .args .idx .now) 0 (pairFrames * frameIndices * firstPair k) (allFrames (received (st .args .octets .now) (st .args .places .now)) (firstPair k))) e
+    a .loop .inv .2 ∙ ap (λ (k : ℕ). over (st .args .idx .now) 0 (pairIndices * firstPair k) (allFrames (received (st .args .octets .now) (st .args .places .now)) (firstPair k))) e
 
 pub take-all-apart-spec : {M : Type 1} → statement M
 take-all-apart-spec =

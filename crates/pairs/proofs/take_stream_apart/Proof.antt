@@ -5,6 +5,7 @@ use native.Mathlib.Omega.{arith}
 use lib.ListN.{length}
 use Rattle.lists.specs.Parts.{over, over-none}
 use Rattle.lists.specs.Rows.{joined, joined-on}
+use Rattle.layout.specs.Layout.{pairIndices, multiframePairs}
 use Rattle.bits.specs.Bits.{bits}
 use Rattle.carrier.specs.Carrier.{streamPacket}
 use Rattle.carrier.specs.Laws.{packet-inside}
@@ -15,16 +16,16 @@ use Rattle.pairs.proofs.take_stream_apart.Statement.{statement}
 use Rattle.pairs.proofs.take_stream_apart.Tie as tie
 
 abbrev Inv-loop : tie.InvT-loop
-Inv-loop stream idx₀ from p₀ idx p = (p ≤ 12) × (length idx ≡ length idx₀) × (idx ≡ over idx₀ from (14 * p) (joined (framesOf (streamPacket (bits stream))) p))
+Inv-loop stream idx₀ from p₀ idx p = (p ≤ multiframePairs) × (length idx ≡ length idx₀) × (idx ≡ over idx₀ from (pairIndices * p) (joined (framesOf (streamPacket (bits stream))) p))
 
 abbrev μ-loop : tie.MeasureT-loop
-μ-loop stream idx₀ from p₀ idx p = 12 - p
+μ-loop stream idx₀ from p₀ idx p = multiframePairs - p
 
 mul-from : tie.Need-mul-from Inv-loop μ-loop
 mul-from c = search needs
 
 loop-holds : tie.Need-loop-holds Inv-loop μ-loop
-loop-holds c = (omega arith, refl, over-none _ (14 * c .before .before .before .args .first .0))
+loop-holds c = (omega arith, refl, over-none _ (pairIndices * c .before .before .before .args .first .0))
 
 mul-take-apart : tie.Need-mul-take-apart Inv-loop μ-loop
 mul-take-apart c = search needs
@@ -51,7 +52,7 @@ loop-again c =
     let st = a .before .before .before .before in
     let i = a .loop .inv in
     let packets = streamPacket (bits (st .args .stream .now)) in
-    (omega arith, t .take-apart .kept .1 .1 .0 ∙ i .1, joined-on (st .args .idx .now) (a .loop .idx) (14 * st .args .first .0) (a .loop .p) (framesOf packets) 14 (t .take-apart .last .1 .1 .0) (λ k h. length-frames packets k) (omega (arith, st .pre .1)) (i .2) (put-is packets (a .loop .p) (a .loop .idx) (t .take-apart .last .1 .1 .0) (14 * st .args .first .0 + 14 * a .loop .p) (t .take-apart .ensures)))
+    (omega arith, t .take-apart .kept .1 .1 .0 ∙ i .1, joined-on (st .args .idx .now) (a .loop .idx) (pairIndices * st .args .first .0) (a .loop .p) (framesOf packets) pairIndices (t .take-apart .last .1 .1 .0) (λ k h. length-frames packets k) (omega (arith, st .pre .1)) (i .2) (put-is packets (a .loop .p) (a .loop .idx) (t .take-apart .last .1 .1 .0) (pairIndices * st .args .first .0 + pairIndices * a .loop .p) (t .take-apart .ensures)))
 
 same-length : tie.Need-same-length Inv-loop μ-loop
 same-length c = c .before .loop .inv .1
@@ -61,8 +62,8 @@ unfolding allFrames
 returns c =
     let a = c .before in
     let st = a .before .before .before .before in
-    let e : a .loop .p ≡ 12 = omega (arith, a .loop .inv .0) in
-    a .loop .inv .2 ∙ ap (λ (p : ℕ). over (st .args .idx .now) (14 * st .args .first .0) (14 * p) (joined (framesOf (streamPacket (bits (st .args .stream .now)))) p)) e
+    let e : a .loop .p ≡ multiframePairs = omega (arith, a .loop .inv .0) in
+    a .loop .inv .2 ∙ ap (λ (p : ℕ). over (st .args .idx .now) (pairIndices * st .args .first .0) (pairIndices * p) (joined (framesOf (streamPacket (bits (st .args .stream .now)))) p)) e
 
 pub take-stream-apart-spec : {M : Type 1} → statement M
 take-stream-apart-spec =

@@ -4,6 +4,7 @@ use Prim.Native.Nat.{ℕ, _+_, _%_, _≤_, _<_}
 use native.Mathlib.Omega.{arith}
 use lib.ListN.{length}
 use Rattle.lists.specs.Tests.{not-false, not-true}
+use Rattle.layout.specs.Layout.{frameIndices}
 use Rattle.writer.specs.Laws.{foundAs, Sized, refuses-settings, refuses-part, refuses-many, refuses-wide, refuses-zero, refuses-short, accepts}
 use borrow.Author.Needs.{needs}
 use Rattle.writer.proofs.decide.Statement.{statement}
@@ -27,7 +28,7 @@ returns-3 : tie.Need-returns-3
 returns-3 c =
     let s = c .before .before .before in
     let a = s .before .before .args in
-    let w : length (a .indices .now) % 7 ≡ 0 = omega (arith, c .before .if2 .left) in
+    let w : length (a .indices .now) % frameIndices ≡ 0 = omega (arith, c .before .if2 .left) in
     sym (refuses-many (a .settings) (a .indices .now) (a .room) (sym (s .is-right .ensures) ∙ not-false _ (c .before .before .if1 .left)) w (c .if3 .taken))
 
 first-wide-requires : tie.Need-first-wide-requires
