@@ -5,7 +5,7 @@ use lib.ListN.{length}
 use Rattle.carrier.specs.Carrier.{received, pairCount}
 use Rattle.judging.specs.Judging.{badPairs}
 use Rattle.pairs.specs.Laws.{length-notes}
-use Rattle.reader.specs.Steps.{decided-empty, decided-unsettled, decided-settled, refused-early, all-bad, not-all-bad, all-stored}
+use Rattle.reader.proofs.Steps.{decided-empty, decided-unsettled, decided-settled, refused-early, all-bad, not-all-bad, all-stored}
 use borrow.Author.Needs.{needs}
 use Rattle.reader.proofs.decide.Statement.{statement}
 use Rattle.reader.proofs.decide.Tie as tie

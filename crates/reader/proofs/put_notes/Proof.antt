@@ -5,7 +5,7 @@ use native.Mathlib.Omega.{arith}
 use lib.ListN.{length, length-set}
 use Rattle.lists.specs.Parts.{part, over, over-none}
 use Rattle.layout.specs.Layout.{multiframePairs}
-use Rattle.reader.specs.Steps.{note-on}
+use Rattle.reader.proofs.Steps.{note-on}
 use borrow.Author.Needs.{needs}
 use Rattle.reader.proofs.put_notes.Statement.{statement}
 use Rattle.reader.proofs.put_notes.Tie as tie

@@ -5,7 +5,8 @@ use native.Mathlib.Omega.{arith}
 use lib.ListN.{length}
 use Rattle.lists.specs.Parts.{over, over-none}
 use Rattle.layout.specs.Layout.{reportOctets}
-use Rattle.reader.specs.Steps.{sections, section-on}
+use Rattle.reader.specs.Steps.{sections}
+use Rattle.reader.proofs.Steps.{section-on}
 use borrow.Author.Needs.{needs}
 use Rattle.reader.proofs.put_report.Statement.{statement}
 use Rattle.reader.proofs.put_report.Tie as tie

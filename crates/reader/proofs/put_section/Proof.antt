@@ -2,7 +2,7 @@
 use mathlib.Core.Path.{_∙_}
 use native.Mathlib.Omega.{arith}
 use lib.ListN.{length-set}
-use Rattle.reader.specs.Steps.{section-is}
+use Rattle.reader.proofs.Steps.{section-is}
 use borrow.Author.Needs.{needs}
 use Rattle.reader.proofs.put_section.Statement.{statement}
 use Rattle.reader.proofs.put_section.Tie as tie

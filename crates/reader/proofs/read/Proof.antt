@@ -6,7 +6,8 @@ use native.Mathlib.Omega.{arith}
 use lib.ListN.{length, take, replicate}
 use Rattle.cutting.specs.Cutting.{whole, cutting}
 use Rattle.cutting.specs.Laws.{Placed, places-placed, at-most-255}
-use Rattle.reader.specs.Steps.{cut-whole, cut-refused, front-places, wrong-codebook, wrong-thresholds, not-cut, whole-reading, in-numbers}
+use Rattle.reader.specs.Steps.{wrong-codebook, wrong-thresholds, not-cut, whole-reading}
+use Rattle.reader.proofs.Steps.{cut-whole, cut-refused, front-places, in-numbers}
 use borrow.Author.Needs.{needs}
 use Rattle.reader.proofs.read.Statement.{statement}
 use Rattle.reader.proofs.read.Tie as tie

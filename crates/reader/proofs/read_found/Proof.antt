@@ -8,7 +8,8 @@ use lib.Seq.{take-at, length-take-le}
 use Rattle.judging.specs.Laws.{Good}
 use Rattle.carrier.specs.Carrier.{received, pairCount}
 use Rattle.pairs.specs.Laws.{length-notes}
-use Rattle.reader.specs.Steps.{Kept, has-front, ready, finished-refused, finished-read}
+use Rattle.reader.specs.Steps.{Kept}
+use Rattle.reader.proofs.Steps.{has-front, ready, finished-refused, finished-read}
 use borrow.Author.Needs.{needs}
 use Rattle.reader.proofs.read_found.Statement.{statement}
 use Rattle.reader.proofs.read_found.Tie as tie
