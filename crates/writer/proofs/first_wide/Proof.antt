@@ -3,7 +3,7 @@ use Prim.Native.Nat.{_-_}
 use native.Mathlib.Omega.{arith}
 use borrow.Author.Needs.{needs}
 use Rattle.writer.specs.Writing.{isWide}
-use Rattle.writer.specs.Laws.{PassedFrames, frames-begin, frame-hit, frame-on, frames-end}
+use Rattle.writer.proofs.Steps.{PassedFrames, frames-begin, frame-hit, frame-on, frames-end}
 use Rattle.writer.proofs.first_wide.Statement.{statement}
 use Rattle.writer.proofs.first_wide.Tie as tie
 

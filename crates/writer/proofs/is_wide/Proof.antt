@@ -10,7 +10,7 @@ use Rattle.layout.specs.Layout.{frameIndices, mostNarrow}
 use borrow.Author.Needs.{needs}
 use borrow.Author.Tests.{eq-eqb, ne-eqb, lt-ltb, le-ltb}
 use Rattle.writer.specs.Writing.{isFound}
-use Rattle.writer.specs.Laws.{Passed, search-begin, search-hit, search-on, search-end}
+use Rattle.writer.proofs.Steps.{Passed, search-begin, search-hit, search-on, search-end}
 use Rattle.writer.proofs.is_wide.Statement.{statement}
 use Rattle.writer.proofs.is_wide.Tie as tie
 

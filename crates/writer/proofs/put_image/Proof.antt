@@ -7,7 +7,8 @@ use borrow.Author.Needs.{needs}
 use Rattle.lists.specs.Parts.{over, length-over}
 use Rattle.layout.specs.Layout.{multiframeOctets}
 use Rattle.writer.specs.Writing.{multiframe, image}
-use Rattle.writer.specs.Laws.{image-none, image-more, length-multiframe}
+use Rattle.writer.specs.Laws.{length-multiframe}
+use Rattle.writer.proofs.Steps.{image-none, image-more}
 use Rattle.writer.proofs.put_image.Statement.{statement}
 use Rattle.writer.proofs.put_image.Tie as tie
 

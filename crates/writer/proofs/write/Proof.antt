@@ -2,7 +2,8 @@
 use mathlib.Core.Path.{sym, _∙_}
 use native.Mathlib.Omega.{arith}
 use lib.ListN.{length}
-use Rattle.writer.specs.Laws.{accepted, few-multiframes, finishes, leaves, in-numbers}
+use Rattle.writer.specs.Laws.{accepted, few-multiframes, in-numbers}
+use Rattle.writer.proofs.Steps.{finishes, leaves}
 use borrow.Author.Needs.{needs}
 use Rattle.writer.proofs.write.Statement.{statement}
 use Rattle.writer.proofs.write.Tie as tie
