@@ -14,11 +14,9 @@ use native.Mathlib.Decide.{ℕ-discrete}
 use borrow.Author.Tests.{lt-ltb, le-ltb, eq-eqb, ne-eqb, ltb-true, ltb-false, eqb-true, eqb-false}
 use Rattle.lists.specs.Tests.{when, by-test}
 use Rattle.layout.specs.Layout.{multiframeOctets, syncOctets, mostMultiframes, syncFirst, syncSecond, inverseFirst, inverseSecond}
-use Rattle.refusals.specs.declared.Reading.{Reading}
-use Rattle.refusals.specs.declared.Reading.the-variants as R
 use Rattle.cutting.specs.declared.Piece.{Piece}
 use Rattle.cutting.specs.declared.Piece.the-variants.{End, Multiframe, Inverse, Unknown, CutShort, TooMany}
-use Rattle.cutting.specs.Cutting.{syncMet, lastMet, pieceBy, pieceOf, Ending, whole, refused, Cutting, prepend, step, walk, cutting}
+use Rattle.cutting.specs.Cutting.{syncMet, lastMet, pieceBy, pieceOf, whole, Cutting, prepend, step, walk, cutting}
 
 -- ---- the pieces
 
@@ -206,30 +204,8 @@ earlier : (s : List ℕ) (q r : ℕ) (ps : List ℕ) → q ≤ r → Stand s r p
 earlier s q r [] h a = tt
 earlier s q r (p ∷ ps) h a = (omega arith, a .1, a .2, a .3, a .4)
 
--- the piece stands at octet p, behind some number of multiframes
-abbrev pub StandsAt : List ℕ → ℕ → Piece → Type 0
-StandsAt s p q = (p < length s) × ((m : ℕ) × Says (length (drop p s)) (getD (drop p s) 0 0) (getD (drop p s) 1 0) m q)
-
--- a refusal is 12, 13 or 15, and what it is about stands at its place
-abbrev pub Met : List ℕ → Reading → Type 0
-Met s R.WrongTables = ⊥
-Met s (R.Unknown p) = StandsAt s p Unknown
-Met s (R.CutShort p) = StandsAt s p CutShort
-Met s (R.Empty n) = ⊥
-Met s (R.TooMany p) = StandsAt s p TooMany
-Met s R.Unsettled = ⊥
-Met s R.Unfit = ⊥
-Met s (R.IndexShort n) = ⊥
-Met s (R.ReportShort n) = ⊥
-Met s R.AllBad = ⊥
-
-abbrev pub Ended : List ℕ → Ending → Type 0
-Ended s whole = Unit
-Ended s (refused r) = Met s r
-
 pub record Sound (s : List ℕ) (q : ℕ) (w : Cutting) : Type 0 where
   pub stand : Stand s q (w .places)
-  pub close : Ended s (w .ending)
 
 module _ (s l : List ℕ) (p : ℕ) (within : p ≤ length s) (left : drop p s ≡ l) where
   left-length : length l ≡ length s - p
@@ -238,26 +214,20 @@ module _ (s l : List ℕ) (p : ℕ) (within : p ≤ length s) (left : drop p s �
   left-at : (i : ℕ) → getD s (p + i) 0 ≡ getD l i 0
   left-at i = sym (getD-drop p s i 0) ∙ ap (λ (x : List ℕ). getD x i 0) left
 
-  stands : (q : Piece) (m : ℕ) → 0 < length l → Says (length l) (getD l 0 0) (getD l 1 0) m q → StandsAt s p q
-  stands q m some h = (omega (arith, some, left-length), (m, subst (λ (x : List ℕ). Says (length x) (getD x 0 0) (getD x 1 0) m q) (sym left) h))
-
   sound-next : (q : Piece) (m : ℕ) (v w : Cutting) → Says (length l) (getD l 0 0) (getD l 1 0) m q
       → Sound s (p + multiframeOctets) v → Sound s (p + syncOctets) w → Sound s p (step q p v w)
-  sound-next End m v w h f g = record { stand = tt; close = tt }
+  sound-next End m v w h f g = record { stand = tt }
   sound-next Multiframe m v w h f g =
       let z : p ≡ p + 0 = omega arith in
-      record {
-        stand = (omega arith, omega (arith, h .0, left-length), ap (λ (k : ℕ). getD s k 0) z ∙ left-at 0 ∙ h .2, left-at 1 ∙ h .3, f .stand);
-        close = f .close;
-      }
-  sound-next Inverse m v w h f g = record { stand = earlier s p (p + 2) (w .places) (omega arith) (g .stand); close = g .close }
-  sound-next Unknown m v w h f g = record { stand = tt; close = stands Unknown m (h .0) h }
-  sound-next CutShort m v w h f g = record { stand = tt; close = stands CutShort m (h .0) h }
-  sound-next TooMany m v w h f g = record { stand = tt; close = stands TooMany m (h .0) h }
+      record { stand = (omega arith, omega (arith, h .0, left-length), ap (λ (k : ℕ). getD s k 0) z ∙ left-at 0 ∙ h .2, left-at 1 ∙ h .3, f .stand) }
+  sound-next Inverse m v w h f g = record { stand = earlier s p (p + 2) (w .places) (omega arith) (g .stand) }
+  sound-next Unknown m v w h f g = record { stand = tt }
+  sound-next CutShort m v w h f g = record { stand = tt }
+  sound-next TooMany m v w h f g = record { stand = tt }
 
 pub sound-walk : (s : List ℕ) (k : ℕ) (l : List ℕ) (p m : ℕ) → p ≤ length s → drop p s ≡ l → Sound s (p + k) (walk k l p m)
 unfolding walk
-sound-walk s k [] p m h e = record { stand = tt; close = tt }
+sound-walk s k [] p m h e = record { stand = tt }
 sound-walk s (suc k) (x ∷ l) p m h e =
     let n : suc (length l) ≡ length s - p = left-length s (x ∷ l) p h e in
     let d : drop (p + 1) s ≡ l = sym (drop-drop 1 p s) ∙ ap (drop 1) e in
@@ -275,7 +245,7 @@ sound-walk s zero (x ∷ l) p m h e =
     (subst (λ (q : ℕ). Sound s q (walk (multiframeOctets - 1) l (p + 1) (m + 1))) a (sound-walk s (multiframeOctets - 1) l (p + 1) (m + 1) (omega arith) d))
     (subst (λ (q : ℕ). Sound s q (walk 1 l (p + 1) m)) b (sound-walk s 1 l (p + 1) m (omega arith) d)))
 
--- what cutting gives, of any octets whatsoever
+-- the places that cutting gives, of any octets whatsoever (how it ends: `ends-exactly` in Reached)
 pub sound : (s : List ℕ) → Sound s 0 (cutting s)
 sound s = sound-walk s 0 s 0 0 (omega arith) refl
 

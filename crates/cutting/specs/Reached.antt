@@ -1,13 +1,14 @@
 -- Where cutting gets to (01, "Cutting up"), said without the recursion that cuts: a sentence each for the start, a multiframe and an inverse sync.
 -- Cutting ends at the octets' end, or with 12, 13 or 15, exactly where what it gets to is what 01 says of that case.
 -- Assumes nothing.
-use Prim.Native.Nat.{ℕ, zero, suc, _+_, _-_, _≤_, _<_}
+use Prim.Native.Nat.{ℕ, zero, suc, _+_, _-_, _*_, _≤_, _<_}
 use mathlib.Core.Path.{_≡_, refl, ap, sym, _∙_, subst}
 use mathlib.Core.Logic.{inl, _↔_}
 use mathlib.Core.List.{List, [], _∷_}
 use lib.ListN.{length, getD, drop, length-drop}
 use lib.Seq.{drop-drop, getD-drop}
 use lib.Dec.{ltb}
+use native.Mathlib.Numerals.{add-one}
 use native.Mathlib.Omega.{arith}
 use borrow.Author.Tests.{lt-ltb, le-ltb}
 use Rattle.lists.specs.Tests.{when}
@@ -124,7 +125,7 @@ goes s (stepped {p} {m} r at) =
 -- ---- m is the number of multiframes before p, so there is one m for each p
 none-before : (s : List ℕ) (p q : ℕ) (ps : List ℕ) → p ≤ q → Stand s q ps → before p ps ≡ 0
 none-before s p q [] h a = refl
-none-before s p q (x ∷ ps) h a = rw (le-ltb x p (omega (arith, a .0))) (none-before s p (x + 144) ps (omega (arith, a .0)) (a .4))
+none-before s p q (x ∷ ps) h a = rw (le-ltb x p (omega (arith, a .0))) (none-before s p (x + multiframeOctets) ps (omega (arith, a .0)) (a .4))
 
 pub reached-behind : (s : List ℕ) {p m : ℕ} → Reached s p m → m ≡ before p (cutting s .places)
 reached-behind s {p} {m} r =
@@ -207,11 +208,11 @@ told-walk s zero (x ∷ l) p m within e r =
     let n : suc (length l) ≡ length s - p = sym (ap length e) ∙ length-drop p s in
     let d : drop (p + 1) s ≡ l = sym (drop-drop 1 p s) ∙ ap (drop 1) e in
     let z : p + 0 ≡ p = omega arith in
-    let a : p + 144 ≡ p + 1 + 143 = omega arith in
-    let b : p + 2 ≡ p + 1 + 1 = omega arith in
-    told-next s (subst (λ (q : ℕ). Reached s q m) z r) (pieceOf (x ∷ l) m) (here-says s p m (x ∷ l) e) (walk 143 l (p + 1) (m + 1)) (walk 1 l (p + 1) m)
-    (λ t. told-walk s 143 l (p + 1) (m + 1) (omega arith) d (subst (λ (q : ℕ). Reached s q (m + 1)) a t))
-    (λ t. told-walk s 1 l (p + 1) m (omega arith) d (subst (λ (q : ℕ). Reached s q m) b t))
+    let a : p + multiframeOctets ≡ p + 1 + (multiframeOctets - 1) = omega arith in
+    let b : p + syncOctets ≡ p + 1 + (syncOctets - 1) = omega arith in
+    told-next s (subst (λ (q : ℕ). Reached s q m) z r) (pieceOf (x ∷ l) m) (here-says s p m (x ∷ l) e) (walk (multiframeOctets - 1) l (p + 1) (m + 1)) (walk (syncOctets - 1) l (p + 1) m)
+    (λ t. told-walk s (multiframeOctets - 1) l (p + 1) (m + 1) (omega arith) d (subst (λ (q : ℕ). Reached s q (m + 1)) a t))
+    (λ t. told-walk s (syncOctets - 1) l (p + 1) m (omega arith) d (subst (λ (q : ℕ). Reached s q m) b t))
 
 -- how cutting ends, and why: the end of the octets, 12, 13 and 15, each exactly where it is reached
 pub ends-exactly : (s : List ℕ) (e : Ending) → (cutting s .ending ≡ e) ↔ Told s e
@@ -236,3 +237,21 @@ reached-literally = (
   (0, (stepped start (omega arith, refl, refl), (omega arith, inl (refl, inl refl)))),
   stepped start (omega arith, refl, refl),
 )
+
+-- ---- and behind 255 multiframes: a sync every 144 octets is met 255 times, and then is 15 at octet 36,720, though only two octets be left
+abbrev pub Synced : List ℕ → ℕ → Type 0
+Synced s k = (i : ℕ) → i < k → (getD s (multiframeOctets * i) 0 ≡ syncFirst) × (getD s (multiframeOctets * i + 1) 0 ≡ syncSecond)
+
+reached-every : (s : List ℕ) (k : ℕ) → k ≤ mostMultiframes → multiframeOctets * k ≤ length s → Synced s k → Reached s (multiframeOctets * k) k
+reached-every s zero few room h = start
+reached-every s (suc k) few room h =
+    let r = reached-every s k (omega arith) (omega arith) (λ i b. h i (omega arith)) in
+    let a : multiframeOctets * k + multiframeOctets ≡ multiframeOctets * suc k = omega arith in
+    let here = h k (omega arith) in
+    subst (λ (p : ℕ). Reached s p (suc k)) a (rw add-one at (met r (omega arith) (omega arith, here .0, here .1)))
+
+pub fifteen-met : (s : List ℕ) → 36722 ≤ length s → Synced s 256 → cutting s .ending ≡ refused (R.TooMany 36720)
+fifteen-met s room h =
+    let here = h 255 (omega arith) in
+    let r = reached-every s 255 (omega arith) (omega arith) (λ i b. h i (omega arith)) in
+    ends-exactly s (refused (R.TooMany 36720)) .1 (255, (r, (omega arith, omega arith, refl, here .0, here .1)))

@@ -11,7 +11,8 @@ use Rattle.bits.specs.Bits.{bits}
 use Rattle.carrier.specs.Carrier.{streamPacket, received}
 use Rattle.packet.specs.Packet.{apart}
 use Rattle.pairs.specs.Pairs.{framesOf}
-use Rattle.pairs.specs.Laws.{over-all, ranges, inconsistent-is, length-frames, put-is, stream-size}
+use Rattle.pairs.specs.Laws.{over-all, length-frames}
+use Rattle.pairs.proofs.Steps.{ranges, inconsistent-is, put-is, stream-size}
 use borrow.Author.Needs.{needs}
 use Rattle.pairs.proofs.is_inconsistent.Statement.{statement}
 use Rattle.pairs.proofs.is_inconsistent.Tie as tie

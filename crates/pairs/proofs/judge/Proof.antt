@@ -3,7 +3,7 @@ use mathlib.Core.Path.{sym, ap, _∙_}
 use denote.Ref.{now}
 use Rattle.carrier.specs.Carrier.{received, pairCount}
 use Rattle.judging.specs.Judging.{badPairs}
-use Rattle.pairs.specs.Laws.{none-failed}
+use Rattle.pairs.proofs.Steps.{none-failed}
 use borrow.Author.Needs.{needs}
 use Rattle.pairs.proofs.judge.Statement.{statement}
 use Rattle.pairs.proofs.judge.Tie as tie

@@ -7,7 +7,7 @@ use lib.ListN.{length}
 use Rattle.lists.specs.Tests.{when}
 use Rattle.carrier.specs.Carrier.{received, pairCount}
 use Rattle.pairs.specs.Pairs.{pairInconsistent, pairNotes}
-use Rattle.pairs.specs.Laws.{Judged, length-crcs, judging-begun, judged-on, judging-done}
+use Rattle.pairs.proofs.Steps.{Judged, length-crcs, judging-begun, judged-on, judging-done}
 use borrow.Author.Needs.{needs}
 use Rattle.pairs.proofs.judge_each.Statement.{statement}
 use Rattle.pairs.proofs.judge_each.Tie as tie

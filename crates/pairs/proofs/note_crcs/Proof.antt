@@ -9,7 +9,8 @@ use Rattle.layout.specs.Layout.{streamOctets, firstPair}
 use Rattle.carrier.specs.Carrier.{received, pairCount}
 use Rattle.carrier.specs.Laws.{length-stream}
 use Rattle.pairs.specs.Pairs.{crcNotes}
-use Rattle.pairs.specs.Laws.{noted-more, over-all}
+use Rattle.pairs.specs.Laws.{over-all}
+use Rattle.pairs.proofs.Steps.{noted-more}
 use borrow.Author.Needs.{needs}
 use Rattle.pairs.proofs.note_crcs.Statement.{statement}
 use Rattle.pairs.proofs.note_crcs.Tie as tie

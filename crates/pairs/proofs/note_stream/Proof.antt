@@ -9,7 +9,7 @@ use Rattle.layout.specs.Layout.{multiframePairs}
 use Rattle.bits.specs.Bits.{bits}
 use Rattle.carrier.specs.Carrier.{streamPacket}
 use Rattle.pairs.specs.Pairs.{pairFails, crcNote, crcNotes}
-use Rattle.pairs.specs.Laws.{fails-is}
+use Rattle.pairs.proofs.Steps.{fails-is}
 use borrow.Author.Needs.{needs}
 use Rattle.pairs.proofs.note_stream.Statement.{statement}
 use Rattle.pairs.proofs.note_stream.Tie as tie

@@ -9,7 +9,7 @@ use Rattle.layout.specs.Layout.{pairIndices, streamOctets, firstPair}
 use Rattle.carrier.specs.Carrier.{received}
 use Rattle.carrier.specs.Laws.{length-stream}
 use Rattle.pairs.specs.Pairs.{allFrames}
-use Rattle.pairs.specs.Laws.{laid-more}
+use Rattle.pairs.proofs.Steps.{laid-more}
 use borrow.Author.Needs.{needs}
 use Rattle.pairs.proofs.take_all_apart.Statement.{statement}
 use Rattle.pairs.proofs.take_all_apart.Tie as tie

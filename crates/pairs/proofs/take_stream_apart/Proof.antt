@@ -10,7 +10,8 @@ use Rattle.bits.specs.Bits.{bits}
 use Rattle.carrier.specs.Carrier.{streamPacket}
 use Rattle.carrier.specs.Laws.{packet-inside}
 use Rattle.pairs.specs.Pairs.{framesOf, allFrames}
-use Rattle.pairs.specs.Laws.{length-frames, put-is}
+use Rattle.pairs.specs.Laws.{length-frames}
+use Rattle.pairs.proofs.Steps.{put-is}
 use borrow.Author.Needs.{needs}
 use Rattle.pairs.proofs.take_stream_apart.Statement.{statement}
 use Rattle.pairs.proofs.take_stream_apart.Tie as tie

@@ -1,5 +1,5 @@
 -- `agreed` meets its contract: a lost header settles nothing, a readable one what was seen before it. Assumes nothing.
-use Rattle.settling.specs.Stored.{lost-settles-nothing, seen-settles, new-settles-nothing}
+use Rattle.settling.proofs.Steps.{lost-settles-nothing, seen-settles, new-settles-nothing}
 use borrow.Author.Needs.{needs}
 use Rattle.settling.proofs.agreed.Statement.{statement}
 use Rattle.settling.proofs.agreed.Tie as tie

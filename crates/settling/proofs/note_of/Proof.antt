@@ -2,7 +2,8 @@
 use Prim.Native.Nat.{ℕ}
 use mathlib.Core.Path.{subst, ap, _∙_}
 use native.Mathlib.Omega.{arith}
-use Rattle.settling.specs.Stored.{Mended, stepNote, commonNote, step-note-le, common-note-le, note-sum, note-lost}
+use Rattle.settling.specs.Stored.{Mended, stepNote, commonNote}
+use Rattle.settling.proofs.Steps.{step-note-le, common-note-le, note-sum, note-lost}
 use borrow.Author.Needs.{needs}
 use Rattle.settling.proofs.note_of.Statement.{statement}
 use Rattle.settling.proofs.note_of.Tie as tie

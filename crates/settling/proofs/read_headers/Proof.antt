@@ -5,7 +5,8 @@ use native.Mathlib.Omega.{arith}
 use lib.ListN.{length, length-set}
 use Rattle.lists.specs.Parts.{over, over-none}
 use Rattle.header.specs.Reading.{reading}
-use Rattle.settling.specs.Stored.{packed, packAll, Mended, mended, stored-on}
+use Rattle.settling.specs.Stored.{packed, packAll, Mended, mended}
+use Rattle.settling.proofs.Steps.{stored-on}
 use borrow.Author.Needs.{needs}
 use Rattle.settling.proofs.read_headers.Statement.{statement}
 use Rattle.settling.proofs.read_headers.Tie as tie

@@ -1,0 +1,154 @@
+-- The steps by which the code settles and notes, one header at a time: what its functions find in the stored readings.
+-- Assumes nothing.
+use Prim.Native.Nat.{ℕ, suc, _+_, _%_, _≤_, _<_}
+use mathlib.Core.Path.{_≡_, refl, ap, sym, _∙_}
+use mathlib.Core.List.{List, [], _∷_}
+use mathlib.Core.Bool.{Bool, true, false}
+use lib.Dec.{eqb}
+use lib.ListN.{length, getD, set, drop}
+use lib.Seq.{drop-cons, drop-length}
+use native.Mathlib.Numerals.{add-one}
+use native.Mathlib.Omega.{arith}
+use borrow.Author.Tests.{eq-eqb, ne-eqb}
+use Rattle.lists.specs.Tests.{when}
+use Rattle.lists.specs.Parts.{over}
+use Rattle.carrier.specs.Carrier.{wordAt, inPlaces}
+use Rattle.lists.specs.Rows.{length-each, each-at, each-more}
+use Rattle.header.specs.Message.{countOf, commonBits}
+use Rattle.header.specs.Reading.{reading}
+use Rattle.header.specs.declared.Decoded.{Decoded}
+use Rattle.header.specs.declared.Header.{Header}
+use Rattle.header.specs.declared.Header.the-variants.{Codeword, Lost}
+use Rattle.settling.specs.Settling.{among, firstAgreeing, onlyOne, orElse, headerNote}
+use Rattle.settling.specs.declared.Settlement.{Settlement}
+use Rattle.settling.specs.declared.Settlement.the-variants.{Settled, Unsettled}
+use Rattle.settling.specs.Stored.{packed, opened, openAll, packAll, withSeen, seenBefore, settledBy, hasCommon, stepNote, commonNote}
+
+-- ---- the stored readings, opened
+pub length-open : (l : List ℕ) → length (openAll l) ≡ length l
+unfolding openAll
+length-open l = length-each (λ k. opened (getD l k 0)) (length l)
+
+pub open-at : (l : List ℕ) (k : ℕ) → k < length l → getD (openAll l) k Lost ≡ opened (getD l k 0)
+unfolding openAll
+open-at l k h = each-at (λ k. opened (getD l k 0)) (length l) k Lost h
+
+pub agreeing-step : (h : Header) (hs : List Header) (seen : List ℕ) → firstAgreeing seen (h ∷ hs) ≡ orElse (settledBy h seen) (firstAgreeing (withSeen h seen) hs)
+unfolding firstAgreeing
+agreeing-step Lost hs seen = refl
+agreeing-step (Codeword d) hs seen = by (among (commonBits (d .message)) seen)
+  where
+    by : (t : Bool) → when t (Settled (commonBits (d .message))) (firstAgreeing (commonBits (d .message) ∷ seen) hs)
+        ≡ orElse (when t (Settled (commonBits (d .message))) Unsettled) (firstAgreeing (commonBits (d .message) ∷ seen) hs)
+    by true = refl
+    by false = refl
+
+-- what is left to settle from header k on
+pub agreeing-on : (hs : List Header) (k : ℕ) (s : Settlement) → k < length hs → s ≡ settledBy (getD hs k Lost) (seenBefore hs k)
+    → firstAgreeing (seenBefore hs k) (drop k hs) ≡ orElse s (firstAgreeing (seenBefore hs (k + 1)) (drop (k + 1) hs))
+unfolding seenBefore
+agreeing-on hs k s h e = rw (drop-cons hs k Lost h, add-one k, e) (agreeing-step (getD hs k Lost) (drop (suc k) hs) (seenBefore hs k))
+
+pub agreeing-end : (hs : List Header) (seen : List ℕ) → firstAgreeing seen (drop (length hs) hs) ≡ Unsettled
+unfolding firstAgreeing
+agreeing-end hs seen = rw (drop-length hs)
+
+-- ---- looking back for common bits, from the last header to the first
+pub among-step : (hs : List Header) (c k : ℕ) (t : Bool) → t ≡ hasCommon (getD hs k Lost) c → among c (seenBefore hs (suc k)) ≡ when t true (among c (seenBefore hs k))
+unfolding seenBefore
+among-step hs c k t e = from (getD hs k Lost) t e
+  where
+    from : (h : Header) (t : Bool) → t ≡ hasCommon h c → among c (withSeen h (seenBefore hs k)) ≡ when t true (among c (seenBefore hs k))
+    from Lost t e = rw e
+    from (Codeword d) t e = rw e
+
+pub among-none : (hs : List Header) (c : ℕ) → among c (seenBefore hs 0) ≡ false
+unfolding seenBefore
+among-none hs c = refl
+
+-- ---- an only header
+abbrev pub onlyBy : Header → Settlement
+onlyBy Lost = Unsettled
+onlyBy (Codeword d) = when (eqb (d .flips) 0) (Settled (commonBits (d .message))) Unsettled
+
+pub only-is : (hs : List Header) → length hs ≡ 1 → onlyOne hs ≡ onlyBy (getD hs 0 Lost)
+unfolding onlyOne
+only-is [] e = absurd (omega arith)
+only-is (Lost ∷ hs) e = refl
+only-is (Codeword d ∷ []) e = refl
+only-is (Codeword d ∷ h ∷ hs) e = absurd (omega arith)
+
+pub not-only : (hs : List Header) → (length hs ≡ 1 → ⊥) → onlyOne hs ≡ Unsettled
+unfolding onlyOne
+not-only [] n = refl
+not-only (Lost ∷ hs) n = refl
+not-only (Codeword d ∷ []) n = absurd (n refl)
+not-only (Codeword d ∷ h ∷ hs) n = refl
+
+pub step-note-le : (count k : ℕ) → stepNote count k ≤ 4
+unfolding stepNote
+step-note-le count k = by (eqb count ((k + 1) % 16))
+  where
+    by : (t : Bool) → when t 0 4 ≤ 4
+    by true = omega arith
+    by false = omega arith
+
+pub common-note-le : (a b : ℕ) → commonNote a b ≤ 8
+unfolding commonNote
+common-note-le a b = by (eqb a b)
+  where
+    by : (t : Bool) → when t 0 8 ≤ 8
+    by true = omega arith
+    by false = omega arith
+
+pub note-sum : (c k s t : ℕ) (d : Decoded) (h : Header) → h ≡ Codeword d → s ≡ stepNote (countOf (d .message)) k → t ≡ commonNote (commonBits (d .message)) c
+    → d .flips + s + t ≡ headerNote c k h
+unfolding stepNote commonNote headerNote
+note-sum c k s t d h e es et = rw (e, es, et)
+
+pub note-lost : (c k : ℕ) (h : Header) → h ≡ Lost → 3 ≡ headerNote c k h
+unfolding headerNote
+note-lost c k h e = rw e
+
+-- ---- one header more is stored
+pub stored-on : (octets places l m : List ℕ) (k x : ℕ) → k < length l → x ≡ packed (reading (wordAt octets (inPlaces places) k))
+    → m ≡ over l 0 k (packAll octets places k) → length m ≡ length l → set m k x ≡ over l 0 (k + 1) (packAll octets places (k + 1))
+stored-on octets places l m k x h e em size = each-more l m k (λ k. packed (reading (wordAt octets (inPlaces places) k))) x h e size em
+
+-- ---- what the code's branches find
+module _ (l : List ℕ) (k : ℕ) (h : k < length l) (r : Header) (e : r ≡ opened (getD l k 0)) where
+  pub found-at : getD (openAll l) k Lost ≡ r
+  found-at = open-at l k h ∙ sym e
+
+  pub lost-settles-nothing : (seen : List ℕ) → r ≡ Lost → Unsettled ≡ settledBy (getD (openAll l) k Lost) seen
+  lost-settles-nothing seen q = rw (found-at, q)
+
+  pub seen-settles : (seen : List ℕ) (d : Decoded) (c : ℕ) (t : Bool) → r ≡ Codeword d → c ≡ commonBits (d .message) → t ≡ among c seen → t ≡ true
+      → Settled c ≡ settledBy (getD (openAll l) k Lost) seen
+  seen-settles seen d c t q ec et y =
+      let s : among (commonBits (d .message)) seen ≡ true = ap (λ (x : ℕ). among x seen) (sym ec) ∙ sym et ∙ y in
+      rw (found-at, q, s) (ap Settled ec)
+
+  pub new-settles-nothing : (seen : List ℕ) (d : Decoded) (c : ℕ) (t : Bool) → r ≡ Codeword d → c ≡ commonBits (d .message) → t ≡ among c seen → t ≡ false
+      → Unsettled ≡ settledBy (getD (openAll l) k Lost) seen
+  new-settles-nothing seen d c t q ec et y =
+      let s : among (commonBits (d .message)) seen ≡ false = ap (λ (x : ℕ). among x seen) (sym ec) ∙ sym et ∙ y in
+      rw (found-at, q, s)
+
+  -- looking back: from header k + 1 to header k
+  pub looked : (c i : ℕ) (t : Bool) → t ≡ hasCommon r c → suc k ≡ i → among c (seenBefore (openAll l) i) ≡ when t true (among c (seenBefore (openAll l) k))
+  looked c i t et ei =
+      ap (λ (n : ℕ). among c (seenBefore (openAll l) n)) (sym ei) ∙ among-step (openAll l) c k t (et ∙ ap (λ (x : Header). hasCommon x c) (sym found-at))
+
+module _ (l : List ℕ) (one : length l ≡ 1) (r : Header) (e : r ≡ opened (getD l 0 0)) where
+  pub only-found : onlyOne (openAll l) ≡ onlyBy r
+  only-found = only-is (openAll l) (length-open l ∙ one) ∙ ap onlyBy (found-at l 0 (omega arith) r e)
+
+  pub only-lost : r ≡ Lost → Unsettled ≡ onlyOne (openAll l)
+  only-lost q = rw (only-found, q)
+
+  pub only-clean : (d : Decoded) (c : ℕ) → r ≡ Codeword d → d .flips ≡ 0 → c ≡ commonBits (d .message) → Settled c ≡ onlyOne (openAll l)
+  only-clean d c q z ec = rw (only-found, q, eq-eqb (d .flips) 0 z) (ap Settled ec)
+
+  pub only-mended : (d : Decoded) → r ≡ Codeword d → (d .flips ≡ 0 → ⊥) → Unsettled ≡ onlyOne (openAll l)
+  only-mended d q n = rw (only-found, q, ne-eqb (d .flips) 0 n)
