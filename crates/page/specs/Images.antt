@@ -15,7 +15,7 @@ use Rattle.lists.specs.Parts.{part}
 use Rattle.lists.specs.Rows.{joined}
 use Rattle.layout.specs.Layout.{widths, streamOctets, firstPair, multiframePairs}
 use Rattle.settings.specs.Settings.{settings}
-use Rattle.frames.specs.Frames.{zeroFrame}
+use Rattle.frames.specs.Frames.{zeroFrame as isZeroFrame}
 use Rattle.bits.specs.Bits.{numbers, value, laid, field, fields, bits, octets}
 use Rattle.crc.specs.Crc.{crc, after}
 use Rattle.packet.specs.Packet.{packet, guarded, row, packetOf, stream}
@@ -146,7 +146,7 @@ small-list l t i =
     ]
 
 written-25 : verdict (settings 3 1) said 288 ≡ Written 288
-unfolding verdict roomAnswer firstFrom zeroFrame
+unfolding verdict roomAnswer firstFrom isZeroFrame
 written-25 = refl
 
 says25 : Utterance
