@@ -11,6 +11,7 @@ use Rattle.header.specs.declared.Header.{Header}
 use Rattle.header.specs.declared.Header.the-variants.{Codeword, Lost}
 pub mod Laws
 pub mod Search
+pub mod Examples
 
 -- as many flips as are mended: two, since three could come from either of two codewords
 abbrev pub mendable : ℕ

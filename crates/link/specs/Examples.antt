@@ -1,8 +1,9 @@
--- Literal examples of the hunting entries: which number stands where, and what stays, which no law would notice if definition and code were
--- changed alike.
+-- Literal examples of the entries for headers, streams and bits: which number stands where, and what stays, which no law would notice if definition
+-- and code were changed alike.
 -- Assumes nothing.
-use mathlib.Core.Path.{_≡_, refl}
-use mathlib.Core.List.{List, [], _∷_}
+use mathlib.Core.Path.{_≡_, refl, subst}
+use mathlib.Core.Bool.{xor}
+use mathlib.Core.List.{List, [], _∷_, _++_}
 use Prim.Native.Nat.{ℕ}
 use lib.ListN.{replicate}
 use Rattle.settings.specs.Settings.{settings}
@@ -12,6 +13,14 @@ use Rattle.refusals.specs.declared.Reading.the-variants as RR
 use Rattle.hunting.specs.Hunting.{Outcome, outcome}
 use Rattle.refusals.specs.declared.Hunting.the-variants.{Octets, MatchRange, Nowhere, TooMany}
 use Rattle.hunting.specs.declared.Answer.the-variants.{Read, Refused}
+use Rattle.bits.specs.Bits.{numbers, value, fields, field, total}
+use Rattle.crc.specs.Crc.{after, crc, alike, right}
+use Rattle.packet.specs.Packet.{apart}
+use Rattle.judging.specs.Judging.{noteBy}
+use Rattle.pairs.specs.Pairs.{pairFails, framesOf, allFrames}
+use Rattle.header.specs.Reading.{reading}
+use Rattle.header.specs.Reading.Examples as H
+use Rattle.link.specs.Link.{headerRead, unpacked, unpacking}
 use Rattle.link.specs.Bits.{huntReturning, bitsReturning}
 
 -- 16 kHz, noise robust, 2 multiframes, 30 frames of speech, 4 bad pairs, end; 32 bits outside, 21 places tested
@@ -58,3 +67,16 @@ table = record {
   bits-21 = refl;
   bits-22 = refl;
 }
+
+-- ---- a header of two flips is read, message 8 and two flips; one of three is lost, and what came as 90 and 91 stays
+pub header-two-flips : (r m f : ℕ) → headerRead r m f 90 91 (reading 0xEE0E000B) → (r ≡ 1) × (m ≡ 8) × (f ≡ 2)
+header-two-flips r m f h = subst (headerRead r m f 90 91) (H.table .two-flips) h
+
+pub header-lost : (r m f : ℕ) → headerRead r m f 90 91 (reading 0xEE0E000F) → (r ≡ 0) × (m ≡ 90) × (f ≡ 91)
+header-lost r m f h = subst (headerRead r m f 90 91) (H.table .three-flips) h
+
+-- ---- a stream of zeros but for the first bit of the second packet: its first index is 1, its CRC fails and is noted 1, the others 0
+pub second-fails : unpacking (replicate 11 0 ++ (0x10 ∷ replicate 126 0)) (replicate 168 9) (replicate 12 9)
+    ≡ unpacked 1 (replicate 14 0 ++ (1 ∷ replicate 153 0)) (0 ∷ 1 ∷ replicate 10 0)
+unfolding unpacking allFrames framesOf apart numbers value fields field total pairFails right alike crc after xor noteBy
+second-fails = refl
