@@ -12,7 +12,7 @@ use lib.Count.{ones, onesIn}
 use lib.Dec.{lit<}
 use lib.ListN.{length, take, drop, getD, replicate, length-append}
 use lib.Seq.{take-at, drop-append-add}
-use Rattle.gf2.specs.Light.{ones-in}
+use Rattle.polynomials.specs.Light.{ones-in}
 use Rattle.lists.specs.Parts.{part}
 use Rattle.layout.specs.Layout.{widths, frameIndices, multiframePairs, firstFrame, packetBits, streamOctets}
 use Rattle.settings.specs.Settings.{settings}

@@ -13,7 +13,7 @@ use lib.Dec.{lit<}
 use lib.IntN.{ℤ, pos}
 use lib.ListN.{length, take, drop, getD, replicate, length-replicate, length-append}
 use lib.Seq.{take-at, drop-at, drop-append-add}
-use Rattle.gf2.specs.Light.{ones-in}
+use Rattle.polynomials.specs.Light.{ones-in}
 use Rattle.lists.specs.Tests.{true-false}
 use Rattle.lists.specs.Parts.{part, over}
 use Rattle.layout.specs.Layout.{frameIndices, packetBits, multiframePairs, streamOctets, indexOctets, reportOctets, codebookNumbers, thresholdNumbers, firstPair}

@@ -24,9 +24,9 @@ use Rattle.packet.specs.Laws.{length-row, row-inside, row-past}
 use Rattle.cutting.specs.Laws.{every-length}
 use Rattle.settling.specs.Settling.{readings, settling}
 use Rattle.carrier.specs.Carrier.{received, pairCount}
-use Rattle.pairs.specs.Laws.{length-notes, length-all, frames-at}
-use Rattle.judging.specs.Judging.{bad, badPairs}
-use Rattle.judging.specs.Laws.{Good, none-good}
+use Rattle.notes.specs.Laws.{length-notes, length-all, frames-at}
+use Rattle.bad_pairs.specs.BadPairs.{bad, badPairs}
+use Rattle.bad_pairs.specs.Laws.{Good, none-good}
 use Rattle.replacing.specs.Laws.{good-kept}
 use Rattle.reader.specs.Reading.{indexPart, reportPart, summary, Outcome, outcome, reading, receivedFrames, receivedNotes}
 use Rattle.reader.specs.ReadingLaws.{Fitting, length-index}

@@ -22,8 +22,8 @@ use Rattle.writer.specs.Image.{success}
 use Rattle.demands.specs.Noteless.{spoken, count-spoken, speech-lt, speech-le, speech-full}
 use Rattle.demands.specs.WritesAgain as A
 use borrow.Author.Tests.{ne-eqb}
-use Rattle.gf2.specs.Light.{ones-in}
-use Rattle.gf2.specs.Xor.{xor-swap}
+use Rattle.polynomials.specs.Light.{ones-in}
+use Rattle.polynomials.specs.Xor.{xor-swap}
 use Rattle.lists.specs.Tests.{true-false}
 use Rattle.lists.specs.Rows.{each, joined, length-joined, joined-part}
 use Rattle.layout.specs.Layout.{frameIndices, multiframeFrames, indexOctets, packetBits, multiframePairs, multiframeOctets, mostMultiframes, streamOctets, firstPair, multiframeOf, sync}
@@ -43,9 +43,9 @@ use Rattle.header.specs.Message.{message, settingsOf}
 use Rattle.header.specs.Message.Laws.{message-lt, message-back, message-counts, rate-masked, type-masked, count-masked, exp-shifted}
 use Rattle.header.specs.Reading.Laws.{flips-of}
 use Rattle.carrier.specs.Carrier.{streamPacket, received, pairCount}
-use Rattle.pairs.specs.Laws.{length-notes}
+use Rattle.notes.specs.Laws.{length-notes}
 use Rattle.cutting.specs.Laws.{every-length}
-use Rattle.judging.specs.Judging.{bad, badPairs}
+use Rattle.bad_pairs.specs.BadPairs.{bad, badPairs}
 use Rattle.reader.specs.Reading.{outcome, reading}
 use Rattle.refusals.specs.declared.Reading.the-variants.{Unsettled, AllBad}
 use Rattle.reader.specs.declared.Answer.the-variants.{Read, Refused}

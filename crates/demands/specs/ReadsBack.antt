@@ -31,8 +31,8 @@ use Rattle.header.specs.Message.{settingsOf}
 use Rattle.header.specs.declared.Header.the-variants.{Lost}
 use Rattle.settling.specs.Settling.{readings, headerNote}
 use Rattle.carrier.specs.Carrier.{received, pairCount}
-use Rattle.pairs.specs.Laws.{length-notes, length-all}
-use Rattle.judging.specs.Judging.{bad, badPairs}
+use Rattle.notes.specs.Laws.{length-notes, length-all}
+use Rattle.bad_pairs.specs.BadPairs.{bad, badPairs}
 use Rattle.replacing.specs.Replacing.{replaced}
 use Rattle.replacing.specs.Speech.{lastNonzero, speechOf, endOf, place-le, zero-behind, nonzero-at}
 use Rattle.reader.specs.Reading.{indexPart, reportPart, summary, Outcome, outcome, reading, receivedFrames, receivedNotes}

@@ -22,10 +22,10 @@ use Rattle.consistency.specs.Consistency.{inconsistent}
 use Rattle.cutting.specs.Laws.{every-length}
 use Rattle.reader.specs.Reading.{receivedNotes}
 use Rattle.carrier.specs.Carrier.{received, pairCount}
-use Rattle.pairs.specs.Pairs.{pairFails, framesOf, pairInconsistent, pairNotes}
-use Rattle.pairs.specs.Laws.{length-notes}
-use Rattle.judging.specs.Judging.{bad, badPairs, noteBy, notes}
-use Rattle.judging.specs.Laws.{badBefore, note-at, failed-is-1}
+use Rattle.notes.specs.Notes.{pairFails, framesOf, pairInconsistent, pairNotes}
+use Rattle.notes.specs.Laws.{length-notes}
+use Rattle.bad_pairs.specs.BadPairs.{bad, badPairs, noteBy, notes}
+use Rattle.bad_pairs.specs.Laws.{badBefore, note-at, failed-is-1}
 use Rattle.writer.specs.Made.{packetIn}
 use Rattle.writer.specs.Image.{Utterance, multiframesOf, pairsOf, imageOf, fits-each-frame}
 use Rattle.demands.specs.Damage.{DamageUpTo, Touched, Fate, whole, hit, fate, not-touched}

@@ -23,7 +23,7 @@ use Rattle.header.specs.Message.{rateOf, expOf}
 use Rattle.settling.specs.declared.Settlement.the-variants as S
 use Rattle.settling.specs.Settling.{readings, settling, headerNote}
 use Rattle.carrier.specs.Carrier.{streamFrom, headerWord, streamPacket, wordAt, streamAt, inPlaces, received, pairCount}
-use Rattle.judging.specs.Judging.{badPairs}
+use Rattle.bad_pairs.specs.BadPairs.{badPairs}
 use Rattle.reader.specs.Reading.{indexPart, reportPart, summary, roomVerdict, settledVerdict, wholeVerdict, endVerdict, verdict, finished, outcome, reading, receivedNotes}
 use Rattle.reader.specs.ReadingLaws.{Usable, Fitting, Accepted, accepting, length-report, report-at}
 use Rattle.reader.specs.declared.Verdict.{Verdict}

@@ -27,10 +27,10 @@ use Rattle.cutting.specs.Cutting.{cutting}
 use Rattle.cutting.specs.Laws.{every-at, no-inverse, sound, place-stands}
 use Rattle.settling.specs.Settling.{readings, headerNote}
 use Rattle.carrier.specs.Carrier.{received, pairCount}
-use Rattle.pairs.specs.Pairs.{pairFails, framesOf, pairInconsistent, pairNotes}
-use Rattle.pairs.specs.Laws.{length-notes, length-all, frames-at}
-use Rattle.judging.specs.Judging.{noteBy, notes}
-use Rattle.judging.specs.Laws.{badBefore, note-at, failed-is-1}
+use Rattle.notes.specs.Notes.{pairFails, framesOf, pairInconsistent, pairNotes}
+use Rattle.notes.specs.Laws.{length-notes, length-all, frames-at}
+use Rattle.bad_pairs.specs.BadPairs.{noteBy, notes}
+use Rattle.bad_pairs.specs.Laws.{badBefore, note-at, failed-is-1}
 use Rattle.replacing.specs.Speech.{speechOf, endOf}
 use Rattle.reader.specs.Reading.{indexPart, reportPart, summary, verdict, finished, Outcome, outcome, reading, receivedFrames, receivedNotes}
 use Rattle.reader.specs.ReadingLaws.{Accepted, accepted}

@@ -6,7 +6,7 @@ use mathlib.Core.Bool.{Bool}
 use lib.Bits.{bitXor}
 use lib.Count.{ones}
 use lib.Dec.{eqb}
-use Rattle.gf2.specs.Gf2.{remainder}
+use Rattle.polynomials.specs.Polynomials.{remainder}
 pub mod Parity
 pub mod Division
 pub mod Distance

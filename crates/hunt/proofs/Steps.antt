@@ -13,7 +13,7 @@ use lib.Dec.{leb, eqb, lit<}
 use lib.ListN.{length}
 use lib.Pow.{pow-add, pow-pos}
 use borrow.Author.Tests.{le-leb, lt-leb, lt-ltb, le-ltb}
-use Rattle.gf2.specs.Xor.{digit, low}
+use Rattle.polynomials.specs.Xor.{digit, low}
 use Rattle.lists.specs.Tests.{both}
 use Rattle.lists.specs.Parts.{part, length-part}
 use Rattle.bits.specs.Bits.{field, value, bits}

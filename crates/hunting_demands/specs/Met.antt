@@ -13,7 +13,7 @@ use lib.Dec.{lit<, lit≤}
 use lib.IntN.{ℤ}
 use lib.ListN.{length, take, drop, replicate, length-replicate, length-append, take-append-drop, replicate-append-replicate}
 use lib.Seq.{take-add, take-at, take-append-le}
-use Rattle.gf2.specs.Light.{ones-in}
+use Rattle.polynomials.specs.Light.{ones-in}
 use Rattle.lists.specs.Parts.{part, over, part-left, part-right}
 use Rattle.lists.specs.Rows.{joined}
 use Rattle.layout.specs.Layout.{multiframePairs, multiframeOctets, mostMultiframes, indexOctets, reportOctets}

@@ -16,7 +16,7 @@ use lib.IntN.{ℤ}
 use lib.ListN.{length, getD, replicate, length-replicate, replicate-append-replicate}
 use lib.Seq.{getD-append-add}
 use borrow.Author.Tests.{ltb-true}
-use Rattle.gf2.specs.Light.{ones-in}
+use Rattle.polynomials.specs.Light.{ones-in}
 use Rattle.lists.specs.Tests.{all-holds}
 use Rattle.lists.specs.Parts.{part, over}
 use Rattle.layout.specs.Layout.{widths, frameIndices, multiframePairs, streamOctets, indexOctets, reportOctets, firstPair}

@@ -14,7 +14,7 @@ use lib.IntN.{ℤ}
 use lib.ListN.{length, getD, replicate, length-append}
 use lib.Seq.{take-at, getD-take}
 use borrow.Author.Tests.{eq-eqb, ne-eqb, lt-ltb}
-use Rattle.gf2.specs.Light.{ones-in}
+use Rattle.polynomials.specs.Light.{ones-in}
 use Rattle.lists.specs.Tests.{true-false}
 use Rattle.lists.specs.Rows.{each, joined, length-joined, joined-part}
 use Rattle.layout.specs.Layout.{packetBits, multiframePairs, multiframeOctets, mostMultiframes, indexOctets, reportOctets, codebookNumbers, thresholdNumbers, syncFirst, syncSecond}

@@ -26,7 +26,7 @@ use Rattle.settling.specs.Settling.{readings, headerNote}
 use Rattle.reader.specs.Reading.{receivedNotes}
 use Rattle.carrier.specs.Carrier.{received, pairCount}
 use Rattle.settling.specs.Laws.{note-flips}
-use Rattle.pairs.specs.Laws.{length-notes}
+use Rattle.notes.specs.Laws.{length-notes}
 use Rattle.reader.specs.Reading as R
 use Rattle.hunt.specs.Hunt.{sync, matches, readable, passes, multiframeBits}
 use Rattle.hunt.specs.Laws.{searched-le}

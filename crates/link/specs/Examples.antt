@@ -16,8 +16,8 @@ use Rattle.hunting.specs.declared.Answer.the-variants.{Read, Refused}
 use Rattle.bits.specs.Bits.{numbers, value, fields, field, total}
 use Rattle.crc.specs.Crc.{after, crc, alike, right}
 use Rattle.packet.specs.Packet.{apart}
-use Rattle.judging.specs.Judging.{noteBy}
-use Rattle.pairs.specs.Pairs.{pairFails, framesOf, allFrames}
+use Rattle.bad_pairs.specs.BadPairs.{noteBy}
+use Rattle.notes.specs.Notes.{pairFails, framesOf, allFrames}
 use Rattle.header.specs.Reading.{reading}
 use Rattle.header.specs.Reading.Examples as H
 use Rattle.link.specs.Link.{headerRead, unpacked, unpacking}

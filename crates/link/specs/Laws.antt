@@ -11,8 +11,8 @@ use Rattle.bits.specs.Bits.{bits, octets}
 use Rattle.carrier.specs.Carrier.{streamPacket}
 use Rattle.packet.specs.Packet.{stream}
 use Rattle.refusals.specs.Refusals.{success, noRoom, readingNumber, readingPlace}
-use Rattle.pairs.specs.Pairs.{allFrames, crcNotes}
-use Rattle.pairs.specs.Laws.{over-all}
+use Rattle.notes.specs.Notes.{allFrames, crcNotes}
+use Rattle.notes.specs.Laws.{over-all}
 use Rattle.reader.specs.Reading.{Outcome, outcome}
 use Rattle.reader.specs.declared.Summary.{Summary}
 use Rattle.refusals.specs.declared.Reading.{Reading as Refusal}

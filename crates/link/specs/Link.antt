@@ -12,7 +12,7 @@ use Rattle.settings.specs.Settings.{settings}
 use Rattle.bits.specs.Bits.{bits, octets}
 use Rattle.carrier.specs.Carrier.{streamPacket}
 use Rattle.packet.specs.Packet.{stream}
-use Rattle.pairs.specs.Pairs.{allFrames, crcNotes}
+use Rattle.notes.specs.Notes.{allFrames, crcNotes}
 use Rattle.header.specs.declared.Header.{Header}
 use Rattle.header.specs.declared.Header.the-variants.{Codeword, Lost}
 use Rattle.refusals.specs.Refusals.{success, noRoom, readingNumber, readingPlace}

@@ -82,8 +82,8 @@ pub extern "C" fn dsr_unpack(stream: &[u8], indices: &mut [u8], notes: &mut [u8]
     if notes.len() != MultiframeLayout::PAIRS {
         return 0;
     }
-    pairs::take_stream_apart(stream, indices, Pair(0));
-    pairs::note_stream(stream, notes, Pair(0));
+    notes::take_stream_apart(stream, indices, Pair(0));
+    notes::note_stream(stream, notes, Pair(0));
     1
 }
 

@@ -15,7 +15,7 @@ use Rattle.layout.specs.Layout.{frameIndices, pairFrames, multiframePairs, mult
 use Rattle.settings.specs.declared.Settings.{Settings}
 use Rattle.cutting.specs.Cutting.{cutting}
 use Rattle.carrier.specs.Carrier.{received, pairCount}
-use Rattle.pairs.specs.Laws.{length-notes}
+use Rattle.notes.specs.Laws.{length-notes}
 use Rattle.reader.specs.Reading.{indexPart, reportPart, Outcome, outcome, reading, receivedNotes}
 use Rattle.reader.specs.ReadingLaws.{length-index, length-report}
 use Rattle.reader.specs.declared.Summary.{Summary}

@@ -10,7 +10,7 @@ use lib.Bits.{bitAnd, bitOr, bitXor}
 use lib.Count.{ones, onesIn}
 use lib.Dec.{lit<}
 use lib.ListN.{getD}
-use Rattle.gf2.specs.Light.{ones-in}
+use Rattle.polynomials.specs.Light.{ones-in}
 use Rattle.layout.specs.Layout.{headerOctets, streamOctets, firstPair, multiframePairs}
 use Rattle.settings.specs.Settings.{settings}
 use Rattle.bits.specs.Bits.{numbers, value, field, octets}

@@ -11,7 +11,7 @@ use lib.Dec.{eqb, lit<, lit≤}
 use lib.IntN.{ℤ, pos}
 use lib.ListN.{length, take, drop, getD, replicate, getD-replicate}
 use borrow.Author.Tests.{eq-eqb, ne-eqb}
-use Rattle.gf2.specs.Light.{ones-in}
+use Rattle.polynomials.specs.Light.{ones-in}
 use Rattle.lists.specs.Tests.{when}
 use Rattle.lists.specs.Parts.{part, over}
 use Rattle.lists.specs.Rows.{joined, each, each-at, same-each}
@@ -35,9 +35,9 @@ use Rattle.settling.specs.Laws.{all-agree, note-lost}
 use Rattle.settling.specs.declared.Settlement.the-variants as S
 use Rattle.consistency.specs.Consistency.{flagged, flags, inconsistent}
 use Rattle.carrier.specs.Carrier.{received, pairCount}
-use Rattle.pairs.specs.Pairs.{pairFails, framesOf, allFrames, pairInconsistent, pairNotes}
-use Rattle.pairs.specs.Laws.{length-notes, no-failed-crc}
-use Rattle.judging.specs.Judging.{noteBy, notes, badPairs}
+use Rattle.notes.specs.Notes.{pairFails, framesOf, allFrames, pairInconsistent, pairNotes}
+use Rattle.notes.specs.Laws.{length-notes, no-failed-crc}
+use Rattle.bad_pairs.specs.BadPairs.{noteBy, notes, badPairs}
 use Rattle.replacing.specs.Replacing.{runStart, leading, sourceBy, source, replaced}
 use Rattle.replacing.specs.Speech.{lastNonzero, speechOf, endOf}
 use Rattle.reader.specs.Reading.{answerNumber, answerValues, summary, indexPart, reportPart, Outcome, outcome, finished, reading, receivedFrames, receivedNotes}

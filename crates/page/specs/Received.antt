@@ -13,7 +13,7 @@ use lib.IntN.{ℤ}
 use lib.ListN.{length, drop, getD, replicate, List·getD-append, length-append, length-drop}
 use lib.Seq.{drop-at, getD-take, getD-drop}
 use borrow.Author.Tests.{eq-eqb, ne-eqb, lt-ltb, le-ltb}
-use Rattle.gf2.specs.Light.{ones-in}
+use Rattle.polynomials.specs.Light.{ones-in}
 use Rattle.lists.specs.Parts.{part}
 use Rattle.lists.specs.Rows.{joined, each, length-each, each-at, same-each, length-joined, joined-part}
 use Rattle.layout.specs.Layout.{multiframeOctets, mostMultiframes, indexOctets, reportOctets, syncFirst, syncSecond}
@@ -37,8 +37,8 @@ use Rattle.settling.specs.Laws.{only-clean, only-mended, all-agree}
 use Rattle.carrier.specs.Carrier.{received, pairCount}
 use Rattle.settling.specs.declared.Settlement.{Settlement}
 use Rattle.settling.specs.declared.Settlement.the-variants as S
-use Rattle.pairs.specs.Pairs.{pairFails, pairNotes, pairInconsistent}
-use Rattle.judging.specs.Judging.{noteBy, notes, badPairs}
+use Rattle.notes.specs.Notes.{pairFails, pairNotes, pairInconsistent}
+use Rattle.bad_pairs.specs.BadPairs.{noteBy, notes, badPairs}
 use Rattle.reader.specs.Reading.{answerNumber, answerValues, roomVerdict, settledVerdict, wholeVerdict, Outcome, outcome, finished, reading, receivedNotes}
 use Rattle.reader.specs.ReadingLaws.{Usable}
 use Rattle.reader.specs.Steps.{wrong-codebook, wrong-thresholds, not-cut, whole-reading}

@@ -13,7 +13,7 @@ use lib.Count.{onesIn}
 use lib.Count as Count
 use lib.Dec.{ltb, lit<, lit≤}
 use lib.ListN.{length, getD, replicate, length-replicate, getD-replicate}
-use Rattle.gf2.specs.Light.{ones-in}
+use Rattle.polynomials.specs.Light.{ones-in}
 use Rattle.lists.specs.Tests.{when, true-false}
 use Rattle.lists.specs.Parts.{part}
 use Rattle.layout.specs.Layout.{packetBits, frameIndices, firstFrame, secondFrame, firstPair, multiframePairs, multiframeFrames, multiframeOctets, mostFrames}

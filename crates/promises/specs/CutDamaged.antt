@@ -18,9 +18,9 @@ use Rattle.packet.specs.Packet.{packetOf}
 use Rattle.packet.specs.Laws.{packetOf-good}
 use Rattle.cutting.specs.Cutting.{Cutting, cutting}
 use Rattle.carrier.specs.Carrier.{received, pairCount}
-use Rattle.pairs.specs.Pairs.{pairFails, framesOf, pairInconsistent}
-use Rattle.pairs.specs.Laws.{length-notes, length-all}
-use Rattle.judging.specs.Laws.{Good}
+use Rattle.notes.specs.Notes.{pairFails, framesOf, pairInconsistent}
+use Rattle.notes.specs.Laws.{length-notes, length-all}
+use Rattle.bad_pairs.specs.Laws.{Good}
 use Rattle.replacing.specs.Replacing.{replaced}
 use Rattle.replacing.specs.Laws.{good-kept, Run, at-the-end, frame-replaced}
 use Rattle.replacing.specs.Speech.{endOf}

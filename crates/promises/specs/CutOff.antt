@@ -35,10 +35,10 @@ use Rattle.header.specs.declared.Header.the-variants.{Codeword, Lost}
 use Rattle.settling.specs.Settling.{readings, headerNote}
 use Rattle.settling.specs.Laws.{clean-note}
 use Rattle.carrier.specs.Carrier.{received, pairCount}
-use Rattle.pairs.specs.Pairs.{pairFails}
-use Rattle.pairs.specs.Laws.{length-notes, length-all, no-failed-crc}
-use Rattle.judging.specs.Judging.{badPairs}
-use Rattle.judging.specs.Laws.{Good}
+use Rattle.notes.specs.Notes.{pairFails}
+use Rattle.notes.specs.Laws.{length-notes, length-all, no-failed-crc}
+use Rattle.bad_pairs.specs.BadPairs.{badPairs}
+use Rattle.bad_pairs.specs.Laws.{Good}
 use Rattle.replacing.specs.Speech.{speechOf, endOf, place-stop}
 use Rattle.reader.specs.Reading.{indexPart, reportPart, summary, Outcome, outcome, reading, receivedFrames, receivedNotes}
 use Rattle.reader.specs.ReadingLaws.{Accepted}

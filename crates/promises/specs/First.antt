@@ -29,10 +29,10 @@ use Rattle.settling.specs.Settling.{readings, settling}
 use Rattle.settling.specs.Laws.{AllHave, all-agree, only-clean}
 use Rattle.carrier.specs.Carrier.{streamPacket, received, pairCount}
 use Rattle.settling.specs.declared.Settlement.the-variants.{Settled}
-use Rattle.pairs.specs.Pairs.{pairFails, framesOf, pairNotes, pairInconsistent}
-use Rattle.pairs.specs.Laws.{length-notes, length-all, frames-at}
-use Rattle.judging.specs.Judging.{noteBy, notes}
-use Rattle.judging.specs.Laws.{failed-is-1, consistent-is-good, badBefore, note-at, Good, none-good}
+use Rattle.notes.specs.Notes.{pairFails, framesOf, pairNotes, pairInconsistent}
+use Rattle.notes.specs.Laws.{length-notes, length-all, frames-at}
+use Rattle.bad_pairs.specs.BadPairs.{noteBy, notes}
+use Rattle.bad_pairs.specs.Laws.{failed-is-1, consistent-is-good, badBefore, note-at, Good, none-good}
 use Rattle.reader.specs.Reading.{indexPart, reportPart, summary, outcome, reading, receivedFrames, receivedNotes}
 use Rattle.reader.specs.declared.Answer.the-variants.{Read}
 use Rattle.writer.specs.Writing.{needed}

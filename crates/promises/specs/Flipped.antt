@@ -15,8 +15,8 @@ use lib.Dec.{eqb, lit<}
 use lib.IntN.{ℤ}
 use lib.ListN.{length, getD, take, drop}
 use borrow.Author.Tests.{eq-eqb, ne-eqb, le-ltb}
-use Rattle.gf2.specs.Light.{ones-in}
-use Rattle.gf2.specs.Xor.{xor-swap}
+use Rattle.polynomials.specs.Light.{ones-in}
+use Rattle.polynomials.specs.Xor.{xor-swap}
 use Rattle.lists.specs.Tests.{when, by-test, true-false}
 use Rattle.lists.specs.Parts.{over}
 use Rattle.lists.specs.Rows.{each, length-each, each-at, joined, length-joined, joined-part, same-joined}
@@ -41,10 +41,10 @@ use Rattle.settling.specs.Laws.{Has, read-has}
 use Rattle.settling.specs.declared.Settlement.the-variants.{Settled}
 use Rattle.cutting.specs.Laws.{every-length}
 use Rattle.carrier.specs.Carrier.{streamPacket, received, pairCount}
-use Rattle.pairs.specs.Pairs.{pairFails, framesOf, pairInconsistent, pairNotes}
-use Rattle.pairs.specs.Laws.{length-notes}
-use Rattle.judging.specs.Judging.{noteBy, notes}
-use Rattle.judging.specs.Laws.{Good, none-good, badBefore, note-at, consistent-is-good}
+use Rattle.notes.specs.Notes.{pairFails, framesOf, pairInconsistent, pairNotes}
+use Rattle.notes.specs.Laws.{length-notes}
+use Rattle.bad_pairs.specs.BadPairs.{noteBy, notes}
+use Rattle.bad_pairs.specs.Laws.{Good, none-good, badBefore, note-at, consistent-is-good}
 use Rattle.reader.specs.Reading.{indexPart, reportPart, summary, Outcome, outcome, reading, receivedNotes}
 use Rattle.reader.specs.ReadingLaws.{Usable}
 use Rattle.reader.specs.declared.Answer.the-variants.{Read}

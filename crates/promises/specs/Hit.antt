@@ -12,7 +12,7 @@ use lib.Count.{ones, onesIn}
 use lib.Dec.{eqb, lit<}
 use lib.ListN.{length}
 use borrow.Author.Tests.{eq-eqb, ne-eqb}
-use Rattle.gf2.specs.Light.{ones-in}
+use Rattle.polynomials.specs.Light.{ones-in}
 use Rattle.lists.specs.Tests.{when}
 use Rattle.lists.specs.Rows.{joined, length-joined, joined-part}
 use Rattle.layout.specs.Layout.{packetBits, streamOctets, multiframePairs, firstPair, multiframeOf}

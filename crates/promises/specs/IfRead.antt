@@ -17,9 +17,9 @@ use Rattle.cutting.specs.Laws.{every-length}
 use Rattle.settling.specs.Settling.{readings, settling}
 use Rattle.carrier.specs.Carrier.{received, pairCount}
 use Rattle.settling.specs.declared.Settlement.the-variants.{Settled}
-use Rattle.pairs.specs.Laws.{length-notes}
-use Rattle.judging.specs.Judging.{bad, badPairs}
-use Rattle.judging.specs.Laws.{few-bad, Good, some-good}
+use Rattle.notes.specs.Laws.{length-notes}
+use Rattle.bad_pairs.specs.BadPairs.{bad, badPairs}
+use Rattle.bad_pairs.specs.Laws.{few-bad, Good, some-good}
 use Rattle.reader.specs.Reading.{Outcome, outcome, reading, receivedNotes}
 use Rattle.reader.specs.declared.Summary.{Summary}
 use Rattle.reader.specs.declared.Answer.the-variants.{Read}

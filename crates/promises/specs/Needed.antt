@@ -15,8 +15,8 @@ use lib.IntN.{ℤ}
 use borrow.Author.Tests.{eq-eqb, ne-eqb, le-leb, lt-leb}
 use lib.ListN.{length, getD, drop, replicate, length-append}
 use lib.Seq.{getD-take}
-use Rattle.gf2.specs.Light.{ones-in}
-use Rattle.gf2.specs.Xor.{xor-twice}
+use Rattle.polynomials.specs.Light.{ones-in}
+use Rattle.polynomials.specs.Xor.{xor-twice}
 use Rattle.lists.specs.Tests.{when, by-test, true-false}
 use Rattle.lists.specs.Parts.{part, part-left, part-right}
 use Rattle.lists.specs.Rows.{each}
@@ -40,9 +40,9 @@ use Rattle.settling.specs.Settling.{readings, settling, firstAgreeing, onlyOne}
 use Rattle.settling.specs.Laws.{only-clean}
 use Rattle.carrier.specs.Carrier.{received, pairCount}
 use Rattle.settling.specs.declared.Settlement.the-variants as Set
-use Rattle.pairs.specs.Laws.{length-notes, length-all}
-use Rattle.judging.specs.Judging.{badPairs}
-use Rattle.judging.specs.Laws.{Good, none-good}
+use Rattle.notes.specs.Laws.{length-notes, length-all}
+use Rattle.bad_pairs.specs.BadPairs.{badPairs}
+use Rattle.bad_pairs.specs.Laws.{Good, none-good}
 use Rattle.replacing.specs.Replacing.{frameBefore, frameAfter, source}
 use Rattle.replacing.specs.Laws.{Run, at-the-end, first-half, second-half, frame-replaced}
 use Rattle.replacing.specs.Speech.{lastNonzero, speechOf, endOf, place-le, zero-behind, nonzero-at, place-stop}

@@ -10,7 +10,7 @@ use native.Mathlib.Decide.{ℕ-discrete, decLt}
 use native.Mathlib.Omega.{arith}
 use lib.IntN.{ℤ}
 use Rattle.lists.specs.Tests.{true-false}
-use Rattle.judging.specs.Judging.{bad}
+use Rattle.bad_pairs.specs.BadPairs.{bad}
 use Rattle.reader.specs.Reading.{outcome, reading}
 use Rattle.reader.specs.declared.Summary.{Summary}
 use Rattle.refusals.specs.declared.Reading.the-variants.{AllBad}

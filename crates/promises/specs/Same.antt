@@ -24,8 +24,8 @@ use Rattle.header.specs.declared.Header.{Header}
 use Rattle.header.specs.declared.Header.the-variants.{Lost}
 use Rattle.settling.specs.Settling.{readings, settling, headerNote}
 use Rattle.carrier.specs.Carrier.{streamPacket, wordAt, streamAt, inPlaces, received, pairCount}
-use Rattle.pairs.specs.Pairs.{pairFails, framesOf, allFrames, pairInconsistent, pairNotes}
-use Rattle.judging.specs.Judging.{notes, badPairs}
+use Rattle.notes.specs.Notes.{pairFails, framesOf, allFrames, pairInconsistent, pairNotes}
+use Rattle.bad_pairs.specs.BadPairs.{notes, badPairs}
 use Rattle.replacing.specs.Replacing.{replaced}
 use Rattle.replacing.specs.Speech.{speechOf, endOf}
 use Rattle.reader.specs.Reading.{reportPart, settledVerdict, wholeVerdict, verdict, finished, Outcome, outcome, reading, receivedFrames, receivedNotes}

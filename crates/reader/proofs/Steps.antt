@@ -25,10 +25,10 @@ use Rattle.settling.specs.declared.Settlement.{Settlement}
 use Rattle.settling.specs.Stored.{opened, openAll, packAll, packed, Mended, mended, opened-packed, stored-back}
 use Rattle.carrier.specs.Carrier.{wordAt, inPlaces, received, pairCount}
 use Rattle.settling.specs.declared.Settlement.the-variants as S
-use Rattle.pairs.specs.Laws.{length-all, length-notes, over-all}
+use Rattle.notes.specs.Laws.{length-all, length-notes, over-all}
 use borrow.Author.Tests.{eq-eqb, ne-eqb}
-use Rattle.judging.specs.Judging.{badPairs}
-use Rattle.judging.specs.Laws.{Good, some-good, few-bad}
+use Rattle.bad_pairs.specs.BadPairs.{badPairs}
+use Rattle.bad_pairs.specs.Laws.{Good, some-good, few-bad}
 use Rattle.cutting.specs.Cutting.{Ending, whole, refused, Cutting, answeredBy, answered, laid}
 use Rattle.cutting.specs.declared.Cut.the-variants as C
 use Rattle.replacing.specs.Replacing.{pairsOctets, replaced}

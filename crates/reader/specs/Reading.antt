@@ -19,8 +19,8 @@ use Rattle.settling.specs.Settling.{readings, settling, headerNote}
 use Rattle.carrier.specs.Carrier.{received, pairCount}
 use Rattle.settling.specs.declared.Settlement.{Settlement}
 use Rattle.settling.specs.declared.Settlement.the-variants as S
-use Rattle.pairs.specs.Pairs.{allFrames, pairNotes}
-use Rattle.judging.specs.Judging.{badPairs}
+use Rattle.notes.specs.Notes.{allFrames, pairNotes}
+use Rattle.bad_pairs.specs.BadPairs.{badPairs}
 use Rattle.replacing.specs.Replacing.{replaced}
 use Rattle.replacing.specs.Speech.{speechOf, endOf}
 use Rattle.reader.specs.declared.Summary.{Summary}

@@ -20,7 +20,7 @@ use Rattle.settling.specs.Settling.{readings, settling, headerNote}
 use Rattle.carrier.specs.Carrier.{pairCount}
 use Rattle.settling.specs.declared.Settlement.{Settlement}
 use Rattle.settling.specs.declared.Settlement.the-variants as S
-use Rattle.judging.specs.Judging.{badPairs}
+use Rattle.bad_pairs.specs.BadPairs.{badPairs}
 use Rattle.replacing.specs.Replacing.{pairsOctets}
 use Rattle.replacing.specs.Laws.{replaced-length}
 use Rattle.reader.specs.Reading.{indexPart, reportPart, summary, roomVerdict, settledVerdict, wholeVerdict, endVerdict, verdict, finished, outcome, endReading, reading, receivedFrames, receivedNotes}

@@ -23,7 +23,7 @@ use Rattle.settling.specs.Settling.{readings, settling}
 use Rattle.settling.specs.declared.Settlement.{Settlement}
 use Rattle.settling.specs.declared.Settlement.the-variants as S
 use Rattle.carrier.specs.Carrier.{pairCount}
-use Rattle.judging.specs.Judging.{badPairs}
+use Rattle.bad_pairs.specs.BadPairs.{badPairs}
 use Rattle.reader.specs.Reading.{roomVerdict, settledVerdict, wholeVerdict, endVerdict, verdict, finished, reading, receivedNotes}
 use Rattle.reader.specs.ReadingLaws.{Usable}
 use Rattle.reader.specs.declared.Summary.{Summary}

@@ -16,7 +16,7 @@ ghost use Rattle.layout.specs.Layout.{multiframePairs, mostMultiframes, indexOc
 ghost use Rattle.cutting.specs.Laws.{Placed};
 ghost use Rattle.settling.specs.Stored.{packAll, Mended, opened};
 ghost use Rattle.carrier.specs.Carrier.{pairCount};
-ghost use Rattle.judging.specs.Laws.{Good};
+ghost use Rattle.bad_pairs.specs.Laws.{Good};
 ghost use Rattle.reader.specs.Reading.{answerNumber, answerValues, indexPart, reportPart, summary, wholeVerdict, outcome, readingFound, reading, receivedNotes};
 ghost use Rattle.reader.specs.Steps.{earlyVerdict, Kept, section, sections};
 
@@ -103,9 +103,9 @@ fn decide(
     if let Verdict::Refuse(r) = early(common, places.len(), index, report) {
         return Verdict::Refuse(r);
     }
-    pairs::note_crcs(octets, places, notes);
-    pairs::judge(octets, places, codebook, thresholds, notes);
-    if judging::bad_pairs(notes) == notes.len() {
+    notes::note_crcs(octets, places, notes);
+    notes::judge(octets, places, codebook, thresholds, notes);
+    if bad_pairs::count_bad(notes) == notes.len() {
         return Verdict::Refuse(Reading::AllBad);
     }
     Verdict::Accept { common }
@@ -164,7 +164,7 @@ fn write(
     ensures index { λ _. ⌜ now (index .exit) ≡ over (now (index .entry)) 0 (indexOctets * length (now (places .entry))) (indexPart (now (octets .entry)) (now (places .entry)) (now (notes .entry))) ⌝ }
     ensures report { λ _. ⌜ now (report .exit) ≡ over (now (report .entry)) 0 (reportOctets * length (now (places .entry))) (reportPart (now (octets .entry)) (now (places .entry)) (now (notes .entry)) common) ⌝ }
 {
-    pairs::take_all_apart(octets, places, index);
+    notes::take_all_apart(octets, places, index);
     replacing::replace(notes, index);
     put_report(headers, notes, common, report);
     let m = places.len();
@@ -174,7 +174,7 @@ fn write(
         settings,
         multiframes: m,
         speech: replacing::speech_of(index, m),
-        bad: judging::bad_pairs(notes),
+        bad: bad_pairs::count_bad(notes),
         end: replacing::end_of(index, m),
     }
 }

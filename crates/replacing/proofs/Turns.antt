@@ -14,7 +14,7 @@ use native.Mathlib.Omega.{arith}
 use borrow.Author.Tests.{eq-eqb, ne-eqb, lt-ltb, le-ltb}
 use Rattle.lists.specs.Parts.{over, length-over, over-in, over-behind}
 use Rattle.layout.specs.Layout.{frameIndices, pairOf, firstFrame}
-use Rattle.judging.specs.Laws.{Good}
+use Rattle.bad_pairs.specs.Laws.{Good}
 use Rattle.replacing.specs.Replacing.{runStart, runEnd, middleFrame, sourceBy, source, taken, pairsOctets, replaced}
 use Rattle.replacing.specs.Laws.{Run, run-of, in-run, good-stays, good-source, run-stop, replaced-at, replaced-length}
 use Rattle.replacing.specs.Steps.{Changed, Spread, Filled}

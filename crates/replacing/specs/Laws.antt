@@ -16,7 +16,7 @@ use Rattle.lists.specs.Tests.{when, by-test}
 use Rattle.lists.specs.Parts.{part, length-part}
 use Rattle.lists.specs.Rows.{each, length-each, each-at, same-each}
 use Rattle.layout.specs.Layout.{frameIndices, pairOf, firstFrame}
-use Rattle.judging.specs.Laws.{Good}
+use Rattle.bad_pairs.specs.Laws.{Good}
 use Rattle.replacing.specs.Replacing.{runStart, leading, runEnd, frameBefore, frameAfter, middleFrame, sourceBy, source, taken, pairsOctets, replaced}
 
 -- ---- where a run begins and ends

@@ -1,5 +1,5 @@
 // Replacing the frames of bad pairs by the good frames around them, and what the frames then say of the end of speech.
-use judging::GOOD;
+use bad_pairs::GOOD;
 use layout::Frame;
 use layout::FrameLayout;
 use layout::Multiframe;
@@ -11,7 +11,7 @@ ghost use lib.ListN.{length};
 ghost use Rattle.lists.specs.Parts.{over};
 ghost use Rattle.layout.specs.Layout.{frameIndices, indexOctets, mostMultiframes, secondFrame};
 ghost use Rattle.replacing.specs.Replacing.{runEnd, middleFrame, pairsOctets, replaced};
-ghost use Rattle.judging.specs.Laws.{Good};
+ghost use Rattle.bad_pairs.specs.Laws.{Good};
 ghost use Rattle.replacing.specs.Steps.{Spread, Filled};
 ghost use Rattle.replacing.specs.Speech.{speechOf, endOf};
 

@@ -13,7 +13,7 @@ use lib.Dec.{leb}
 use lib.Pow.{pow-pos}
 use borrow.Author.Tests.{leb-true, leb-false, eqb-true, eqb-false}
 use Rattle.lists.specs.Tests.{when, by-test, true-false}
-use Rattle.gf2.specs.Xor.{xor-twice}
+use Rattle.polynomials.specs.Xor.{xor-twice}
 use Rattle.header_code.specs.Code.{codeword, isCodeword, flipsTo}
 use Rattle.header_code.specs.Code.Distance.{codeword-low, far-from-one, nearest, no-flips, itself-near}
 use Rattle.header.specs.Reading.{mendable, decodedAs, ReadUpTo, ReadAs, within, readingUpTo, reading}

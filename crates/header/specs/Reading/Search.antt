@@ -10,7 +10,7 @@ use lib.Bits.{bitXor, xor-lt, xor-self, xor-comm, xor-shifted, xor-zero-r}
 use lib.Count.{ones, onesIn, ones-step, ones-cat, ones-le}
 use lib.Dec.{lit<}
 use lib.Pow.{pow-pos, pow-lt}
-use Rattle.gf2.specs.Xor.{digit, low, xor-shl, xor-assoc, xor-twice, ones-xor-le}
+use Rattle.polynomials.specs.Xor.{digit, low, xor-shl, xor-assoc, xor-twice, ones-xor-le}
 use Rattle.header_code.specs.Code.{codeword, flipsTo, syndrome}
 use Rattle.header_code.specs.Code.Distance.{codeword-lt}
 use Rattle.header_code.specs.Code.Syndrome.{syndrome-xor, syndrome-zero, syndrome-codeword, codeword-of}

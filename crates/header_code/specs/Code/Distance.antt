@@ -10,9 +10,9 @@ use lib.Arith.{bin-ind}
 use lib.Bits.{bitXor, xor-block, xor-lt, xor-self}
 use lib.Count.{ones, onesIn, ones-cat, ones-le, ones-step}
 use lib.Dec.{T, leb, leb→le, lit<}
-use Rattle.gf2.specs.Gf2.{remainder}
-use Rattle.gf2.specs.Xor.{digit, low, xor-twice, between, ones-xor, ones-xor-le}
-use Rattle.gf2.specs.Light.{light, light-holds, ones-in}
+use Rattle.polynomials.specs.Polynomials.{remainder}
+use Rattle.polynomials.specs.Xor.{digit, low, xor-twice, between, ones-xor, ones-xor-le}
+use Rattle.polynomials.specs.Light.{light, light-holds, ones-in}
 use Rattle.header_code.specs.Code.{parity, front, codeword, flipsTo}
 use Rattle.header_code.specs.Code.Parity.{parity-lt, parity-xor}
 

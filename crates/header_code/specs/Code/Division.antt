@@ -6,7 +6,7 @@ use native.Mathlib.Nat.{mod-eq-of-lt}
 use native.Mathlib.Omega.{arith}
 use lib.Bits.{bitXor}
 use lib.Dec.{lit<}
-use Rattle.gf2.specs.Quotient.{product, product-more, quotient-remainder, quotient-lt, remainder-unique}
+use Rattle.polynomials.specs.Quotient.{product, product-more, quotient-remainder, quotient-lt, remainder-unique}
 use Rattle.header_code.specs.Code.{generator, parity}
 use Rattle.header_code.specs.Code.Parity.{parity-lt}
 

@@ -7,8 +7,8 @@ use lib.Bits.{bitXor}
 use lib.Count.{ones, onesIn}
 use lib.Dec.{lit<}
 use lib.ListN.{getD}
-use Rattle.gf2.specs.Gf2.{remainder}
-use Rattle.gf2.specs.Light.{ones-in}
+use Rattle.polynomials.specs.Polynomials.{remainder}
+use Rattle.polynomials.specs.Light.{ones-in}
 use Rattle.header_code.specs.Code.{parity, front, codeword, flipsTo}
 use Rattle.header_code.specs.Code.Distance.{front-lt}
 

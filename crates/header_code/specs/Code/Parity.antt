@@ -12,9 +12,9 @@ use lib.Dec.{eqb, eqb→eq}
 use lib.ListN.{getD}
 use lib.Pow.{pow-pos, mod-pow-add, shl-exact}
 use Rattle.lists.specs.Tests.{all-holds}
-use Rattle.gf2.specs.Gf2.{remainder}
-use Rattle.gf2.specs.Xor.{digit, low, xor-shl}
-use Rattle.gf2.specs.Division.{remainder-lt, remainder-xor}
+use Rattle.polynomials.specs.Polynomials.{remainder}
+use Rattle.polynomials.specs.Xor.{digit, low, xor-shl}
+use Rattle.polynomials.specs.Division.{remainder-lt, remainder-xor}
 use Rattle.header_code.specs.Code.{generator, parity, front, codeword}
 
 pub parity-lt : (m : ℕ) → parity m < 2 ^ 15

@@ -15,9 +15,9 @@ use lib.ListN.{getD, set, length, length-set}
 use lib.Seq.{getD-set-same, getD-set-other}
 use lib.Pow.{pow-pos, pow-lt, mod-pow-add, shl-exact}
 use Rattle.lists.specs.Tests.{both, both-left, both-right, all-holds}
-use Rattle.gf2.specs.Gf2.{remainder}
-use Rattle.gf2.specs.Xor.{digit, low, xor-swap, xor-twice, ones-xor}
-use Rattle.gf2.specs.Light.{ones-in}
+use Rattle.polynomials.specs.Polynomials.{remainder}
+use Rattle.polynomials.specs.Xor.{digit, low, xor-swap, xor-twice, ones-xor}
+use Rattle.polynomials.specs.Light.{ones-in}
 use Rattle.header_code.specs.Code.{parity, front, codeword, syndrome}
 use Rattle.header_code.specs.Code.Parity.{parity-lt, parity-xor, words}
 use Rattle.header_code.specs.Code.Distance.{codeword-even, codeword-low, codeword-lt, front-lt}

@@ -3,8 +3,8 @@
 use mathlib.Core.Path.{ap, _∙_}
 use lib.ListN.{length}
 use Rattle.carrier.specs.Carrier.{received, pairCount}
-use Rattle.judging.specs.Judging.{badPairs}
-use Rattle.pairs.specs.Laws.{length-notes}
+use Rattle.bad_pairs.specs.BadPairs.{badPairs}
+use Rattle.notes.specs.Laws.{length-notes}
 use Rattle.reader.proofs.Steps.{decided-empty, decided-unsettled, decided-settled, refused-early, all-bad, not-all-bad, all-stored}
 use borrow.Author.Needs.{needs}
 use Rattle.reader.proofs.decide.Statement.{statement}
@@ -77,8 +77,8 @@ note-crcs-requires c κs = search needs
 judge-requires : tie.Need-judge-requires
 judge-requires c κs = search needs
 
-bad-pairs-requires : tie.Need-bad-pairs-requires
-bad-pairs-requires c κs = search needs
+count-bad-requires : tie.Need-count-bad-requires
+count-bad-requires c κs = search needs
 
 same-length-3 : tie.Need-same-length-3
 same-length-3 c = search needs
@@ -100,8 +100,8 @@ returns-4 c =
     let a = st .args in (
       decided-settled (a .octets .now) (a .codebook .now) (a .thresholds .now) (a .index) (a .report) (a .places .now) (i .if1 .left) (h .read-headers .last .1 .1 .0)
           (all-stored (a .octets .now) (a .places .now) (a .headers .now) (h .read-headers .last .1 .1 .0) (st .pre .0 .3) (h .read-headers .ensures)) (s .settle .result) (s .settle .ensures) _ _ (k .common .given .1)
-          (all-bad (length (a .places .now)) _ (pairCount (a .places .now)) (a .index) (a .report) _ (e .early .result) (e .early .ensures) _ (b .bad-pairs .result) _ (t .enum-told2 .given .1)
-          (b .bad-pairs .ensures ∙ ap badPairs (j .judge .ensures))
+          (all-bad (length (a .places .now)) _ (pairCount (a .places .now)) (a .index) (a .report) _ (e .early .result) (e .early .ensures) _ (b .count-bad .result) _ (t .enum-told2 .given .1)
+          (b .count-bad .ensures ∙ ap badPairs (j .judge .ensures))
           (ap length (j .judge .ensures) ∙ length-notes (received (a .octets .now) (a .places .now)) (pairCount (a .places .now)) (a .codebook .now) (a .thresholds .now)) (c .if2 .taken)),
       (tt, tt),
     )
@@ -127,8 +127,8 @@ returns-5 c =
     let stored = all-stored (a .octets .now) (a .places .now) (a .headers .now) (h .read-headers .last .1 .1 .0) (st .pre .0 .3) (h .read-headers .ensures) in (
       decided-settled (a .octets .now) (a .codebook .now) (a .thresholds .now) (a .index) (a .report) (a .places .now) (i .if1 .left) (h .read-headers .last .1 .1 .0)
           stored (s .settle .result) (s .settle .ensures) _ _ (k .common .given .1)
-          (not-all-bad (length (a .places .now)) _ (pairCount (a .places .now)) (a .index) (a .report) _ (e .early .result) (e .early .ensures) _ (b .bad-pairs .result) _ (t .enum-told2 .given .1)
-          (b .bad-pairs .ensures ∙ ap badPairs (j .judge .ensures))
+          (not-all-bad (length (a .places .now)) _ (pairCount (a .places .now)) (a .index) (a .report) _ (e .early .result) (e .early .ensures) _ (b .count-bad .result) _ (t .enum-told2 .given .1)
+          (b .count-bad .ensures ∙ ap badPairs (j .judge .ensures))
           (ap length (j .judge .ensures) ∙ length-notes (received (a .octets .now) (a .places .now)) (pairCount (a .places .now)) (a .codebook .now) (a .thresholds .now)) (c .if2 .left)),
       (stored, j .judge .ensures),
     )
@@ -151,7 +151,7 @@ decide-spec =
     enum-told-2
     note-crcs-requires
     judge-requires
-    bad-pairs-requires
+    count-bad-requires
     same-length-3
     same-length-4
     returns-4

@@ -5,9 +5,9 @@ use mathlib.Core.Path.{_≡_, sym, ap, _∙_, subst}
 use native.Mathlib.Omega.{arith}
 use lib.ListN.{length, drop, replicate}
 use lib.Seq.{take-at, length-take-le}
-use Rattle.judging.specs.Laws.{Good}
+use Rattle.bad_pairs.specs.Laws.{Good}
 use Rattle.carrier.specs.Carrier.{received, pairCount}
-use Rattle.pairs.specs.Laws.{length-notes}
+use Rattle.notes.specs.Laws.{length-notes}
 use Rattle.reader.specs.Steps.{Kept}
 use Rattle.reader.proofs.Steps.{has-front, ready, finished-refused, finished-read}
 use borrow.Author.Needs.{needs}

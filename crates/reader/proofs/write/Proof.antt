@@ -33,8 +33,8 @@ fields-of-requires c κs = search needs
 speech-of-requires : tie.Need-speech-of-requires
 speech-of-requires c κs = search needs
 
-bad-pairs-requires : tie.Need-bad-pairs-requires
-bad-pairs-requires c κs = search needs
+count-bad-requires : tie.Need-count-bad-requires
+count-bad-requires c κs = search needs
 
 end-of-requires : tie.Need-end-of-requires
 end-of-requires c κs =
@@ -64,7 +64,7 @@ returns c =
     let stored = p .1 .0 .0 in
     let size = p .1 .0 .1 in
     let e = index-is (a .octets .now) (a .places .now) (a .notes .now) (a .index .now) (t .take-all-apart .last .1 .1 .0) (r .replace .last .1 .0) size (p .1 .1 .0) (t .take-all-apart .ensures) (p .1 .0 .2) (r .replace .ensures) in (
-      summary-is (a .octets .now) (a .places .now) (a .notes .now) (a .common) _ _ _ _ (a .index .now) (r .replace .last .1 .0) (p .0 .1) size e (f .fields-of .ensures .0) (s .speech-of .ensures) (b .bad-pairs .ensures) (c .end-of .ensures),
+      summary-is (a .octets .now) (a .places .now) (a .notes .now) (a .common) _ _ _ _ (a .index .now) (r .replace .last .1 .0) (p .0 .1) size e (f .fields-of .ensures .0) (s .speech-of .ensures) (b .count-bad .ensures) (c .end-of .ensures),
       (e, w .put-report .ensures ∙ ap₂ (λ (k : ℕ) (l : List ℕ). over (a .report .now) 0 (reportOctets * k) l) (stored-size (a .octets .now) (a .places .now) (a .headers .now) stored) (sections-are (a .octets .now) (a .places .now) (a .headers .now) stored (a .notes .now) (a .common))),
     )
 
@@ -77,7 +77,7 @@ write-spec =
     put-report-requires
     fields-of-requires
     speech-of-requires
-    bad-pairs-requires
+    count-bad-requires
     end-of-requires
     same-length
     same-length-2

@@ -1,0 +1,2 @@
+pub mod BadPairs
+pub mod Laws

@@ -1,0 +1,173 @@
+// The pairs of received multiframes, walked by multiframe and packet: every CRC tried once, the notes of all pairs, and all frames in order.
+use layout::FrameLayout;
+use layout::Multiframe;
+use layout::MultiframeLayout;
+use layout::PacketLayout;
+use layout::Pair;
+ghost use mathlib.Core.Path.{_≡_};
+ghost use mathlib.Core.Bool.{false};
+ghost use Prim.Native.Nat.{_+_, _*_, _≤_, _<_};
+ghost use lib.ListN.{length, getD};
+ghost use Rattle.lists.specs.Tests.{when};
+ghost use Rattle.lists.specs.Parts.{over};
+ghost use Rattle.layout.specs.Layout.{pairIndices, multiframePairs, streamOctets, indexOctets, multiframeOf, codebookNumbers, thresholdNumbers, mostMultiframes};
+ghost use Rattle.cutting.specs.Laws.{Placed};
+ghost use Rattle.bits.specs.Bits.{bits};
+ghost use Rattle.carrier.specs.Carrier.{streamAt, streamPacket, inPlaces, received, pairCount};
+ghost use Rattle.bad_pairs.specs.BadPairs.{bad};
+ghost use Rattle.notes.specs.Notes.{allFrames, crcNotes, pairInconsistent, pairNotes};
+
+// A pair's frames, in octets.
+const FRAMES: usize = PacketLayout::FRAMES * FrameLayout::INDICES;
+
+// note_stream puts the notes of the CRCs of a stream's twelve packets into notes, from pair first on; every other note stays.
+pub fn note_stream(stream: &[u8], notes: &mut [u8], first: Pair)
+    requires { ⌜ (streamOctets ≤ length (now stream)) × (first .0 + multiframePairs ≤ length (now notes)) ⌝ }
+    ensures { λ _. ⌜ now (notes .exit) ≡ over (now (notes .entry)) (first .0) multiframePairs (crcNotes (streamPacket (bits (now (stream .entry)))) multiframePairs) ⌝ }
+{
+    let from = first.0;
+    for p in 0..MultiframeLayout::PAIRS {
+        let right = packet::is_right(stream, Pair(p));
+        notes[from + p] = bad_pairs::note(false, !right, false, false);
+    }
+}
+
+// note_crcs puts the note of each pair's CRC into notes: every CRC is tried here, once. It asks, as those below, for places of whole
+// multiframes.
+pub fn note_crcs(octets: &[u8], places: &[usize], notes: &mut [u8])
+    requires { ⌜ Placed (now octets) (now places) × (length (now notes) ≡ pairCount (now places)) ⌝ }
+    ensures { λ _. ⌜ now (notes .exit) ≡ crcNotes (received (now (octets .entry)) (now (places .entry))) (pairCount (now (places .entry))) ⌝ }
+{
+    let mut k = 0;
+    while k < places.len() {
+        let first = Multiframe(k).first_pair();
+        note_stream(carrier::stream_at(octets, places[k]), notes, first);
+        k += 1;
+    }
+}
+
+// Whether the pair behind pair q failed by its CRC; the last has none behind it.
+fn next_failed(notes: &[u8], q: Pair) -> bool
+    requires { ⌜ q .0 < length (now notes) ⌝ }
+    ensures { λ r. ⌜ r ≡ bad (getD (now (notes .entry)) (q .0 + 1) 0) ⌝ }
+{
+    let next = q.0 + 1;
+    if next < notes.len() {
+        return bad_pairs::is_bad(notes[next]);
+    }
+    false
+}
+
+// The stream that pair q's packet stands in.
+fn stream_of<'a>(octets: &'a [u8], places: &[usize], q: Pair) -> &'a [u8]
+    requires { ⌜ Placed (now octets) (now places) × (q .0 < pairCount (now places)) ⌝ }
+    ensures { λ r. ⌜ now r ≡ streamAt (now (octets .entry)) (inPlaces (now (places .entry))) (multiframeOf (q .0)) ⌝ }
+{
+    let k = q.multiframe().0;
+    carrier::stream_at(octets, places[k])
+}
+
+// Whether pair q is inconsistent.
+fn is_inconsistent(
+    octets: &[u8],
+    places: &[usize],
+    codebook: &[i32],
+    thresholds: &[i32],
+    q: Pair,
+) -> bool
+    requires { ⌜ Placed (now octets) (now places) × (q .0 < pairCount (now places)) ⌝ }
+    requires { ⌜ (length (now codebook) ≡ codebookNumbers) × (length (now thresholds) ≡ thresholdNumbers) ⌝ }
+    ensures { λ r. ⌜ r ≡ pairInconsistent (received (now (octets .entry)) (now (places .entry))) (now (codebook .entry)) (now (thresholds .entry)) (q .0) ⌝ }
+{
+    let mut frames = [0u8; FRAMES];
+    packet::take_apart(stream_of(octets, places, q), q, &mut frames, 0);
+    consistency::is_inconsistent(codebook, thresholds, &frames, 0, FrameLayout::INDICES)
+}
+
+// The same, where it matters; elsewhere no pair is taken apart.
+fn is_inconsistent_if(
+    asked: bool,
+    octets: &[u8],
+    places: &[usize],
+    codebook: &[i32],
+    thresholds: &[i32],
+    q: Pair,
+) -> bool
+    requires { ⌜ Placed (now octets) (now places) × (q .0 < pairCount (now places)) ⌝ }
+    requires { ⌜ (length (now codebook) ≡ codebookNumbers) × (length (now thresholds) ≡ thresholdNumbers) ⌝ }
+    ensures { λ r. ⌜ r ≡ when asked (pairInconsistent (received (now (octets .entry)) (now (places .entry))) (now (codebook .entry)) (now (thresholds .entry)) (q .0)) false ⌝ }
+{
+    if asked {
+        return is_inconsistent(octets, places, codebook, thresholds, q);
+    }
+    false
+}
+
+// Every pair is judged, in place, from the first on: a pair's note stands before the next pair is judged, and the CRC's note of the pair
+// behind it still does.
+fn judge_each(
+    octets: &[u8],
+    places: &[usize],
+    codebook: &[i32],
+    thresholds: &[i32],
+    notes: &mut [u8],
+)
+    requires { ⌜ Placed (now octets) (now places) × (now notes ≡ crcNotes (received (now octets) (now places)) (pairCount (now places))) ⌝ }
+    requires { ⌜ (length (now codebook) ≡ codebookNumbers) × (length (now thresholds) ≡ thresholdNumbers) ⌝ }
+    ensures { λ _. ⌜ now (notes .exit) ≡ pairNotes (received (now (octets .entry)) (now (places .entry))) (pairCount (now (places .entry))) (now (codebook .entry)) (now (thresholds .entry)) ⌝ }
+{
+    let mut before = false;
+    let mut q = 0;
+    while q < notes.len() {
+        let failed = bad_pairs::is_bad(notes[q]);
+        let after = next_failed(notes, Pair(q));
+        let asked = bad_pairs::undecided(before, failed, after);
+        let inconsistent = is_inconsistent_if(asked, octets, places, codebook, thresholds, Pair(q));
+        let note = bad_pairs::note(before, failed, inconsistent, after);
+        notes[q] = note;
+        before = bad_pairs::is_bad(note);
+        q += 1;
+    }
+}
+
+// judge turns the notes of the CRCs into the notes of the pairs. Where no CRC failed they are the same, and no pair is judged.
+pub fn judge(
+    octets: &[u8],
+    places: &[usize],
+    codebook: &[i32],
+    thresholds: &[i32],
+    notes: &mut [u8],
+)
+    requires { ⌜ Placed (now octets) (now places) × (now notes ≡ crcNotes (received (now octets) (now places)) (pairCount (now places))) ⌝ }
+    requires { ⌜ (length (now codebook) ≡ codebookNumbers) × (length (now thresholds) ≡ thresholdNumbers) ⌝ }
+    ensures { λ _. ⌜ now (notes .exit) ≡ pairNotes (received (now (octets .entry)) (now (places .entry))) (pairCount (now (places .entry))) (now (codebook .entry)) (now (thresholds .entry)) ⌝ }
+{
+    if bad_pairs::count_bad(notes) != 0 {
+        judge_each(octets, places, codebook, thresholds, notes);
+    }
+}
+
+// take_stream_apart puts the frames of a stream's twelve packets into idx, from the place of pair first on; every other octet stays.
+pub fn take_stream_apart(stream: &[u8], idx: &mut [u8], first: Pair)
+    requires { ⌜ (streamOctets ≤ length (now stream)) × (pairIndices * (first .0 + multiframePairs) ≤ length (now idx)) ⌝ }
+    ensures { λ _. ⌜ now (idx .exit) ≡ over (now (idx .entry)) (pairIndices * first .0) indexOctets (allFrames (streamPacket (bits (now (stream .entry)))) multiframePairs) ⌝ }
+{
+    let from = FRAMES * first.0;
+    for p in 0..MultiframeLayout::PAIRS {
+        packet::take_apart(stream, Pair(p), idx, from + FRAMES * p);
+    }
+}
+
+// take_all_apart puts the frames of all pairs in order to the front of idx, seven octets each; the rest of idx stays.
+pub fn take_all_apart(octets: &[u8], places: &[usize], idx: &mut [u8])
+    requires { ⌜ Placed (now octets) (now places) × (length (now places) ≤ mostMultiframes) ⌝ }
+    requires { ⌜ pairIndices * pairCount (now places) ≤ length (now idx) ⌝ }
+    ensures { λ _. ⌜ now (idx .exit) ≡ over (now (idx .entry)) 0 (pairIndices * pairCount (now (places .entry))) (allFrames (received (now (octets .entry)) (now (places .entry))) (pairCount (now (places .entry)))) ⌝ }
+{
+    let mut k = 0;
+    while k < places.len() {
+        let first = Multiframe(k).first_pair();
+        take_stream_apart(carrier::stream_at(octets, places[k]), idx, first);
+        k += 1;
+    }
+}
