@@ -153,8 +153,8 @@ pub fn take_stream_apart(stream: &[u8], idx: &mut [u8], first: Pair)
     ensures { λ _. ⌜ now (idx .exit) ≡ over (now (idx .entry)) (pairIndices * first .0) indexOctets (allFrames (streamPacket (bits (now (stream .entry)))) multiframePairs) ⌝ }
 {
     let from = FRAMES * first.0;
-    for p in 0..MultiframeLayout::PAIRS {
-        packet::take_apart(stream, Pair(p), idx, from + FRAMES * p);
+    for q in 0..MultiframeLayout::PAIRS {
+        packet::take_apart(stream, Pair(q), idx, from + FRAMES * q);
     }
 }
 

@@ -168,8 +168,8 @@ fn write(
     replacing::replace(notes, index);
     put_report(headers, notes, common, report);
     let m = places.len();
-    let fields = header::fields_of(common);
-    let settings = fields.settings;
+    let settled = header::fields_of(common);
+    let settings = settled.settings;
     Summary {
         settings,
         multiframes: m,

@@ -38,10 +38,10 @@ take-apart-requires : tie.Need-take-apart-requires Inv-loop μ-loop
 take-apart-requires c κs =
     let l = c .before .before in
     let st = l .before .before .before .before in
-    (packet-inside (l .loop .p) (length (st .args .stream .now)) (st .pre .0), omega (arith, st .pre .1, l .loop .inv .1))
+    (packet-inside (l .loop .q) (length (st .args .stream .now)) (st .pre .0), omega (arith, st .pre .1, l .loop .inv .1))
 
-add-p : tie.Need-add-p Inv-loop μ-loop
-add-p c = search needs
+add-q : tie.Need-add-q Inv-loop μ-loop
+add-q c = search needs
 
 loop-less : tie.Need-loop-less Inv-loop μ-loop
 loop-less c = search needs
@@ -53,7 +53,7 @@ loop-again c =
     let st = a .before .before .before .before in
     let i = a .loop .inv in
     let packets = streamPacket (bits (st .args .stream .now)) in
-    (omega arith, t .take-apart .kept .1 .1 .0 ∙ i .1, joined-on (st .args .idx .now) (a .loop .idx) (pairIndices * st .args .first .0) (a .loop .p) (framesOf packets) pairIndices (t .take-apart .last .1 .1 .0) (λ k h. length-frames packets k) (omega (arith, st .pre .1)) (i .2) (put-is packets (a .loop .p) (a .loop .idx) (t .take-apart .last .1 .1 .0) (pairIndices * st .args .first .0 + pairIndices * a .loop .p) (t .take-apart .ensures)))
+    (omega arith, t .take-apart .kept .1 .1 .0 ∙ i .1, joined-on (st .args .idx .now) (a .loop .idx) (pairIndices * st .args .first .0) (a .loop .q) (framesOf packets) pairIndices (t .take-apart .last .1 .1 .0) (λ k h. length-frames packets k) (omega (arith, st .pre .1)) (i .2) (put-is packets (a .loop .q) (a .loop .idx) (t .take-apart .last .1 .1 .0) (pairIndices * st .args .first .0 + pairIndices * a .loop .q) (t .take-apart .ensures)))
 
 same-length : tie.Need-same-length Inv-loop μ-loop
 same-length c = c .before .loop .inv .1
@@ -63,7 +63,7 @@ unfolding allFrames
 returns c =
     let a = c .before in
     let st = a .before .before .before .before in
-    let e : a .loop .p ≡ multiframePairs = omega (arith, a .loop .inv .0) in
+    let e : a .loop .q ≡ multiframePairs = omega (arith, a .loop .inv .0) in
     a .loop .inv .2 ∙ ap (λ (p : ℕ). over (st .args .idx .now) (pairIndices * st .args .first .0) (pairIndices * p) (joined (framesOf (streamPacket (bits (st .args .stream .now)))) p)) e
 
 pub take-stream-apart-spec : {M : Type 1} → statement M
@@ -77,7 +77,7 @@ take-stream-apart-spec =
     mul-take-apart
     add-take-apart
     take-apart-requires
-    add-p
+    add-q
     loop-less
     loop-again
     same-length
