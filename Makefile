@@ -1,7 +1,7 @@
 # make sample   proves and builds dsrlist, and lists the shipped sample with it
 # make test     the gate: rt ci over every crate, then every check outside of Rattle
 # make bench    the library's times against the literal C version
-# make lib      target/staticlib/liblink.a, for C and Rust on x86-64
+# make lib      target/staticlib/libdsr.a, for C and Rust on x86-64
 # make fuzz     random calls of the library for FUZZ_SECONDS, its promises checked after each
 # make drawing  docs/multiframe.svg anew
 # make clean    removes all that was made
@@ -14,13 +14,13 @@ PARTS := header stream write read hunt
 LIB := library
 
 BUILD := target/outside
-ARCHIVE := target/staticlib/liblink.a
-BASELINE := baseline/header.c baseline/stream.c baseline/write.c baseline/read.c baseline/hunt.c
-HEADERS := c/dsr.h baseline/baseline.h drive/drive.h bench/bench.h
+ARCHIVE := target/staticlib/libdsr.a
+LITERAL := $(addprefix checks/literal/,header.c stream.c write.c read.c hunt.c)
+HEADERS := c/dsr.h checks/literal/literal.h checks/drive/drive.h checks/bench/bench.h
 WARN := -std=gnu11 -Wall -Wextra -Werror
 PYTHON := /usr/bin/python3
 CARGO := cargo
-RUST := rust/target/release
+INDEPENDENT := checks/independent/target/release
 RATTLE := crates.txt $(shell find crates -name '*.rt' -o -name '*.antt')
 FUZZ_SECONDS := 20
 
@@ -71,10 +71,10 @@ bench: $(foreach p,$(PARTS),$(BUILD)/$(LIB)/bench-$(p))
 lib: $(ARCHIVE)
 
 $(ARCHIVE): $(RATTLE)
-	rt staticlib link
+	rt staticlib dsr
 
 clean:
-	rm -rf target rust/target
+	rm -rf target rust/dsr/target checks/independent/target
 
 # What is missing of Debian's packages.
 packages:
@@ -83,53 +83,53 @@ packages:
 # --- the library, and the literal version in its place
 
 $(BUILD)/library/%: WITH = $(ARCHIVE)
-$(BUILD)/literal/%: WITH = baseline/as_library.c
+$(BUILD)/literal/%: WITH = checks/literal/as_library.c
 
-$(BUILD)/library/drive-%: drive/%.c $(HEADERS) $(ARCHIVE)
+$(BUILD)/library/drive-%: checks/drive/%.c $(HEADERS) $(ARCHIVE)
 	@mkdir -p $(@D)
 	$(LIBRARY_CC) $(WARN) -O2 $< $(WITH) -o $@
 
-$(BUILD)/library/bench-%: bench/%.c $(HEADERS) $(BASELINE) $(ARCHIVE)
+$(BUILD)/library/bench-%: checks/bench/%.c $(HEADERS) $(LITERAL) $(ARCHIVE)
 	@mkdir -p $(@D)
-	$(LIBRARY_CC) $(WARN) -O3 $< $(BASELINE) $(WITH) -o $@
+	$(LIBRARY_CC) $(WARN) -O3 $< $(LITERAL) $(WITH) -o $@
 
-$(BUILD)/literal/drive-%: drive/%.c $(HEADERS) $(BASELINE) baseline/as_library.c
+$(BUILD)/literal/drive-%: checks/drive/%.c $(HEADERS) $(LITERAL) checks/literal/as_library.c
 	@mkdir -p $(@D)
-	gcc $(WARN) -O3 $< $(BASELINE) $(WITH) -o $@
+	gcc $(WARN) -O3 $< $(LITERAL) $(WITH) -o $@
 
-$(BUILD)/literal/bench-%: bench/%.c $(HEADERS) $(BASELINE) baseline/as_library.c
+$(BUILD)/literal/bench-%: checks/bench/%.c $(HEADERS) $(LITERAL) checks/literal/as_library.c
 	@mkdir -p $(@D)
-	gcc $(WARN) -O3 $< $(BASELINE) $(WITH) -o $@
+	gcc $(WARN) -O3 $< $(LITERAL) $(WITH) -o $@
 
-$(BUILD)/libbaseline.a: $(BASELINE) baseline/as_library.c baseline/baseline.h c/dsr.h
+$(BUILD)/libliteral.a: $(LITERAL) checks/literal/as_library.c checks/literal/literal.h c/dsr.h
 	@mkdir -p $(BUILD)/objects
-	cd $(BUILD)/objects && gcc $(WARN) -O3 -c $(abspath $(BASELINE) baseline/as_library.c)
+	cd $(BUILD)/objects && gcc $(WARN) -O3 -c $(abspath $(LITERAL) checks/literal/as_library.c)
 	ar rcs $@ $(BUILD)/objects/*.o
 
 # --- the checks
 
 # The independent implementation against the library (or, with LIB=literal, the literal version).
 compare-%: $(BUILD)/$(LIB)/drive-% independent-build
-	$(RUST)/compare_$* $(RUN) $<
+	$(INDEPENDENT)/compare_$* $(RUN) $<
 
 # The second program for parity (header) and CRC (stream).
 second-%: $(BUILD)/$(LIB)/drive-%
-	$(PYTHON) second/$*.py $(RUN) $<
+	$(PYTHON) checks/second/$*.py $(RUN) $<
 
 .PHONY: independent-build
 independent-build:
-	@cd rust && $(CARGO) build --quiet --offline --release -p independent
+	@cd checks/independent && $(CARGO) build --quiet --offline --release
 
 # The independent implementation's own tests.
 independent:
-	cd rust && $(CARGO) test --quiet --offline --release -p independent --lib
+	cd checks/independent && $(CARGO) test --quiet --offline --release --lib
 
 # The Rust wrapper over the library, with the functions that have landed; and, whole, over the literal version.
 wrapper: $(ARCHIVE)
-	cd rust && $(CARGO) test --quiet --offline -p dsr --no-default-features --features "$(PARTS)"
+	cd rust/dsr && $(CARGO) test --quiet --offline --no-default-features --features "$(PARTS)"
 
-wrapper-literal: $(BUILD)/libbaseline.a
-	cd rust && DSR_LIB_DIR=$(abspath $(BUILD)) DSR_LIB_NAME=baseline $(CARGO) test --quiet --offline -p dsr --target-dir target/literal
+wrapper-literal: $(BUILD)/libliteral.a
+	cd rust/dsr && DSR_LIB_DIR=$(abspath $(BUILD)) DSR_LIB_NAME=literal $(CARGO) test --quiet --offline --target-dir target/literal
 
 # The C example, held to what it has to print.
 example: $(BUILD)/$(LIB)/example
@@ -139,14 +139,14 @@ $(BUILD)/library/example: c/example.c $(HEADERS) $(ARCHIVE)
 	@mkdir -p $(@D)
 	$(LIBRARY_CC) $(WARN) -O2 $< $(WITH) -o $@
 
-$(BUILD)/literal/example: c/example.c $(HEADERS) $(BASELINE) baseline/as_library.c
+$(BUILD)/literal/example: c/example.c $(HEADERS) $(LITERAL) checks/literal/as_library.c
 	@mkdir -p $(@D)
-	gcc $(WARN) -O2 $< $(BASELINE) $(WITH) -o $@
+	gcc $(WARN) -O2 $< $(LITERAL) $(WITH) -o $@
 
 # The shipped sample and its listing: made anew by the maker, and listed by the literal reader and by dsrlist.
-$(BUILD)/literal/sample-%: samples/%.c c/dsr.h $(BASELINE) baseline/as_library.c
+$(BUILD)/literal/sample-%: checks/samples/%.c c/dsr.h $(LITERAL) checks/literal/as_library.c
 	@mkdir -p $(@D)
-	gcc $(WARN) -O2 $< $(BASELINE) $(WITH) -o $@
+	gcc $(WARN) -O2 $< $(LITERAL) $(WITH) -o $@
 
 sample-check: $(BUILD)/literal/sample-make $(BUILD)/literal/sample-list target/bin/dsrlist
 	$(BUILD)/literal/sample-make | cmp - crates/dsrlist/stdin
@@ -165,8 +165,8 @@ README_WITH := $(ARCHIVE)
 README_ENV :=
 else
 README_CC := gcc
-README_WITH := $(BUILD)/libbaseline.a
-README_ENV := DSR_LIB_DIR=$(abspath $(BUILD)) DSR_LIB_NAME=baseline
+README_WITH := $(BUILD)/libliteral.a
+README_ENV := DSR_LIB_DIR=$(abspath $(BUILD)) DSR_LIB_NAME=literal
 endif
 
 readme-c: $(README_WITH)
@@ -198,13 +198,13 @@ SANITIZE := -g -fsanitize=address,undefined -fno-sanitize-recover=all
 fuzz: $(BUILD)/$(LIB)/fuzz
 	ASAN_OPTIONS=detect_leaks=0 $(RUN) $< $(FUZZ_SECONDS)
 
-$(BUILD)/library/fuzz: fuzz/fuzz.c c/dsr.h $(ARCHIVE)
+$(BUILD)/library/fuzz: checks/fuzz/fuzz.c c/dsr.h $(ARCHIVE)
 	@mkdir -p $(@D)
 	$(LIBRARY_CC) $(WARN) -O2 $(if $(LIBRARY_RUN),,$(SANITIZE)) $< $(WITH) -o $@
 
-$(BUILD)/literal/fuzz: fuzz/fuzz.c c/dsr.h $(BASELINE) baseline/as_library.c
+$(BUILD)/literal/fuzz: checks/fuzz/fuzz.c c/dsr.h $(LITERAL) checks/literal/as_library.c
 	@mkdir -p $(@D)
-	gcc $(WARN) -O1 $(SANITIZE) $< $(BASELINE) $(WITH) -o $@
+	gcc $(WARN) -O1 $(SANITIZE) $< $(LITERAL) $(WITH) -o $@
 
 # The drawing, and that its script makes it octet for octet.
 drawing:

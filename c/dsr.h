@@ -43,8 +43,8 @@ extern "C" {
 #define DSR_LEAST_MATCH 12
 #define DSR_MOST_MATCH 16
 
-/* dsr_status is what dsr_write, dsr_read, dsr_hunt and dsr_read_bits return: 0, or the number of the refusal; beside each refusal
- * stands its place. */
+/* dsr_status is what every function but dsr_header_encode returns: 0 if it is done, or the number of the refusal; beside each refusal
+ * stands its place. Numbers from 97 on are this library's own, not 01's or 02's, and have no place. */
 enum dsr_status {
     /* DSR_DONE: success. */
     DSR_DONE = 0,
@@ -89,15 +89,17 @@ enum dsr_status {
     /* DSR_HUNT_NOWHERE: no place found by the first hunt. Place: the first bit searched. */
     DSR_HUNT_NOWHERE = 22,
 
-    /* DSR_READ_ANSWER_SHORT: answer shorter than DSR_ANSWER_NUMBERS, in dsr_read_bits than DSR_BITS_ANSWER_NUMBERS (not a refusal of 01
-     * or 02). No place: all lent memory stays. */
+    /* DSR_HEADER_UNREADABLE (dsr_header_read): no codeword differs from the word in at most two bits. */
+    DSR_HEADER_UNREADABLE = 97,
+    /* DSR_WRONG_LENGTH (dsr_pack, dsr_unpack): a slice has another length than the multiframe's. */
+    DSR_WRONG_LENGTH = 98,
+    /* DSR_READ_ANSWER_SHORT: answer shorter than DSR_ANSWER_NUMBERS, in dsr_read_bits than DSR_BITS_ANSWER_NUMBERS. All lent memory
+     * stays. */
     DSR_READ_ANSWER_SHORT = 99
 };
 
-/* dsr_answer is the place of each number in a successful reading's answer; on a refusal of dsr_read the place stands at 0. */
+/* dsr_answer is the place of each number in a successful reading's answer. */
 enum dsr_answer {
-    /* DSR_ANSWER_PLACE: the refusal's place (on a refusal of dsr_read only). */
-    DSR_ANSWER_PLACE = 0,
     /* DSR_ANSWER_RATE: the settled sample rate code, 0 = 8 kHz, 1 = 11 kHz, 3 = 16 kHz. */
     DSR_ANSWER_RATE = 0,
     /* DSR_ANSWER_TYPE: the settled front-end type, 0 standard, 1 noise robust. */
@@ -140,28 +142,32 @@ enum dsr_note {
  * significant. */
 uint32_t dsr_header_encode(uint16_t message);
 
-/* dsr_header_read reads a received header: 1 if a codeword differs from word in at most two bits, and then *message is its message and
- * *flips that number of bits; 0 if no codeword does (lost), and then both stay as they came. Three flips are never mended. */
+/* dsr_header_read reads a received header: DSR_DONE if a codeword differs from word in at most two bits, and then *message is its message
+ * and *flips that number of bits; DSR_HEADER_UNREADABLE if no codeword does (lost), and then both stay as they came. Three flips are never
+ * mended. */
 uint32_t dsr_header_read(uint32_t word, uint16_t *message, uint32_t *flips);
 
-/* dsr_pack packs the 24 frames of a multiframe (168 index octets) into its feature stream (138 octets), with the CRCs: 1 if done; 0,
- * and nothing is touched, if a length is wrong or one of the first six indices of a frame is above 63. */
+/* dsr_pack packs the 24 frames of a multiframe (168 index octets) into its feature stream (138 octets), with the CRCs: DSR_DONE; or, and
+ * nothing is touched, DSR_WRONG_LENGTH, or DSR_WRITE_INDEX_VALUE if one of the first six indices of a frame is above 63. */
 uint32_t dsr_pack(const uint8_t *indices, size_t indices_len, uint8_t *stream, size_t stream_len);
 
-/* dsr_unpack takes a feature stream (138 octets) apart into 168 index octets and twelve notes (0 right, 1 CRC failed): 1 if done; 0,
- * and nothing is touched, if a length is wrong. */
+/* dsr_unpack takes a feature stream (138 octets) apart into 168 index octets and twelve notes (0 right, 1 CRC failed): DSR_DONE; or
+ * DSR_WRONG_LENGTH, and nothing is touched. */
 uint32_t dsr_unpack(const uint8_t *stream, size_t stream_len, uint8_t *indices, size_t indices_len, uint8_t *notes, size_t notes_len);
 
 /* dsr_write writes an utterance: DSR_DONE, and *place is the number of octets written (octets of out beyond them stay); or a refusal,
- * 1 to 6, the first that applies, and *place is its place and no octet of out is touched. */
-uint32_t dsr_write(uint8_t rate, uint8_t type, const uint8_t *indices, size_t indices_len, uint8_t *out, size_t out_len, uint64_t *place);
+ * 1 to 6, the first that applies, and *place is its place and no octet of out is touched. Rate and type are numbers of 64 bits, so that
+ * none is cut to a right one on its way: 256 and -1 are refused. */
+uint32_t dsr_write(uint64_t rate, uint64_t type, const uint8_t *indices, size_t indices_len, uint8_t *out, size_t out_len,
+                   uint64_t *place);
 
 /* dsr_read reads received octets: DSR_DONE, and answer holds the six numbers of enum dsr_answer, index the first 168m octets and report
- * the first 13m (octets beyond them stay); or a refusal, 11 to 20, the first that applies, and answer[0] is its place and no octet of
- * index and report is touched. Lend an answer of DSR_ANSWER_NUMBERS numbers; fewer are refused with DSR_READ_ANSWER_SHORT. */
+ * the first 13m (octets beyond them stay, numbers beyond the sixth too), and *place stays; or a refusal, 11 to 20, the first that applies,
+ * and *place is its place and answer, index and report stay as they came. Lend an answer of DSR_ANSWER_NUMBERS numbers; fewer are refused
+ * before all else with DSR_READ_ANSWER_SHORT, and then *place stays too. */
 uint32_t dsr_read(const uint8_t *octets, size_t octets_len, const int32_t *codebook, size_t codebook_len, const int32_t *thresholds,
                   size_t thresholds_len, uint8_t *index, size_t index_len, uint8_t *report, size_t report_len, uint64_t *answer,
-                  size_t answer_len);
+                  size_t answer_len, uint64_t *place);
 
 /* dsr_hunt looks for a multiframe at any bit. Bit t is in octet t / 8, with value 2^(t % 8). A place passes if 1,152 bits are left there,
  * at least `least` of its first 16 bits match the sync, and the header behind them is readable. Octets from the 2^61st on are not

@@ -1,0 +1,4 @@
+pub mod Entries
+pub mod Laws
+pub mod Bits
+pub mod Examples

@@ -1,0 +1,228 @@
+// The entries for C and Rust: numbers and slices only, and nothing is asked of the caller. c/dsr.h says the same in C.
+use header::Header;
+use hunt::Hunted;
+use hunting::Counted;
+use layout::MultiframeLayout;
+use layout::Pair;
+use layout::ReadingLayout;
+use reader::Answer;
+use reader::Summary;
+use settings::Settings;
+use writer::Found;
+ghost use mathlib.Core.Path.{_≡_};
+ghost use Prim.Native.Nat.{_≤_};
+ghost use lib.ListN.{length};
+ghost use Rattle.lists.specs.Parts.{over};
+ghost use Rattle.header_code.specs.Code.{codeword};
+ghost use Rattle.header.specs.Reading.{reading};
+ghost use Rattle.dsr.specs.Bits.{huntReturned, dsrHunt, countedNumbers, numbersOf, bitsReturned, dsrReadBits};
+ghost use Rattle.dsr.specs.Entries.{answerNumbers, summaryNumbers, writeReturned, dsrWrite, returned, dsrRead, headerRead, packed, packing, unpacked, unpacking};
+
+// The numbers of a reading's answer, and those of a hunting reading's.
+const ANSWER: usize = 6;
+
+const COUNTED: usize = 8;
+
+// dsr_header_encode gives the codeword of a 16-bit message.
+#[no_mangle]
+pub extern "C" fn dsr_header_encode(message: u16) -> u32
+    ensures { λ r. ⌜ r ≡ codeword message ⌝ }
+{
+    header::encode(message)
+}
+
+// dsr_header_read answers 1 with the message and the number of flipped bits, or 0 for a lost header, and then both lent numbers stay.
+#[no_mangle]
+pub extern "C" fn dsr_header_read(word: u32, message: &mut u16, flips: &mut u32) -> u32
+    ensures { λ r. ⌜ headerRead r (now (message .exit)) (now (flips .exit)) (now (message .entry)) (now (flips .entry)) (reading word) ⌝ }
+{
+    match header::read(word) {
+        Header::Codeword(d) => {
+            *message = d.message;
+            *flips = d.flips;
+            1
+        }
+        Header::Lost => 0,
+    }
+}
+
+// dsr_pack turns the 24 frames of a multiframe into its stream and answers 1, or 0 if a length or an index is wrong, and then the stream
+// stays.
+#[no_mangle]
+pub extern "C" fn dsr_pack(indices: &[u8], stream: &mut [u8]) -> u32
+    ensures { λ r. ⌜ packed r (now (stream .exit)) ≡ packing (now (indices .entry)) (now (stream .entry)) ⌝ }
+{
+    if indices.len() != ReadingLayout::INDEX {
+        return 0;
+    }
+    if stream.len() != MultiframeLayout::STREAM {
+        return 0;
+    }
+    match writer::first_wide(indices) {
+        Found::At(_) => 0,
+        Found::Nowhere => {
+            packet::put_stream(indices, Pair(0), stream, 0);
+            1
+        }
+    }
+}
+
+// dsr_unpack turns a stream into its 24 frames and twelve notes, 0 for a right CRC and 1 for a failed one, and answers 1, or 0 if a length
+// is wrong, and then both lent buffers stay.
+#[no_mangle]
+pub extern "C" fn dsr_unpack(stream: &[u8], indices: &mut [u8], notes: &mut [u8]) -> u32
+    ensures { λ r. ⌜ unpacked r (now (indices .exit)) (now (notes .exit)) ≡ unpacking (now (stream .entry)) (now (indices .entry)) (now (notes .entry)) ⌝ }
+{
+    if stream.len() != MultiframeLayout::STREAM {
+        return 0;
+    }
+    if indices.len() != ReadingLayout::INDEX {
+        return 0;
+    }
+    if notes.len() != MultiframeLayout::PAIRS {
+        return 0;
+    }
+    notes::take_stream_apart(stream, indices, Pair(0));
+    notes::note_stream(stream, notes, Pair(0));
+    1
+}
+
+// dsr_write answers 01's number, 0 for success, and puts the octets written or the refusal's place into place.
+#[no_mangle]
+pub extern "C" fn dsr_write(
+    rate: u8,
+    kind: u8,
+    indices: &[u8],
+    out: &mut [u8],
+    place: &mut u64,
+) -> u32
+    ensures { λ r. ⌜ writeReturned r (now (out .exit)) (now (place .exit)) ≡ dsrWrite rate kind (now (indices .entry)) (now (out .entry)) ⌝ }
+{
+    let settings = Settings { rate, kind };
+    let answer = writer::write(settings, indices, out);
+    *place = writer::place_of(answer) as u64;
+    writer::number_of(answer)
+}
+
+// The six numbers of a success, in 01's order. It asks for their room, which dsr_read has tested.
+fn put_summary(s: Summary, answer: &mut [u64])
+    requires { ⌜ answerNumbers ≤ length (now answer) ⌝ }
+    ensures { λ _. ⌜ now (answer .exit) ≡ over (now (answer .entry)) 0 answerNumbers (summaryNumbers s) ⌝ }
+{
+    answer[0] = s.settings.rate as u64;
+    answer[1] = s.settings.kind as u64;
+    answer[2] = s.multiframes as u64;
+    answer[3] = s.speech as u64;
+    answer[4] = s.bad as u64;
+    answer[5] = s.end as u64;
+}
+
+// dsr_read answers 01's number, 0 for success, and puts six numbers (rate, type, multiframes, speech, bad, end) or a refusal's place into
+// answer. Room for fewer than six numbers is refused with 99, a number that 01 does not have, and then all lent memory stays.
+#[no_mangle]
+pub extern "C" fn dsr_read(
+    octets: &[u8],
+    codebook: &[i32],
+    thresholds: &[i32],
+    index: &mut [u8],
+    report: &mut [u8],
+    answer: &mut [u64],
+) -> u32
+    ensures { λ r. ⌜ returned r (now (index .exit)) (now (report .exit)) (now (answer .exit)) ≡ dsrRead (now (octets .entry)) (now (codebook .entry)) (now (thresholds .entry)) (now (index .entry)) (now (report .entry)) (now (answer .entry)) ⌝ }
+{
+    if answer.len() < ANSWER {
+        return refusals::NO_ROOM;
+    }
+    match reader::read(octets, codebook, thresholds, index, report) {
+        Answer::Read(s) => {
+            put_summary(s, answer);
+            refusals::SUCCESS
+        }
+        Answer::Refused(r) => {
+            answer[0] = refusals::reading_place(r) as u64;
+            refusals::reading_number(r)
+        }
+    }
+}
+
+// dsr_hunt answers 0 and puts the bit found and the number of places tested into found and tested; or 02's number, and puts the refusal's
+// place and the number of places tested into place and tested. What it does not name stays.
+#[no_mangle]
+pub extern "C" fn dsr_hunt(
+    octets: &[u8],
+    from: u64,
+    least: u64,
+    found: &mut u64,
+    tested: &mut u64,
+    place: &mut u64,
+) -> u32
+    ensures { λ r. ⌜ huntReturned r (now (found .exit)) (now (tested .exit)) (now (place .exit)) ≡ dsrHunt (now (octets .entry)) from least (now (found .entry)) (now (place .entry)) ⌝ }
+{
+    match hunt::hunt(octets, from as usize, least as usize) {
+        Hunted::Found {
+            place: at,
+            tested: n,
+        } => {
+            *found = at as u64;
+            *tested = n as u64;
+            refusals::SUCCESS
+        }
+        Hunted::Refused(r) => {
+            *tested = refusals::hunt_tested(r) as u64;
+            *place = refusals::hunt_place(r) as u64;
+            refusals::hunt_number(r)
+        }
+    }
+}
+
+// The eight numbers of a success: the octet reader's six, the bits outside and the places tested. It asks for their room, which
+// dsr_read_bits has tested.
+fn put_counted(c: Counted, answer: &mut [u64])
+    requires { ⌜ countedNumbers ≤ length (now answer) ⌝ }
+    ensures { λ _. ⌜ now (answer .exit) ≡ over (now (answer .entry)) 0 countedNumbers (numbersOf c) ⌝ }
+{
+    let s = c.summary;
+    put_summary(s, answer);
+    answer[6] = c.outside as u64;
+    answer[7] = c.tested as u64;
+}
+
+// dsr_read_bits is dsr_read for bits with no octet boundary: it answers 0 and puts eight numbers (dsr_read's six, bits outside, places
+// tested) into answer, and place stays; or the refusal's number, and puts its place into place, and all other lent memory stays. Room for
+// fewer than eight numbers is refused with 99, and then all lent memory stays.
+#[no_mangle]
+pub extern "C" fn dsr_read_bits(
+    octets: &[u8],
+    from: u64,
+    least: u64,
+    codebook: &[i32],
+    thresholds: &[i32],
+    index: &mut [u8],
+    report: &mut [u8],
+    answer: &mut [u64],
+    place: &mut u64,
+) -> u32
+    ensures { λ r. ⌜ bitsReturned r (now (index .exit)) (now (report .exit)) (now (answer .exit)) (now (place .exit)) ≡ dsrReadBits (now (octets .entry)) from least (now (codebook .entry)) (now (thresholds .entry)) (now (index .entry)) (now (report .entry)) (now (answer .entry)) (now (place .entry)) ⌝ }
+{
+    if answer.len() < COUNTED {
+        return refusals::NO_ROOM;
+    }
+    match hunting::read(
+        octets,
+        from as usize,
+        least as usize,
+        codebook,
+        thresholds,
+        index,
+        report,
+    ) {
+        hunting::Answer::Read(c) => {
+            put_counted(c, answer);
+            refusals::SUCCESS
+        }
+        hunting::Answer::Refused(r) => {
+            *place = refusals::hunting_place(r) as u64;
+            refusals::hunting_number(r)
+        }
+    }
+}

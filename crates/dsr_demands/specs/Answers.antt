@@ -1,0 +1,63 @@
+-- Literal examples of dsr_write and dsr_read: which number stands where, and what stays, which no law would notice if definition, contract and code were
+-- changed alike.
+-- Assumes nothing.
+use mathlib.Core.Path.{_≡_, refl}
+use mathlib.Core.List.{List, [], _∷_}
+use Prim.Native.Nat.{ℕ}
+use lib.ListN.{replicate}
+use Rattle.settings.specs.Settings.{settings}
+use Rattle.frames.specs.Frames.{zeroFrame}
+use Rattle.reader.specs.Reading.{Outcome, outcome, reading, verdict}
+use Rattle.refusals.specs.declared.Reading.the-variants.{CutShort, IndexShort, AllBad}
+use Rattle.reader.specs.declared.Answer.the-variants.{Read, Refused}
+use Rattle.writer.specs.Writing as W
+use Rattle.writer.specs.Writing.{firstFrom, roomAnswer, writing}
+use Rattle.dsr.specs.Entries.{returning, dsrWrite, dsrRead}
+
+-- 16 kHz, noise robust, 2 multiframes, 30 frames of speech, 4 bad pairs, end
+abbrev pub talk : Outcome
+talk = outcome (Read (record { settings = settings 3 1; multiframes = 2; speech = 30; bad = 4; end = 1 })) (1 ∷ []) (2 ∷ [])
+
+-- seven numbers lent, which came as 90 to 96; index and report came as 5 and 6
+abbrev pub seven : List ℕ
+seven = 90 ∷ 91 ∷ 92 ∷ 93 ∷ 94 ∷ 95 ∷ 96 ∷ []
+
+pub record Table : Type 0 where
+  -- rate, type, multiframes, speech, bad, end; a seventh number stays
+  pub six-numbers : returning seven (5 ∷ []) (6 ∷ []) talk ≡ record { number = 0; index = 1 ∷ []; report = 2 ∷ []; answer = 3 ∷ 1 ∷ 2 ∷ 30 ∷ 4 ∷ 1 ∷ 96 ∷ [] }
+  -- a refusal puts its place into the first number, and leaves the others and both buffers
+  pub refused-13 : returning seven (5 ∷ []) (6 ∷ []) (outcome (Refused (CutShort 290)) (5 ∷ []) (6 ∷ []))
+      ≡ record { number = 13; index = 5 ∷ []; report = 6 ∷ []; answer = 290 ∷ 91 ∷ 92 ∷ 93 ∷ 94 ∷ 95 ∷ 96 ∷ [] }
+  pub refused-18 : returning seven (5 ∷ []) (6 ∷ []) (outcome (Refused (IndexShort 336)) (5 ∷ []) (6 ∷ []))
+      ≡ record { number = 18; index = 5 ∷ []; report = 6 ∷ []; answer = 336 ∷ 91 ∷ 92 ∷ 93 ∷ 94 ∷ 95 ∷ 96 ∷ [] }
+  pub refused-20 : returning seven (5 ∷ []) (6 ∷ []) (outcome (Refused AllBad) (5 ∷ []) (6 ∷ []))
+      ≡ record { number = 20; index = 5 ∷ []; report = 6 ∷ []; answer = 0 ∷ 91 ∷ 92 ∷ 93 ∷ 94 ∷ 95 ∷ 96 ∷ [] }
+  -- no room for six numbers: 99 comes before all, and all stays
+  pub five-numbers : returning (replicate 5 90) (5 ∷ []) (6 ∷ []) talk ≡ record { number = 99; index = 5 ∷ []; report = 6 ∷ []; answer = replicate 5 90 }
+  -- dsr_read itself: no tables are 11
+  pub no-tables : dsrRead (0x87 ∷ []) [] [] (5 ∷ []) (6 ∷ []) seven
+      ≡ record { number = 11; index = 5 ∷ []; report = 6 ∷ []; answer = 0 ∷ 91 ∷ 92 ∷ 93 ∷ 94 ∷ 95 ∷ 96 ∷ [] }
+  -- dsr_write: rate before type, the number returned, the place lent, the output as it came
+  pub rate-2 : dsrWrite 2 0 [] (7 ∷ []) ≡ record { number = 1; output = 7 ∷ []; place = 0 }
+  pub type-2 : dsrWrite 0 2 [] (7 ∷ []) ≡ record { number = 1; output = 7 ∷ []; place = 0 }
+  pub rate-3-type-1 : dsrWrite 3 1 [] (7 ∷ []) ≡ record { number = 6; output = 7 ∷ []; place = 144 }
+  pub rate-1-type-3 : dsrWrite 1 3 [] (7 ∷ []) ≡ record { number = 1; output = 7 ∷ []; place = 0 }
+  pub eight-octets : dsrWrite 0 0 (replicate 8 1) (7 ∷ []) ≡ record { number = 2; output = 7 ∷ []; place = 8 }
+  pub wide-index : dsrWrite 0 0 (64 ∷ 0 ∷ 0 ∷ 0 ∷ 0 ∷ 0 ∷ 0 ∷ []) (7 ∷ []) ≡ record { number = 4; output = 7 ∷ []; place = 1 }
+
+pub table : Table
+unfolding returning reading verdict writing W.verdict roomAnswer firstFrom zeroFrame
+table = record {
+  six-numbers = refl;
+  refused-13 = refl;
+  refused-18 = refl;
+  refused-20 = refl;
+  five-numbers = refl;
+  no-tables = refl;
+  rate-2 = refl;
+  type-2 = refl;
+  rate-3-type-1 = refl;
+  rate-1-type-3 = refl;
+  eight-octets = refl;
+  wide-index = refl;
+}

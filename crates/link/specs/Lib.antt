@@ -1,4 +1,0 @@
-pub mod Link
-pub mod Laws
-pub mod Bits
-pub mod Examples
