@@ -1,3 +1,9 @@
+-- Each read that goes on fills at least one place more. Assumes nothing.
+use Prim.Native.Nat.{_-_, _≤_}
+use mathlib.Core.Path.{_≡_}
+use native.Mathlib.Omega.{arith}
+use lib.ListN.{length}
+use Rattle.dsrlist.specs.Input.{within-came}
 use borrow.Author.Needs.{needs}
 use Rattle.dsrlist.proofs.read_all.Statement.{statement}
 use Rattle.dsrlist.proofs.read_all.Tie as tie
@@ -6,14 +12,14 @@ use Rattle.dsrlist.proofs.read_all.Lts as lts
 use Rattle.dsrlist.proofs.read_on.Reads as read-on-reads
 
 abbrev Inv-loop : tie.InvT-loop
-Inv-loop buffer₀ at₀ buffer at = ?
+Inv-loop buffer₀ at₀ buffer at = (length buffer ≡ length buffer₀) × (at ≤ length buffer)
 
 abbrev μ-loop : tie.MeasureT-loop
-μ-loop buffer₀ at₀ buffer at = ?
+μ-loop buffer₀ at₀ buffer at = length buffer - at
 
 -- src/main.rt:36:5
 loop-holds : tie.Need-loop-holds Inv-loop μ-loop
-loop-holds c = ?
+loop-holds c = search needs
 
 -- src/main.rt:37:33
 read-on-requires : tie.Need-read-on-requires Inv-loop μ-loop
@@ -37,7 +43,9 @@ returns c = search needs
 
 -- src/main.rt:43:9
 add-at : tie.Need-add-at Inv-loop μ-loop
-add-at c = search needs
+add-at c =
+    let w = within-came (c .before .before .before .before .before .before .read-on .ensures) (c .before .before .more .given .1) in
+    search (needs, w)
 
 -- src/main.rt:36:5
 loop-less : tie.Need-loop-less Inv-loop μ-loop
@@ -45,7 +53,9 @@ loop-less c = search needs
 
 -- src/main.rt:36:5
 loop-again : tie.Need-loop-again Inv-loop μ-loop
-loop-again c = search needs
+loop-again c =
+    let w = within-came (c .before .before .before .before .before .before .read-on .ensures) (c .before .before .more .given .1) in
+    (search (needs, w), omega (arith, w, c .before .before .before .before .before .before .read-on .kept .0))
 
 -- src/main.rt:32:1
 same-length-2 : tie.Need-same-length-2 Inv-loop μ-loop
