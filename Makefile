@@ -218,3 +218,18 @@ drawing-check:
 crctable: $(ARCHIVE)
 	$(OBJDUMP) -h $< | grep -E '\.crctable[^ ]* +0*100 '
 	$(OBJDUMP) -r $< | grep -m 1 'PC32 .*\.crctable'
+
+# --- dsr.h's inline functions, as C99, C++11 and C++20
+
+# With each compiler that is there, under more warnings than a caller will have. A dropped status has to be warned of.
+FACE := $(BUILD)/$(LIB)/face
+FACE_WARN := -Wall -Wextra -Wpedantic -Wconversion -Wsign-conversion -Werror -O2
+
+.PHONY: c-face
+c-face: $(README_WITH)
+	@mkdir -p $(BUILD)/$(LIB)
+	for cc in gcc clang; do command -v $$cc >/dev/null || continue; \
+	    $$cc -std=c99 -Wall -Werror -Wno-unused-result -c checks/c/dropped.c -o /dev/null || exit 1; \
+	    [ "$$($$cc -std=c99 -c checks/c/dropped.c -o /dev/null 2>&1 | grep -c 'warning:.*unused.result')" = 4 ] || exit 1; \
+	    for std in 'c -std=c99' 'c++ -std=c++11' 'c++ -std=c++20'; do \
+	        $$cc -x $$std $(FACE_WARN) checks/c/face.c -x none $(README_WITH) -o $(FACE) && $(FACE) || exit 1; done; done
