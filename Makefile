@@ -4,7 +4,7 @@
 # linked by Debian's cross compiler and run by an emulator: answers are the same, times say nothing.
 #
 # LIB is what the checks try: library (the proved one), or literal (the literal C version under the library's names).
-VERSION := 0.2.0
+VERSION := $(shell sed -n 's/^.define DSR_VERSION_[MP][A-Z]* \([0-9]*\)$$/\1/p' c/dsr.h | paste -sd.)
 SONAME := libdsr.so.$(firstword $(subst ., ,$(VERSION)))
 MACHINE := $(shell uname -m)
 ARCH := $(MACHINE)
@@ -263,3 +263,18 @@ crctable: $(ARCHIVE)
 twin: target/staticlib/libdsr.a
 	@tools/compile x86_64 dsr target/twin/libdsr.a >target/compiling-twin.log 2>&1 || { tail -n 20 target/compiling-twin.log; exit 1; }
 	cmp target/twin/libdsr.a $<
+
+# --- dsr.h's inline functions, as C99, C++11 and C++20
+
+# With each compiler that is there, under more warnings than a caller will have. A dropped status has to be warned of.
+FACE := $(BUILD)/$(LIB)/face
+FACE_WARN := -Wall -Wextra -Wpedantic -Wconversion -Wsign-conversion -Werror -O2
+
+.PHONY: c-face
+c-face: $(README_WITH)
+	@mkdir -p $(BUILD)/$(LIB)
+	for cc in gcc clang; do command -v $$cc >/dev/null || continue; \
+	    $$cc -std=c99 -Wall -Werror -Wno-unused-result -c checks/c/dropped.c -o /dev/null || exit 1; \
+	    [ "$$($$cc -std=c99 -c checks/c/dropped.c -o /dev/null 2>&1 | grep -c 'warning:.*unused.result')" = 4 ] || exit 1; \
+	    for std in 'c -std=c99' 'c++ -std=c++11' 'c++ -std=c++20'; do \
+	        $$cc -x $$std $(FACE_WARN) checks/c/face.c -x none $(README_WITH) -o $(FACE) && $(FACE) || exit 1; done; done
