@@ -1,6 +1,6 @@
 //! Compares the library's hunt and hunting reading with the independent version. Arguments: the command that runs the hunt driver.
 use independent::chance::{Chance, SEED};
-use independent::driver::{over, Call, Driver};
+use independent::driver::{over, Call, Driver, ANSWER_SHORT};
 use independent::header::{encode, Code};
 use independent::hunting::{bits_of, hunt, octets_of, read_bits, HEADER_BITS, MULTIFRAME_BITS, SYNC_BITS};
 use independent::reading::{MOST, REPORT};
@@ -142,7 +142,7 @@ struct Check {
 impl Check {
     fn hunt(&mut self, name: &str, search: &Search) {
         let lent: [u64; 3] = std::array::from_fn(|_| self.chance.word());
-        let call = search.call(b'H', self.driver.mode()).longs(&lent[..1]).longs(&lent[1..2]).longs(&lent[2..]);
+        let call = search.call(b'H', self.driver.mode()).long(lent[0]).long(lent[1]).long(lent[2]);
         let mut back = self.driver.call(call, 8 + 24);
         let got = (back.word(), back.word(), [back.long(), back.long(), back.long()]);
         let (answer, tested) = hunt(&self.code, &search.octets, search.from - search.bits_before(), search.least);
@@ -164,7 +164,7 @@ impl Check {
         let answer: Vec<u64> = (0..lent.answer).map(|_| self.chance.word()).collect();
         let came = Outcome { number: 0, kept: 1, place: self.chance.word(), answer, index, report };
         let call = search.call(b'B', self.driver.mode()).signed(&lent.tables.codebook).signed(&lent.tables.thresholds);
-        let call = call.octets(&came.index).octets(&came.report).longs(&came.answer).longs(&[came.place]);
+        let call = call.octets(&came.index).octets(&came.report).longs(&came.answer).long(came.place);
         let mut back = self.driver.call(call, 16 + 8 * lent.answer + lent.index + lent.report);
         let got = Outcome {
             number: back.word(),
@@ -191,7 +191,7 @@ impl Check {
     /// What the independent version returns and leaves of the memory that came.
     fn expected(&mut self, search: &Search, lent: &Lent, came: Outcome) -> Outcome {
         if lent.answer < ANSWER {
-            return Outcome { number: 99, ..came };
+            return Outcome { number: ANSWER_SHORT, ..came };
         }
         let tables = (&lent.tables.codebook[..], &lent.tables.thresholds[..]);
         let from = search.from - search.bits_before();

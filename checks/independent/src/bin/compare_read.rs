@@ -1,11 +1,24 @@
 //! Compares the library's reader with the independent version. Arguments: the command that runs the read driver.
 use independent::chance::{Chance, SEED};
-use independent::driver::{over, Call, Driver, LENT};
+use independent::driver::{over, Call, Driver, ANSWER_SHORT};
 use independent::header::{encode, Code};
 use independent::reading::{read, CODEBOOK, REPORT, THRESHOLDS};
 use independent::stream::{packet_of, packets_of, INDICES, PAIRS};
 use independent::utterance::{bad_packet, image, tables, utterance, Part, Tables};
 use independent::writing::{INVERSE, MULTIFRAME};
+
+const ANSWER: usize = 6;
+
+/// What a reading returns and leaves in the lent memory.
+#[derive(Clone, PartialEq)]
+struct Outcome {
+    number: u32,
+    kept: u32,
+    place: u64,
+    answer: Vec<u64>,
+    index: Vec<u8>,
+    report: Vec<u8>,
+}
 
 struct Check {
     driver: Driver,
@@ -15,33 +28,60 @@ struct Check {
 
 impl Check {
     fn compare(&mut self, name: &str, octets: &[u8], tables: &Tables, rooms: (usize, usize)) {
-        let (index, report) = (self.chance.octets(rooms.0), self.chance.octets(rooms.1));
+        self.compare_answer(name, octets, tables, rooms, ANSWER);
+    }
+
+    /// As above, with an answer of that many numbers.
+    fn compare_answer(&mut self, name: &str, octets: &[u8], tables: &Tables, rooms: (usize, usize), numbers: usize) {
+        let came = self.lend(rooms, numbers);
         let call = Call::kind(b'R').octet(self.driver.mode()).octets(octets).signed(&tables.codebook).signed(&tables.thresholds);
-        let mut back = self.driver.call(call.octets(&index).octets(&report), 8 + 48 + rooms.0 + rooms.1);
-        let (number, kept) = (back.word(), back.word());
-        let answer: [u64; 6] = std::array::from_fn(|_| back.long());
-        let got = (number, kept, answer, back.take(rooms.0).to_vec(), back.take(rooms.1).to_vec());
-        let want = match read(&self.code, octets, &tables.codebook, &tables.thresholds, rooms.0, rooms.1) {
-            Ok(reading) => {
-                self.driver.count_notes(&reading.report);
-                (0, 1, reading.answer, over(&index, &reading.index), over(&report, &reading.report))
-            }
-            Err(refusal) => {
-                let mut answer = [LENT as u64; 6];
-                answer[0] = refusal.place;
-                (refusal.number, 1, answer, index, report)
-            }
+        let call = call.octets(&came.index).octets(&came.report).longs(&came.answer).long(came.place);
+        let mut back = self.driver.call(call, 16 + 8 * numbers + rooms.0 + rooms.1);
+        let got = Outcome {
+            number: back.word(),
+            kept: back.word(),
+            place: back.long(),
+            answer: (0..numbers).map(|_| back.long()).collect(),
+            index: back.take(rooms.0).to_vec(),
+            report: back.take(rooms.1).to_vec(),
         };
+        let want = self.expected(octets, tables, came);
         if got != want {
             let first = |a: &[u8], b: &[u8]| a.iter().zip(b).position(|(x, y)| x != y);
             println!("{name}: octets {octets:02x?}\nthresholds {:?} rooms {rooms:?}", tables.thresholds);
-            println!("library: number {number} kept {kept} answer {answer:?}");
-            println!("independent: number {} kept {} answer {:?}", want.0, want.1, want.2);
-            println!("first other octet of index {:?}, of report {:?}", first(&got.3, &want.3), first(&got.4, &want.4));
+            println!("library: number {} kept {} place {} answer {:?}", got.number, got.kept, got.place, got.answer);
+            println!("independent: number {} kept {} place {} answer {:?}", want.number, want.kept, want.place, want.answer);
+            println!("first other octet of index {:?}, of report {:?}", first(&got.index, &want.index), first(&got.report, &want.report));
             panic!("library and independent version differ");
         }
         self.driver.count(name, 1);
-        self.driver.count(&format!("of these answered with {number:2}"), 1);
+        self.driver.count(&format!("of these answered with {:2}", want.number), 1);
+    }
+
+    /// What is lent: any octets and numbers.
+    fn lend(&mut self, rooms: (usize, usize), numbers: usize) -> Outcome {
+        let (index, report) = (self.chance.octets(rooms.0), self.chance.octets(rooms.1));
+        let answer = (0..numbers).map(|_| self.chance.word()).collect();
+        Outcome { number: 0, kept: 1, place: self.chance.word(), answer, index, report }
+    }
+
+    /// What the independent version returns and leaves of the memory that came.
+    fn expected(&mut self, octets: &[u8], tables: &Tables, came: Outcome) -> Outcome {
+        if came.answer.len() < ANSWER {
+            return Outcome { number: ANSWER_SHORT, ..came };
+        }
+        match read(&self.code, octets, &tables.codebook, &tables.thresholds, came.index.len(), came.report.len()) {
+            Ok(reading) => {
+                self.driver.count_notes(&reading.report);
+                Outcome {
+                    answer: over(&came.answer, &reading.answer),
+                    index: over(&came.index, &reading.index),
+                    report: over(&came.report, &reading.report),
+                    ..came
+                }
+            }
+            Err(refusal) => Outcome { number: refusal.number, place: refusal.place, ..came },
+        }
     }
 
     /// With room to spare for as many multiframes as could be there.
@@ -335,7 +375,7 @@ impl Check {
     /// Octets beyond 32 bits in number; all are zero.
     fn wide(&mut self) {
         for len in [1u64 << 32, (1 << 32) + 144] {
-            let mut back = self.driver.call(Call::kind(b'L').long(len), 8 + 48);
+            let mut back = self.driver.call(Call::kind(b'L').long(len).long(1), 16);
             assert_eq!((back.word(), back.word(), back.long()), (12, 1, 0), "{len} zero octets");
             self.driver.count("more than 2^32 octets", 1);
         }

@@ -1,7 +1,7 @@
 //! Compares the library's packing and unpacking of a stream with the independent version. Arguments: the command that runs the
 //! stream driver.
 use independent::chance::{Chance, SEED};
-use independent::driver::{over, Call, Driver};
+use independent::driver::{over, Call, Driver, DONE, WRONG_LENGTH};
 use independent::stream::{pack, packets_of, stream_of, unpack, INDICES, PAIRS, STREAM};
 
 fn packing(driver: &mut Driver, chance: &mut Chance, name: &str, indices: &[u8], room: usize) {
@@ -9,8 +9,8 @@ fn packing(driver: &mut Driver, chance: &mut Chance, name: &str, indices: &[u8],
     let mut answer = driver.call(Call::kind(b'P').octet(driver.mode()).octets(indices).octets(&lent), 8 + room);
     let got = (answer.word(), answer.word(), answer.take(room).to_vec());
     let want = match pack(indices, room) {
-        Some(stream) => (1, 1, stream),
-        None => (0, 1, lent),
+        Ok(stream) => (DONE, 1, stream),
+        Err(number) => (number, 1, lent),
     };
     assert_eq!(got, want, "{name}: pack {indices:?}");
     driver.count(name, 1);
@@ -23,9 +23,9 @@ fn unpacking(driver: &mut Driver, chance: &mut Chance, name: &str, stream: &[u8]
     let got = (answer.word(), answer.word(), answer.take(rooms.0).to_vec(), answer.take(rooms.1).to_vec());
     let want = if stream.len() == STREAM && rooms == (INDICES, PAIRS) {
         let (new, found) = unpack(stream);
-        (1, 1, over(&indices, &new), over(&notes, &found))
+        (DONE, 1, over(&indices, &new), over(&notes, &found))
     } else {
-        (0, 1, indices, notes)
+        (WRONG_LENGTH, 1, indices, notes)
     };
     assert_eq!(got, want, "{name}: unpack {stream:?}");
     driver.count(name, 1);

@@ -4,15 +4,16 @@ use independent::driver::{over, Call, Driver};
 use independent::writing::{write, MULTIFRAME};
 
 struct Input {
-    rate: u8,
-    kind: u8,
+    rate: u64,
+    kind: u64,
     indices: Vec<u8>,
     room: usize,
 }
 
 fn compare(driver: &mut Driver, chance: &mut Chance, name: &str, input: &Input) {
     let lent = chance.octets(input.room);
-    let call = Call::kind(b'W').octet(driver.mode()).octet(input.rate).octet(input.kind).octets(&input.indices).octets(&lent);
+    let call = Call::kind(b'W').octet(driver.mode()).long(input.rate).long(input.kind).long(chance.word());
+    let call = call.octets(&input.indices).octets(&lent);
     let mut answer = driver.call(call, 16 + input.room);
     let got = (answer.word(), answer.word(), answer.long(), answer.take(input.room).to_vec());
     let (number, want) = match write(input.rate, input.kind, &input.indices, input.room) {
@@ -97,8 +98,8 @@ fn random(driver: &mut Driver, chance: &mut Chance) {
         let mut input = accepted(chance, n);
         for _ in 0..chance.below(4) {
             match chance.below(8) {
-                0 => input.rate = chance.word() as u8 % 5,
-                1 => input.kind = chance.word() as u8 % 4,
+                0 => input.rate = chance.word() % 5,
+                1 => input.kind = chance.word() % 4,
                 2 => input.indices.truncate(input.indices.len() - chance.below(input.indices.len() + 1)),
                 3 => input.room = input.room.saturating_sub(chance.below(200)),
                 4 | 5 if n > 0 => {
@@ -127,7 +128,7 @@ fn wide(driver: &mut Driver) {
         (0, big + 10, (0, 144)),
     ] {
         let want = if indices % 7 != 0 { (2, indices) } else { want };
-        let mut answer = driver.call(Call::kind(b'L').octet(0).octet(0).long(indices).long(room), 16 + 144);
+        let mut answer = driver.call(Call::kind(b'L').long(0).long(0).long(indices).long(room), 16 + 144);
         let got = (answer.word(), answer.word(), answer.long());
         assert_eq!(got, (want.0, 1, want.1), "{indices} index octets, room {room}");
         let image = write(0, 0, &[], 144).ok().filter(|_| want.0 == 0).unwrap_or(vec![0; 144]);
