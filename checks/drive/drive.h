@@ -8,6 +8,9 @@
 #ifndef DRIVE_H
 #define DRIVE_H
 
+#ifndef _GNU_SOURCE
+#define _GNU_SOURCE /* memfd_create */
+#endif
 #include <stddef.h>
 #include <stdint.h>
 #include <stdio.h>

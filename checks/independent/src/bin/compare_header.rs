@@ -1,5 +1,5 @@
 //! Compares the library's header code with the independent version. Arguments: the command that runs the header driver.
-use independent::chance::{Chance, SEED};
+use independent::chance::{seed, Chance};
 use independent::driver::{Call, Driver, DONE, HEADER_UNREADABLE};
 use independent::header::{encode, Code};
 
@@ -37,7 +37,7 @@ fn flips_of(count: usize) -> Vec<u32> {
 }
 
 fn main() {
-    let mut chance = Chance::new(SEED);
+    let mut chance = Chance::new(seed());
     let mut driver = Driver::start();
     let code = Code::new();
     encodings(&mut driver);

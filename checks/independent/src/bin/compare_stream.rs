@@ -1,6 +1,6 @@
 //! Compares the library's packing and unpacking of a stream with the independent version. Arguments: the command that runs the
 //! stream driver.
-use independent::chance::{Chance, SEED};
+use independent::chance::{seed, Chance};
 use independent::driver::{over, Call, Driver, DONE, WRONG_LENGTH};
 use independent::stream::{pack, packets_of, stream_of, unpack, INDICES, PAIRS, STREAM};
 
@@ -31,6 +31,21 @@ fn unpacking(driver: &mut Driver, chance: &mut Chance, name: &str, stream: &[u8]
     driver.count(name, 1);
 }
 
+/// Lengths that are right where they are cut to 32 bits or less; all octets are zero.
+fn wide(driver: &mut Driver) {
+    for power in [8, 16, 32] {
+        let cut = |right: usize| (1u64 << power) + right as u64;
+        for (kind, right) in [(b'p', [STREAM, INDICES, 0]), (b'u', [STREAM, INDICES, PAIRS])] {
+            for long in 0..if kind == b'p' { 2 } else { 3 } {
+                let length = |i: usize| if i == long { cut(right[i]) } else { right[i] as u64 };
+                let call = Call::kind(kind).long(length(0)).long(length(1)).long(length(2));
+                assert_eq!(driver.call(call, 4).word(), WRONG_LENGTH, "a length of 2^{power} more than is right");
+                driver.count("lengths beyond 8, 16 and 32 bits", 1);
+            }
+        }
+    }
+}
+
 fn frames(chance: &mut Chance) -> Vec<u8> {
     (0..24).flat_map(|_| chance.frame()).collect()
 }
@@ -44,8 +59,10 @@ fn flipped(stream: &[u8], packet: usize, flips: u128) -> Vec<u8> {
 fn wrong_lengths(driver: &mut Driver, chance: &mut Chance) {
     for indices in [0, 1, 7, 167, 168, 169, 175, 336] {
         for room in [0, 1, 137, 138, 139, 144] {
-            let list: Vec<u8> = frames(chance).into_iter().cycle().take(indices).collect();
+            let mut list: Vec<u8> = frames(chance).into_iter().cycle().take(indices).collect();
             packing(driver, chance, "pack: lengths one short, one long and others", &list, room);
+            list.iter_mut().for_each(|x| *x |= 64);
+            packing(driver, chance, "pack: the same with wide indices too", &list, room);
         }
     }
     for len in [0, 1, 137, 138, 139, 276] {
@@ -89,8 +106,9 @@ fn damage(driver: &mut Driver, chance: &mut Chance) {
 }
 
 fn main() {
-    let mut chance = Chance::new(SEED);
+    let mut chance = Chance::new(seed());
     let mut driver = Driver::start();
+    wide(&mut driver);
     wrong_lengths(&mut driver, &mut chance);
     edge_indices(&mut driver, &mut chance);
     damage(&mut driver, &mut chance);
