@@ -3,7 +3,7 @@
  * damage of the kinds that the reader is proved to see is named, a hunt ends at the first place that passes, and a reading that hunts is
  * the reading of what the hunts find.
  *
- *   fuzz SECONDS [SEED]            runs for that time and prints how often each answer was given
+ *   fuzz SECONDS [SEED]            runs for that time and prints how often each answer was given; the environment can give SEED too
  *   fuzz 0 SEED ROUND              makes the calls of one round again
  *
  * Each round draws from a generator of its own, made of seed and round, so a failure's round is all that is needed to see it again. */
@@ -784,15 +784,18 @@ static void play_round(void) {
 
 int main(int argc, char **argv) {
     time_t end = time(NULL) + (argc > 1 ? atoi(argv[1]) : 10);
-    if (argc > 2) seed = strtoull(argv[2], NULL, 10);
+    const char *given_seed = argc > 2 ? argv[2] : getenv("SEED");
+    if (given_seed != NULL) seed = strtoull(given_seed, NULL, 10);
+    printf("seed %llu\n", (unsigned long long)seed);
+    fflush(stdout);
     if (argc > 3) {
         round_number = strtoull(argv[3], NULL, 10);
         play_round();
         return 0;
     }
     for (; time(NULL) < end; round_number++) play_round();
-    printf("seed %llu: %llu rounds, %llu utterances read back, %llu damaged images with every damaged pair named, ",
-           (unsigned long long)seed, (unsigned long long)round_number, (unsigned long long)read_back, (unsigned long long)named);
+    printf("%llu rounds, %llu utterances read back, %llu damaged images with every damaged pair named, ",
+           (unsigned long long)round_number, (unsigned long long)read_back, (unsigned long long)named);
     printf("%llu read at any bit\nanswers:", (unsigned long long)hunted);
     for (unsigned i = 0; i < STATUSES; i++)
         if (given[i] > 0) printf(" %u:%llu", i, (unsigned long long)given[i]);

@@ -8,13 +8,14 @@ a word belongs to the one that differs from it in at most two bits. No syndrome,
 Use: header.py COMMAND..   (the command that runs the header driver)
 """
 import itertools
+import os
 import random
 import struct
 import sys
 
 from driver import Driver, numbers
 
-SEED = 201108
+SEED = int(os.environ.get("SEED", "201108"))
 LENT = 0xA55A
 UNREADABLE = 97
 
@@ -128,6 +129,7 @@ def flipped(codeword, places):
 
 def main():
     rng = random.Random(SEED)
+    print("  seed %d" % SEED)
     check = Check(sys.argv[1:])
     codewords = [by_matrix(message) for message in range(65536)]
     for message in range(65536):

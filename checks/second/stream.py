@@ -9,6 +9,7 @@ what it says of damaged ones.
 Use: stream.py COMMAND..   (the command that runs the stream driver)
 """
 import itertools
+import os
 import random
 import struct
 import sys
@@ -17,7 +18,7 @@ from crccheck.crc import Crc4G704
 
 from driver import Driver, numbers, slice_of
 
-SEED = 201108
+SEED = int(os.environ.get("SEED", "201108"))
 GENERATOR = 0b10011  # X^4 + X + 1
 
 
@@ -129,6 +130,7 @@ def bursts(check, part):
 
 def main():
     rng = random.Random(SEED)
+    print("  seed %d" % SEED)
     check = Check(sys.argv[1:])
     one = [[1, 0, 0, 0, 0, 0, 0]] + [[0] * 7] * 23
     parts = check.pack(one)
