@@ -281,3 +281,17 @@ c-face: $(README_WITH)
 	    for std in 'c -std=c99' 'c++ -std=c++11' 'c++ -std=c++20'; do \
 	        $$cc -x $$std $(FACE_WARN) checks/c/face.c checks/c/not_null.c -x none $(README_WITH) $(FACE_WRAP) -o $(FACE) && \
 	        $(FACE) || exit 1; done; done
+
+# --- the Python module
+
+PYTHON_WITH := $(if $(filter literal,$(LIB)),$(BUILD)/libliteral.so,$(SHARED))
+
+.PHONY: python readme-python
+python: $(PYTHON_WITH)
+	DSR_LIBRARY=$(abspath $<) $(PYTHON) -B python/test_dsr.py
+
+readme-python: $(PYTHON_WITH)
+	@mkdir -p $(README)/python
+	.ci/readme README.md python 1 >$(README)/python/talk.py
+	.ci/readme README.md python 1 next >$(README)/python/output
+	DSR_LIBRARY=$(abspath $<) PYTHONPATH=python $(PYTHON) -B $(README)/python/talk.py | diff - $(README)/python/output
