@@ -51,6 +51,11 @@ BINDIR := $(PREFIX)/bin
 LIBDIR := $(PREFIX)/lib
 INCLUDEDIR := $(PREFIX)/include
 MANDIR := $(PREFIX)/share/man
+# Where the files go: below DESTDIR, if one is given.
+INTO_BIN = $(DESTDIR)$(BINDIR)
+INTO_LIB = $(DESTDIR)$(LIBDIR)
+INTO_INCLUDE = $(DESTDIR)$(INCLUDEDIR)
+INTO_MAN = $(DESTDIR)$(MANDIR)
 
 .PHONY: help sample test bench lib dsrlist install uninstall clean packages
 .SECONDARY:
@@ -75,6 +80,22 @@ bench: $(foreach p,$(PARTS),$(BUILD)/$(LIB)/bench-$(p)) ## the library's times a
 lib: $(ARCHIVE) $(SHARED) ## the library: libdsr.a and libdsr.so in target/lib/ARCH
 
 dsrlist: $(DSRLIST) ## the program dsrlist in target/bin/ARCH
+
+install: lib dsrlist ## library, header, dsr.pc, man pages and dsrlist below PREFIX (/usr/local), in DESTDIR
+	install -d $(INTO_BIN) $(INTO_LIB)/pkgconfig $(INTO_INCLUDE) $(INTO_MAN)/man1 $(INTO_MAN)/man3
+	install -m 755 $(DSRLIST) $(INTO_BIN)/
+	install -m 644 $(ARCHIVE) $(INTO_LIB)/
+	install -m 755 $(SHARED) $(INTO_LIB)/
+	ln -sf $(notdir $(SHARED)) $(INTO_LIB)/$(SONAME)
+	ln -sf $(SONAME) $(INTO_LIB)/libdsr.so
+	install -m 644 c/dsr.h $(INTO_INCLUDE)/
+	sed 's|@PREFIX@|$(PREFIX)|; s|@LIBDIR@|$(LIBDIR)|; s|@INCLUDEDIR@|$(INCLUDEDIR)|; s|@VERSION@|$(VERSION)|' c/dsr.pc.in >$(INTO_LIB)/pkgconfig/dsr.pc
+	install -m 644 man/dsrlist.1 $(INTO_MAN)/man1/
+	install -m 644 man/dsr.3 $(INTO_MAN)/man3/
+
+uninstall: ## removes what make install put there
+	rm -f $(INTO_BIN)/dsrlist $(addprefix $(INTO_LIB)/,libdsr.a libdsr.so $(SONAME) $(notdir $(SHARED)) pkgconfig/dsr.pc) \
+	    $(INTO_INCLUDE)/dsr.h $(INTO_MAN)/man1/dsrlist.1 $(INTO_MAN)/man3/dsr.3
 
 clean: ## removes all that was made
 	rm -rf target rust/dsr/target checks/independent/target
@@ -170,7 +191,7 @@ $(BUILD)/libliteral.so: $(BUILD)/libliteral.a
 
 # --- the checks
 
-.PHONY: programs independent independent-build wrapper wrapper-literal example crctable sample-check listing readme-c readme-rust crates-named \
+.PHONY: programs independent independent-build wrapper wrapper-literal example crctable sample-check listing readme-c readme-rust crates-named installed man-pages \
     fuzz drawing drawing-check twin
 
 # What more than one check calls.
@@ -238,6 +259,13 @@ readme-rust: $(README_WITH)
 	    >$(README)/rust/Cargo.toml
 	cd $(README)/rust && $(README_ENV) $(CARGO) run --quiet --offline >got
 	diff $(README)/rust/got $(README)/rust/output
+
+# What make install puts into a folder of its own: the README's C programs are built against it as a user would.
+installed: lib dsrlist
+	.ci/installed $(BUILD)/installed
+
+man-pages:
+	mandoc -Tlint -W warning man/dsrlist.1 man/dsr.3
 
 # docs/DEVELOPING.md has a row for every crate.
 crates-named:
