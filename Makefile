@@ -212,12 +212,12 @@ independent-build:
 independent:
 	cd checks/independent && $(CARGO) test --quiet --offline --release --lib
 
-# The Rust wrapper over the library, and over the literal version.
+# The Rust package over the library, and over the literal version.
 wrapper: $(ARCHIVE)
-	cd rust/dsr && $(CARGO) test --quiet --offline
+	CARGO="$(CARGO)" .ci/wrapper
 
 wrapper-literal: $(BUILD)/libliteral.a
-	cd rust/dsr && DSR_LIB_DIR=$(abspath $(BUILD)) DSR_LIB_NAME=literal $(CARGO) test --quiet --offline --target-dir target/literal
+	CARGO="$(CARGO)" DSR_LIB_DIR=$(abspath $(BUILD)) DSR_LIB_NAME=literal .ci/wrapper $(abspath rust/dsr/target/literal)
 
 # The C example, held to what it has to print.
 example: $(BUILD)/$(LIB)/example
