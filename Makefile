@@ -142,6 +142,13 @@ target/bin/aarch64/dsrlist: target/bin/dsrlist
 	@.ci/packages aarch64
 	@$(TOOLS)gcc $(STATIC) $(@D)/dsrlist.o -o $@
 
+# The writer alone as one object, for a terminal that never reads.
+writer: $(MADE)/dsr_write.o ## the writer alone as one object that wants memset only, target/lib/ARCH/dsr_write.o
+
+$(MADE)/dsr_write.o: $(ARCHIVE)
+	@.ci/packages $(ARCH)
+	@$(TOOLS)ld -r --gc-sections -e dsr_write -u dsr_write $< -o $@
+
 # --- the library, and the literal version in its place
 
 $(BUILD)/library/%: WITH = $(ARCHIVE)
@@ -180,6 +187,9 @@ $(BUILD)/library/fuzz: checks/fuzz/fuzz.c $(LIBRARY_NEEDS)
 $(BUILD)/literal/fuzz: checks/fuzz/fuzz.c $(LITERAL_NEEDS)
 	$(call compile,-O1 $(SANITIZE))
 
+$(BUILD)/library/stack: checks/terminal/stack.c $(LIBRARY_NEEDS)
+	$(call compile,-O2)
+
 # As an archive and as a shared library, for the Rust crate and the Python module.
 $(BUILD)/libliteral.a: $(LITERAL_NEEDS)
 	@mkdir -p $(BUILD)/objects
@@ -192,7 +202,7 @@ $(BUILD)/libliteral.so: $(BUILD)/libliteral.a
 # --- the checks
 
 .PHONY: programs independent independent-build wrapper wrapper-literal example crctable sample-check listing readme-c readme-rust crates-named installed man-pages \
-    fuzz drawing drawing-check twin
+    fuzz drawing drawing-check twin writer writer-size writer-alone stack
 
 # What more than one check calls.
 programs: $(foreach l,library literal,$(foreach p,$(PARTS),$(BUILD)/$(l)/drive-$(p))) $(BUILD)/literal/sample-list $(BUILD)/libliteral.a
@@ -266,6 +276,22 @@ installed: lib dsrlist
 
 man-pages:
 	mandoc -Tlint -W warning man/dsrlist.1 man/dsr.3
+
+# Code and tables together. The whole is what a program that calls every function links.
+writer-size: $(MADE)/dsr_write.o $(ARCHIVE) ## octets of code and tables of the writer alone and of the whole library
+	@$(TOOLS)size $(MADE)/dsr_write.o | awk 'NR == 2 { print "the writer alone, $(ARCH): " $$1 " octets" }'
+	@$(TOOLS)size $(ARCHIVE) | awk 'NR == 2 { print "the whole library, $(ARCH): " $$1 " octets" }'
+
+# On a bare machine: it wants memset and nothing else, has no data of its own, and writes what it has to with no C library.
+writer-alone: $(MADE)/dsr_write.o writer-size
+	[ "$$($(TOOLS)nm -u $< | sed 's/ *U //')" = memset ]
+	[ "$$($(TOOLS)size $< | awk 'NR == 2 { print $$2 + $$3 }')" = 0 ]
+	@mkdir -p $(BUILD)/library
+	$(TOOLS)gcc $(WARN) -O2 -ffreestanding -nostdlib -static checks/terminal/freestanding.c $< -o $(BUILD)/library/freestanding
+	$(RUN) $(BUILD)/library/freestanding
+
+stack: $(BUILD)/library/stack ## octets of stack that a writing, a reading and a hunt used, on a painted stack
+	@$(RUN) $<
 
 # docs/DEVELOPING.md has a row for every crate.
 crates-named:
