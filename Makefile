@@ -322,7 +322,9 @@ twin: target/staticlib/libdsr.a
 
 # With each compiler that is there, under more warnings than a caller will have. A dropped status has to be warned of.
 FACE := $(BUILD)/$(LIB)/face
+comma := ,
 FACE_WARN := -Wall -Wextra -Wpedantic -Wconversion -Wsign-conversion -Werror -O2
+FACE_WRAP := $(patsubst %,-Wl$(comma)--wrap=dsr_%,write read hunt read_bits)
 
 .PHONY: c-face
 c-face: $(README_WITH)
@@ -331,4 +333,5 @@ c-face: $(README_WITH)
 	    $$cc -std=c99 -Wall -Werror -Wno-unused-result -c checks/c/dropped.c -o /dev/null || exit 1; \
 	    [ "$$($$cc -std=c99 -c checks/c/dropped.c -o /dev/null 2>&1 | grep -c 'warning:.*unused.result')" = 4 ] || exit 1; \
 	    for std in 'c -std=c99' 'c++ -std=c++11' 'c++ -std=c++20'; do \
-	        $$cc -x $$std $(FACE_WARN) checks/c/face.c -x none $(README_WITH) -o $(FACE) && $(FACE) || exit 1; done; done
+	        $$cc -x $$std $(FACE_WARN) checks/c/face.c checks/c/not_null.c -x none $(README_WITH) $(FACE_WRAP) -o $(FACE) && \
+	        $(FACE) || exit 1; done; done
