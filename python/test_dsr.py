@@ -104,6 +104,9 @@ class Reading(Case):
         notes = dsr.read(self.image + dsr.write(0, 0, frames(1)), ZERO).header_notes()
         self.assertEqual(notes[2], dsr.HeaderNote(0, True, True))
         self.assertFalse(notes[2].lost)
+        self.assertEqual(dsr.read(self.image * 2, ZERO).header_notes()[2], dsr.HeaderNote(0, True, False))
+        other = dsr.header_encode(3 | 3 << 3).to_bytes(4, "little")  # 16 kHz, and the right counter
+        self.assertEqual(dsr.read(self.image + EXAMPLE[:2] + other + EXAMPLE[6:], ZERO).header_notes()[2], dsr.HeaderNote(0, False, True))
 
     def test_end_missing(self):
         reading = dsr.read(self.image[:144], ZERO)
