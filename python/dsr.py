@@ -375,12 +375,13 @@ def _load():
     if named:
         return ctypes.CDLL(named)
     made = pathlib.Path(__file__).resolve().parent.parent / "target" / "lib" / platform.machine() / "libdsr.so"
+    reasons = []
     for file in ("libdsr.so.0", str(made)):
         try:
             return ctypes.CDLL(file)
-        except OSError:
-            continue
-    raise ImportError(f"no libdsr.so.0 is installed and there is no {made}: run make lib, or name the file in DSR_LIBRARY")
+        except OSError as error:
+            reasons.append(str(error))
+    raise ImportError("run make lib, install the library, or name its file in DSR_LIBRARY: " + "; ".join(reasons))
 
 
 _library = _declare(_load())

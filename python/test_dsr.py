@@ -5,8 +5,10 @@ import os
 import pathlib
 import pickle
 import re
+import shutil
 import subprocess
 import sys
+import tempfile
 import unittest
 
 import dsr
@@ -104,6 +106,9 @@ class Reading(Case):
         notes = dsr.read(self.image + dsr.write(0, 0, frames(1)), ZERO).header_notes()
         self.assertEqual(notes[2], dsr.HeaderNote(0, True, True))
         self.assertFalse(notes[2].lost)
+        self.assertEqual(dsr.read(self.image * 2, ZERO).header_notes()[2], dsr.HeaderNote(0, True, False))
+        other = dsr.header_encode(3 | 3 << 3).to_bytes(4, "little")  # 16 kHz, and the right counter
+        self.assertEqual(dsr.read(self.image + EXAMPLE[:2] + other + EXAMPLE[6:], ZERO).header_notes()[2], dsr.HeaderNote(0, False, True))
 
     def test_end_missing(self):
         reading = dsr.read(self.image[:144], ZERO)
@@ -272,14 +277,21 @@ class Numpy(Case):
 
 
 class Module(unittest.TestCase):
-    def run_alone(self, program, **environment):
-        return subprocess.run([sys.executable, "-c", program], cwd=pathlib.Path(__file__).parent, env={**os.environ, **environment},
-                              capture_output=True, text=True)
+    def run_alone(self, program, folder=pathlib.Path(__file__).resolve().parent, **environment):
+        return subprocess.run([sys.executable, "-B", "-c", program], cwd=folder, env={**os.environ, **environment}, capture_output=True,
+                              text=True)
 
     def test_library_that_is_named_is_taken(self):
         done = self.run_alone("import dsr", DSR_LIBRARY="/no/such/libdsr.so")
         self.assertNotEqual(done.returncode, 0)
         self.assertIn("/no/such/libdsr.so", done.stderr)
+
+    def test_library_that_is_missing_is_said(self):
+        with tempfile.TemporaryDirectory() as folder:
+            shutil.copy(dsr.__file__, folder)
+            done = self.run_alone("import dsr", folder, DSR_LIBRARY="", LD_LIBRARY_PATH="")
+        if done.returncode != 0:  # else one is installed
+            self.assertIn("ImportError: run make lib", done.stderr)
 
     def test_numpy_is_not_imported(self):
         done = self.run_alone("import sys, dsr; dsr.read(dsr.write(0, 0, b''), dsr.Tables.zero()); print('numpy' in sys.modules)")
