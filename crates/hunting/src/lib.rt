@@ -13,6 +13,7 @@ ghost use Prim.Native.Nat.{_+_, _*_, _≤_, _<_};
 ghost use lib.ListN.{length, take};
 ghost use Rattle.lists.specs.Parts.{over};
 ghost use Rattle.layout.specs.Layout.{multiframeOctets, mostMultiframes};
+ghost use Rattle.consistency.specs.Tables.{tablesOf};
 ghost use Rattle.bits.specs.Bits.{bits};
 ghost use Rattle.hunt.specs.Hunt.{syncBits, multiframeBits, searched};
 ghost use Rattle.reader.specs.Reading.{reading};
@@ -116,7 +117,7 @@ fn read_front(
     report: &mut [u8],
 ) -> Answer
     requires { ⌜ (count ≤ mostMultiframes) × (multiframeOctets * mostMultiframes ≤ length (now image)) ⌝ }
-    ensures { λ r. ⌜ outcome r (now (index .exit)) (now (report .exit)) ≡ counted (reading (take (multiframeOctets * count) (now (image .entry))) (now (codebook .entry)) (now (thresholds .entry)) (now (index .entry)) (now (report .entry))) outside tested ⌝ }
+    ensures { λ r. ⌜ outcome r (now (index .exit)) (now (report .exit)) ≡ counted (reading (take (multiframeOctets * count) (now (image .entry))) (tablesOf (now (codebook .entry)) (now (thresholds .entry))) (now (index .entry)) (now (report .entry))) outside tested ⌝ }
 {
     let end = MultiframeLayout::OCTETS * count;
     match reader::read(&image[..end], codebook, thresholds, index, report) {
@@ -141,7 +142,7 @@ fn read_found(
     report: &mut [u8],
 ) -> Answer
     requires { ⌜ least ≤ syncBits ⌝ }
-    ensures { λ r. ⌜ outcome r (now (index .exit)) (now (report .exit)) ≡ readingFound (now (octets .entry)) from least (now (codebook .entry)) (now (thresholds .entry)) (now (index .entry)) (now (report .entry)) ⌝ }
+    ensures { λ r. ⌜ outcome r (now (index .exit)) (now (report .exit)) ≡ readingFound (now (octets .entry)) from least (tablesOf (now (codebook .entry)) (now (thresholds .entry))) (now (index .entry)) (now (report .entry)) ⌝ }
 {
     let mut image = [0u8; IMAGE];
     match gather(octets, from, least, &mut image) {
@@ -175,7 +176,7 @@ pub fn read(
     index: &mut [u8],
     report: &mut [u8],
 ) -> Answer
-    ensures { λ r. ⌜ outcome r (now (index .exit)) (now (report .exit)) ≡ huntingReading (now (octets .entry)) from least (now (codebook .entry)) (now (thresholds .entry)) (now (index .entry)) (now (report .entry)) ⌝ }
+    ensures { λ r. ⌜ outcome r (now (index .exit)) (now (report .exit)) ≡ huntingReading (now (octets .entry)) from least (tablesOf (now (codebook .entry)) (now (thresholds .entry))) (now (index .entry)) (now (report .entry)) ⌝ }
 {
     if codebook.len() != ReadingLayout::CODEBOOK {
         return Answer::Refused(Hunting::Octets(Reading::WrongTables));

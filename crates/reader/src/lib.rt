@@ -12,7 +12,8 @@ ghost use mathlib.Core.Path.{_≡_};
 ghost use Prim.Native.Nat.{_+_, _*_, _≤_, _<_};
 ghost use lib.ListN.{length, getD};
 ghost use Rattle.lists.specs.Parts.{part, over};
-ghost use Rattle.layout.specs.Layout.{multiframePairs, mostMultiframes, indexOctets, reportOctets, codebookNumbers, thresholdNumbers};
+ghost use Rattle.layout.specs.Layout.{multiframePairs, mostMultiframes, indexOctets, reportOctets};
+ghost use Rattle.consistency.specs.Tables.{tablesOf, RightTables};
 ghost use Rattle.cutting.specs.Laws.{Placed};
 ghost use Rattle.settling.specs.Stored.{packAll, Mended, opened};
 ghost use Rattle.carrier.specs.Carrier.{pairCount};
@@ -86,10 +87,10 @@ fn decide(
     notes: &mut [u8],
 ) -> Verdict
     requires { ⌜ Placed (now octets) (now places) × (length (now notes) ≡ pairCount (now places)) × (length (now places) ≤ mostMultiframes) × (length (now headers) ≡ length (now places)) ⌝ }
-    requires { ⌜ (length (now codebook) ≡ codebookNumbers) × (length (now thresholds) ≡ thresholdNumbers) ⌝ }
-    ensures answer { λ r. ⌜ r ≡ wholeVerdict (now (octets .entry)) (now (codebook .entry)) (now (thresholds .entry)) index report (now (places .entry)) ⌝ }
+    requires { ⌜ RightTables (tablesOf (now codebook) (now thresholds)) ⌝ }
+    ensures answer { λ r. ⌜ r ≡ wholeVerdict (now (octets .entry)) (tablesOf (now (codebook .entry)) (now (thresholds .entry))) index report (now (places .entry)) ⌝ }
     ensures headers { λ r. ⌜ Kept (packAll (now (octets .entry)) (now (places .entry)) (length (now (places .entry)))) (now (headers .exit)) r ⌝ }
-    ensures notes { λ r. ⌜ Kept (receivedNotes (now (octets .entry)) (now (places .entry)) (now (codebook .entry)) (now (thresholds .entry))) (now (notes .exit)) r ⌝ }
+    ensures notes { λ r. ⌜ Kept (receivedNotes (now (octets .entry)) (now (places .entry)) (tablesOf (now (codebook .entry)) (now (thresholds .entry)))) (now (notes .exit)) r ⌝ }
 {
     if places.len() == 0 {
         return Verdict::Refuse(Reading::Empty {
@@ -189,8 +190,8 @@ fn read_found(
     report: &mut [u8],
 ) -> Answer
     requires { ⌜ Placed (now octets) (now places) × (length (now places) ≤ mostMultiframes) ⌝ }
-    requires { ⌜ (length (now codebook) ≡ codebookNumbers) × (length (now thresholds) ≡ thresholdNumbers) ⌝ }
-    ensures { λ r. ⌜ outcome r (now (index .exit)) (now (report .exit)) ≡ readingFound (now (octets .entry)) (now (codebook .entry)) (now (thresholds .entry)) (now (index .entry)) (now (report .entry)) (now (places .entry)) ⌝ }
+    requires { ⌜ RightTables (tablesOf (now codebook) (now thresholds)) ⌝ }
+    ensures { λ r. ⌜ outcome r (now (index .exit)) (now (report .exit)) ≡ readingFound (now (octets .entry)) (tablesOf (now (codebook .entry)) (now (thresholds .entry))) (now (index .entry)) (now (report .entry)) (now (places .entry)) ⌝ }
 {
     let m = places.len();
     let pairs = MultiframeLayout::PAIRS * m;
@@ -229,9 +230,9 @@ pub fn read(
     index: &mut [u8],
     report: &mut [u8],
 ) -> Answer
-    ensures all { λ r. ⌜ outcome r (now (index .exit)) (now (report .exit)) ≡ reading (now (octets .entry)) (now (codebook .entry)) (now (thresholds .entry)) (now (index .entry)) (now (report .entry)) ⌝ }
-    ensures number { λ r. ⌜ answerNumber r ≡ answerNumber (reading (now (octets .entry)) (now (codebook .entry)) (now (thresholds .entry)) (now (index .entry)) (now (report .entry)) .answer) ⌝ }
-    ensures values { λ r. ⌜ answerValues r ≡ answerValues (reading (now (octets .entry)) (now (codebook .entry)) (now (thresholds .entry)) (now (index .entry)) (now (report .entry)) .answer) ⌝ }
+    ensures all { λ r. ⌜ outcome r (now (index .exit)) (now (report .exit)) ≡ reading (now (octets .entry)) (tablesOf (now (codebook .entry)) (now (thresholds .entry))) (now (index .entry)) (now (report .entry)) ⌝ }
+    ensures number { λ r. ⌜ answerNumber r ≡ answerNumber (reading (now (octets .entry)) (tablesOf (now (codebook .entry)) (now (thresholds .entry))) (now (index .entry)) (now (report .entry)) .answer) ⌝ }
+    ensures values { λ r. ⌜ answerValues r ≡ answerValues (reading (now (octets .entry)) (tablesOf (now (codebook .entry)) (now (thresholds .entry))) (now (index .entry)) (now (report .entry)) .answer) ⌝ }
 {
     if codebook.len() != ReadingLayout::CODEBOOK {
         return Answer::Refused(Reading::WrongTables);
