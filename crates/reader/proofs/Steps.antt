@@ -90,14 +90,15 @@ note-on ns l m from to j x h room e size em =
     behind l to j 1 (part from j ns) (x ∷ []) (omega arith) n em s ∙ ap (over l to (j + 1)) (sym t)
 
 -- a header note and the twelve notes behind it
-pub section-is : (headers ns l m : List ℕ) (c k x : ℕ) → reportOctets * k + reportOctets ≤ length l → x ≡ headerNote c k (opened (getD headers k 0))
-    → m ≡ over (set l (reportOctets * k) x) (reportOctets * k + 1) multiframePairs (part (firstPair k) multiframePairs ns)
+pub section-is : (headers ns l m : List ℕ) (c k x first : ℕ) → reportOctets * k + reportOctets ≤ length l → x ≡ headerNote c k (opened (getD headers k 0))
+    → first ≡ firstPair k → m ≡ over (set l (reportOctets * k) x) (reportOctets * k + 1) multiframePairs (part first multiframePairs ns)
     → m ≡ over l (reportOctets * k) reportOctets (section headers ns c k)
 unfolding section
-section-is headers ns l m c k x room e em =
+section-is headers ns l m c k x first room e ef em =
     let h = headerNote c k (opened (getD headers k 0)) in
     let s : set l (13 * k) x ≡ over l (13 * k) 1 (h ∷ []) = set-over l (13 * k) x (omega arith) ∙ ap (λ (y : ℕ). over l (13 * k) 1 (y ∷ [])) e in
-    behind l (13 * k) 1 12 (h ∷ []) (part (12 * k) 12 ns) (omega arith) refl s em
+    behind l (13 * k) 1 12 (h ∷ []) (part (12 * k) 12 ns) (omega arith) refl s
+    (em ∙ ap (λ (f : ℕ). over (set l (13 * k) x) (13 * k + 1) 12 (part f 12 ns)) ef)
 
 length-section : (headers ns : List ℕ) (c k : ℕ) → firstPair k + multiframePairs ≤ length ns → length (section headers ns c k) ≡ reportOctets
 unfolding section

@@ -1,6 +1,6 @@
 -- How the code goes about a reading: what the contracts of its private functions cite, and its first tests. Nothing that 01 says stands here.
 -- Assumes nothing.
-use Prim.Native.Nat.{ℕ, _*_}
+use Prim.Native.Nat.{ℕ, _*_, _≤_}
 use mathlib.Core.Path.{_≡_, ap, _∙_}
 use mathlib.Core.List.{List, _∷_}
 use lib.ListN.{length, getD}
@@ -8,7 +8,7 @@ use lib.Dec.{ltb, eqb}
 use Rattle.lists.specs.Tests.{when}
 use Rattle.lists.specs.Parts.{part}
 use Rattle.lists.specs.Rows.{joined}
-use Rattle.layout.specs.Layout.{multiframePairs, indexOctets, reportOctets, codebookNumbers, thresholdNumbers, firstPair}
+use Rattle.layout.specs.Layout.{multiframePairs, mostMultiframes, indexOctets, reportOctets, codebookNumbers, thresholdNumbers, firstPair}
 use Rattle.consistency.specs.Tables.{Tables}
 use Rattle.header.specs.Message.{rateOf, expOf}
 use Rattle.settling.specs.Settling.{headerNote}
@@ -37,6 +37,11 @@ Kept l m (Refuse r) = Unit
 Kept l m (Accept c) = m ≡ l
 
 -- ---- the report, from the headers and notes in arrays
+-- at most 255 headers, twelve notes for each, and room for their report
+abbrev pub Reportable : List ℕ → List ℕ → List ℕ → Type 0
+Reportable headers ns report =
+    (length headers ≤ mostMultiframes) × (length ns ≡ multiframePairs * length headers) × (reportOctets * length headers ≤ length report)
+
 unfoldable pub section : List ℕ → List ℕ → ℕ → ℕ → List ℕ
 section headers ns c k = headerNote c k (opened (getD headers k 0)) ∷ part (firstPair k) multiframePairs ns
 
