@@ -25,13 +25,13 @@ use Rattle.dsr_demands.specs.Called.{Call, called, took, place-is, outpu
 use Rattle.dsr_demands.specs.Calls.{beyond, write-zero, read-success, read-zero}
 
 -- ---- READS BACK
-module _ (rate kind : ℕ) (indices out : List ℕ) (codebook thresholds : List ℤ) (index report answer : List ℕ) where
+module _ (rate kind : ℕ) (indices out : List ℕ) (codebook thresholds : List ℤ) (index report answer : List ℕ) (place : ℕ) where
   abbrev pub wrote : WriteReturned
   wrote = dsrWrite rate kind indices out
 
   -- the octets written are read
   abbrev pub back : Returned
-  back = dsrRead (take (wrote .place) (wrote .output)) codebook thresholds index report answer
+  back = dsrRead (take (wrote .place) (wrote .output)) codebook thresholds index report answer place
 
   pub record BackPremises : Type 0 where
     -- what a caller lends are octets
@@ -45,6 +45,7 @@ module _ (rate kind : ℕ) (indices out : List ℕ) (codebook thresholds : List 
     pub octets : wrote .place ≡ multiframeOctets * multiframesFor (frameCount indices)
     pub output-beyond : drop (wrote .place) (wrote .output) ≡ drop (wrote .place) out
     pub number : back .number ≡ 0
+    pub place-stays : back .place ≡ place
     -- rate, type, multiframes, speech, bad, end
     pub numbers : back .answer ≡ over answer 0 answerNumbers (rate ∷ kind ∷ multiframesFor (frameCount indices) ∷ frameCount indices ∷ 0 ∷ 1 ∷ [])
     -- every frame octet for octet, zeros where it was padding, and octets beyond as they came
@@ -78,8 +79,8 @@ module _ (rate kind : ℕ) (indices out : List ℕ) (codebook thresholds : List 
     o-is : R.result u codebook thresholds out index report ≡ o
     o-is = ap (λ (k : ℕ). reading (take k (wrote .output)) codebook thresholds index report) (sym (place-is rate kind indices out call))
 
-    back-is : back ≡ returned 0 (o .index) (o .report) (over answer 0 answerNumbers (summaryNumbers (spoken u)))
-    back-is = read-success answer index report o (p .numbers) (spoken u) (ap (λ (x : Outcome). x .answer) (sym o-is) ∙ b .succeeds)
+    back-is : back ≡ returned 0 (o .index) (o .report) (over answer 0 answerNumbers (summaryNumbers (spoken u))) place
+    back-is = read-success answer place index report o (p .numbers) (spoken u) (ap (λ (x : Outcome). x .answer) (sym o-is) ∙ b .succeeds)
 
     index-is : back .index ≡ over index 0 (indexOctets * m) (padded u)
     index-is = ap (λ (x : Returned). x .index) back-is ∙ ap (λ (x : Outcome). x .index) (sym o-is) ∙ b .frames
@@ -96,6 +97,7 @@ module _ (rate kind : ℕ) (indices out : List ℕ) (codebook thresholds : List 
       octets = place-is rate kind indices out call;
       output-beyond = output-beyond-is rate kind indices out call;
       number = ap (λ (x : Returned). x .number) back-is;
+      place-stays = ap (λ (x : Returned). x .place) back-is;
       numbers = ap (λ (x : Returned). x .answer) back-is;
       frames = λ i h. index-octet i (omega (arith, whole-frames u));
       padding = λ i l h. index-octet i h ∙ List·getD-eq-default indices 0 l;
@@ -108,14 +110,14 @@ module _ (rate kind : ℕ) (indices out : List ℕ) (codebook thresholds : List 
           ∙ beyond report (replicate (reportOctets * m) 0) (reportOctets * m) (p .lent .report-room) (length-replicate (reportOctets * m) 0);
     }
 
-pub c-reads-back : (rate kind : ℕ) (indices out : List ℕ) (codebook thresholds : List ℤ) (index report answer : List ℕ)
-    → BackPremises rate kind indices out codebook thresholds index report answer → ReadBack rate kind indices out codebook thresholds index report answer
+pub c-reads-back : (rate kind : ℕ) (indices out : List ℕ) (codebook thresholds : List ℤ) (index report answer : List ℕ) (place : ℕ)
+    → BackPremises rate kind indices out codebook thresholds index report answer place → ReadBack rate kind indices out codebook thresholds index report answer place
 c-reads-back = proof
 
 -- ---- WRITES AGAIN
-module _ (s : List ℕ) (codebook thresholds : List ℤ) (index report answer output : List ℕ) where
+module _ (s : List ℕ) (codebook thresholds : List ℤ) (index report answer : List ℕ) (place : ℕ) (output : List ℕ) where
   abbrev pub got : Returned
-  got = dsrRead s codebook thresholds index report answer
+  got = dsrRead s codebook thresholds index report answer place
 
   -- the settings and the first `speech` frames of the index buffer, written
   abbrev pub again : WriteReturned
@@ -136,13 +138,13 @@ module _ (s : List ℕ) (codebook thresholds : List ℤ) (index report answer ou
 
   module _ (p : AgainPremises) where
     z : (answerNumbers ≤ length answer) × ((g : Summary) × (reading s codebook thresholds index report .answer ≡ Read g))
-    z = read-zero answer index report (reading s codebook thresholds index report) (p .number)
+    z = read-zero answer place index report (reading s codebook thresholds index report) (p .number)
 
     abbrev g : Summary
     g = z .1 .0
 
-    got-is : got ≡ returned 0 (reading s codebook thresholds index report .index) (reading s codebook thresholds index report .report) (over answer 0 answerNumbers (summaryNumbers g))
-    got-is = read-success answer index report (reading s codebook thresholds index report) (z .0) g (z .1 .1)
+    got-is : got ≡ returned 0 (reading s codebook thresholds index report .index) (reading s codebook thresholds index report .report) (over answer 0 answerNumbers (summaryNumbers g)) place
+    got-is = read-success answer place index report (reading s codebook thresholds index report) (z .0) g (z .1 .1)
 
     at : (k : ℕ) → getD (got .answer) k 0 ≡ getD (over answer 0 answerNumbers (summaryNumbers g)) k 0
     at k = ap (λ (x : Returned). getD (x .answer) k 0) got-is
@@ -176,6 +178,6 @@ module _ (s : List ℕ) (codebook thresholds : List ℤ) (index report answer ou
       same-octets = ap (λ (w : WriteReturned). w .output) again-is ∙ a .same-octets;
     }
 
-pub c-writes-again : (s : List ℕ) (codebook thresholds : List ℤ) (index report answer output : List ℕ)
-    → AgainPremises s codebook thresholds index report answer output → WrittenAgain s codebook thresholds index report answer output
+pub c-writes-again : (s : List ℕ) (codebook thresholds : List ℤ) (index report answer : List ℕ) (place : ℕ) (output : List ℕ)
+    → AgainPremises s codebook thresholds index report answer place output → WrittenAgain s codebook thresholds index report answer place output
 c-writes-again = written-again

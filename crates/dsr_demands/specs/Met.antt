@@ -50,19 +50,19 @@ module _ (u : Utterance) where
   call-met = record { small = u .small; written = ap (λ (o : W.Outcome). W.numberOf (o .answer)) wrote-is }
 
   -- READS BACK: every utterance
-  pub back-met : BackPremises (u .settings .rate) (u .settings .kind) (u .indices) roomFor zeroBook zeroThresholds (indexFor (multiframesOf u)) (reportFor (multiframesOf u)) six
+  pub back-met : BackPremises (u .settings .rate) (u .settings .kind) (u .indices) roomFor zeroBook zeroThresholds (indexFor (multiframesOf u)) (reportFor (multiframesOf u)) six 0
   back-met = record { small = u .small; written = call-met .written; lent = lent-zeros (multiframesOf u); numbers = lit≤ tt }
 
   -- WRITES AGAIN: every image
-  pub again-met : AgainPremises (imageOf u) zeroBook zeroThresholds (indexFor (multiframesOf u)) (reportFor (multiframesOf u)) six roomFor
+  pub again-met : AgainPremises (imageOf u) zeroBook zeroThresholds (indexFor (multiframesOf u)) (reportFor (multiframesOf u)) six 0 roomFor
   again-met =
       let a = writes-again-met u in
       let i = indexFor (multiframesOf u) in
       let r = reportFor (multiframesOf u) in
       let o = reading (imageOf u) zeroBook zeroThresholds i r in
-      let e : dsrRead (imageOf u) zeroBook zeroThresholds i r six ≡ returned 0 (o .index) (o .report) (over six 0 answerNumbers (summaryNumbers (spoken u))) =
-      read-success six i r o (lit≤ tt) (spoken u) (a .succeeds) in
-      let f : (k : ℕ) → getD (dsrRead (imageOf u) zeroBook zeroThresholds i r six .answer) k 0 ≡ getD (over six 0 answerNumbers (summaryNumbers (spoken u))) k 0 =
+      let e : dsrRead (imageOf u) zeroBook zeroThresholds i r six 0 ≡ returned 0 (o .index) (o .report) (over six 0 answerNumbers (summaryNumbers (spoken u))) 0 =
+      read-success six 0 i r o (lit≤ tt) (spoken u) (a .succeeds) in
+      let f : (k : ℕ) → getD (dsrRead (imageOf u) zeroBook zeroThresholds i r six 0 .answer) k 0 ≡ getD (over six 0 answerNumbers (summaryNumbers (spoken u))) k 0 =
       λ k. ap (λ (x : Returned). getD (x .answer) k 0) e in
       record {
         small = a .small;
@@ -71,7 +71,7 @@ module _ (u : Utterance) where
         ended = f 5;
         no-inverses = a .no-inverses ∙ ap (λ (n : ℕ). multiframeOctets * n) (sym (f 2));
         accepts =
-            ap₂ (λ (x y : ℕ). dsrWrite x y (take (frameIndices * getD (dsrRead (imageOf u) zeroBook zeroThresholds i r six .answer) 3 0) (dsrRead (imageOf u) zeroBook zeroThresholds i r six .index)) roomFor .number) (f 0) (f 1)
+            ap₂ (λ (x y : ℕ). dsrWrite x y (take (frameIndices * getD (dsrRead (imageOf u) zeroBook zeroThresholds i r six 0 .answer) 3 0) (dsrRead (imageOf u) zeroBook zeroThresholds i r six 0 .index)) roomFor .number) (f 0) (f 1)
             ∙ ap₂ (λ (n : ℕ) (l : List ℕ). dsrWrite (u .settings .rate) (u .settings .kind) (take (frameIndices * n) l) roomFor .number) (f 3) (ap (λ (x : Returned). x .index) e)
             ∙ ap W.numberOf (a .accepts);
       }
@@ -83,11 +83,11 @@ module _ (u : Utterance) where
 
 -- NAMES THE DAMAGE: two multiframes with two flips in each header, a burst and two flips at distance 14 in packets of each, at dsr_read
 pub named-24 : Tells says24 (hurtImage says24) zeroBook zeroThresholds
-    (dsrRead (hurtImage says24) zeroBook zeroThresholds (indexFor (multiframesOf says24)) (reportFor (multiframesOf says24)) six .number)
-    (dsrRead (hurtImage says24) zeroBook zeroThresholds (indexFor (multiframesOf says24)) (reportFor (multiframesOf says24)) six .answer)
-    (dsrRead (hurtImage says24) zeroBook zeroThresholds (indexFor (multiframesOf says24)) (reportFor (multiframesOf says24)) six .index)
-    (dsrRead (hurtImage says24) zeroBook zeroThresholds (indexFor (multiframesOf says24)) (reportFor (multiframesOf says24)) six .report)
-named-24 = c-names-the-damage says24 (hurtImage says24) zeroBook zeroThresholds (indexFor (multiframesOf says24)) (reportFor (multiframesOf says24)) six names-says24 (lit≤ tt) .0
+    (dsrRead (hurtImage says24) zeroBook zeroThresholds (indexFor (multiframesOf says24)) (reportFor (multiframesOf says24)) six 0 .number)
+    (dsrRead (hurtImage says24) zeroBook zeroThresholds (indexFor (multiframesOf says24)) (reportFor (multiframesOf says24)) six 0 .answer)
+    (dsrRead (hurtImage says24) zeroBook zeroThresholds (indexFor (multiframesOf says24)) (reportFor (multiframesOf says24)) six 0 .index)
+    (dsrRead (hurtImage says24) zeroBook zeroThresholds (indexFor (multiframesOf says24)) (reportFor (multiframesOf says24)) six 0 .report)
+named-24 = c-names-the-damage says24 (hurtImage says24) zeroBook zeroThresholds (indexFor (multiframesOf says24)) (reportFor (multiframesOf says24)) six 0 names-says24 (lit≤ tt) .0
 
 -- and at dsr_read_bits, at bit 3, with four flips in each sync besides
 pub aired-24 : Tells says24 (together says24 (aired says24) 3) zeroBook zeroThresholds

@@ -114,25 +114,26 @@ beyond-both s codebook thresholds index report g e =
     )
 
 -- ---- dsr_read
-module _ (s : List ℕ) (codebook thresholds : List ℤ) (index report answer : List ℕ) where
+module _ (s : List ℕ) (codebook thresholds : List ℤ) (index report answer : List ℕ) (place : ℕ) where
   abbrev pub got : Returned
-  got = dsrRead s codebook thresholds index report answer
+  got = dsrRead s codebook thresholds index report answer place
 
   abbrev o : Outcome
   o = reading s codebook thresholds index report
 
-  -- octets beyond both parts and numbers beyond the six are as they came
+  -- octets beyond both parts, numbers beyond the six and the place are as they came
   pub record Stays : Type 0 where
     pub index-beyond : drop (indexOctets * getD (got .answer) 2 0) (got .index) ≡ drop (indexOctets * getD (got .answer) 2 0) index
     pub report-beyond : drop (reportOctets * getD (got .answer) 2 0) (got .report) ≡ drop (reportOctets * getD (got .answer) 2 0) report
     pub answer-beyond : drop answerNumbers (got .answer) ≡ drop answerNumbers answer
+    pub place-stays : got .place ≡ place
 
   module _ (room : answerNumbers ≤ length answer) (g : Summary) (e : o .answer ≡ Read g) where
-    pub got-is : dsrRead s codebook thresholds index report answer
-        ≡ returned 0 (reading s codebook thresholds index report .index) (reading s codebook thresholds index report .report) (over answer 0 answerNumbers (summaryNumbers g))
-    got-is = read-success answer index report o room g e
+    pub got-is : dsrRead s codebook thresholds index report answer place
+        ≡ returned 0 (reading s codebook thresholds index report .index) (reading s codebook thresholds index report .report) (over answer 0 answerNumbers (summaryNumbers g)) place
+    got-is = read-success answer place index report o room g e
 
-    pub at : (k : ℕ) → getD (dsrRead s codebook thresholds index report answer .answer) k 0 ≡ getD (over answer 0 answerNumbers (summaryNumbers g)) k 0
+    pub at : (k : ℕ) → getD (dsrRead s codebook thresholds index report answer place .answer) k 0 ≡ getD (over answer 0 answerNumbers (summaryNumbers g)) k 0
     at k = ap (λ (x : Returned). getD (x .answer) k 0) got-is
 
     pub stays : Stays
@@ -144,36 +145,37 @@ module _ (s : List ℕ) (codebook thresholds : List ℤ) (index report answer : 
           report-beyond = subst (λ (n : ℕ). drop (reportOctets * n) (got .report) ≡ drop (reportOctets * n) report) (sym (at 2))
               (ap (λ (x : Returned). drop (reportOctets * g .multiframes) (x .report)) got-is ∙ b .1);
           answer-beyond = ap (λ (x : Returned). drop answerNumbers (x .answer)) got-is ∙ beyond answer (summaryNumbers g) answerNumbers room refl;
+          place-stays = ap (λ (x : Returned). x .place) got-is;
         }
 
 -- NAMES THE DAMAGE at dsr_read
-module _ (u : Utterance) (s : List ℕ) (codebook thresholds : List ℤ) (index report answer : List ℕ) where
+module _ (u : Utterance) (s : List ℕ) (codebook thresholds : List ℤ) (index report answer : List ℕ) (place : ℕ) where
   abbrev c : Returned
-  c = dsrRead s codebook thresholds index report answer
+  c = dsrRead s codebook thresholds index report answer place
 
   named : N.Named u s codebook thresholds index report → answerNumbers ≤ length answer
-      → Tells u s codebook thresholds (c .number) (c .answer) (c .index) (c .report) × Stays s codebook thresholds index report answer
+      → Tells u s codebook thresholds (c .number) (c .answer) (c .index) (c .report) × Stays s codebook thresholds index report answer place
   named n room =
-      let e = got-is s codebook thresholds index report answer room (n .given) (n .succeeds) in
-      let f = at s codebook thresholds index report answer room (n .given) (n .succeeds) in (
+      let e = got-is s codebook thresholds index report answer place room (n .given) (n .succeeds) in
+      let f = at s codebook thresholds index report answer place room (n .given) (n .succeeds) in (
         tells u s codebook thresholds (n .given) (c .answer) (c .index) (c .report)
             (subst (λ (x : Returned). N.Names u s codebook thresholds (n .given) (x .index) (x .report)) (sym e) (n .names)) (c .number) (ap (λ (x : Returned). x .number) e) (f 0) (f 1) (f 2) (f 4),
-        stays s codebook thresholds index report answer room (n .given) (n .succeeds),
+        stays s codebook thresholds index report answer place room (n .given) (n .succeeds),
       )
 
   pub c-names-wider : N.Wider u s codebook thresholds index report → answerNumbers ≤ length answer
-      → Tells u s codebook thresholds (c .number) (c .answer) (c .index) (c .report) × Stays s codebook thresholds index report answer
+      → Tells u s codebook thresholds (c .number) (c .answer) (c .index) (c .report) × Stays s codebook thresholds index report answer place
   c-names-wider p = named (N.names-wider u s codebook thresholds index report p)
 
   pub c-names-the-damage : N.Premises u s codebook thresholds index report → answerNumbers ≤ length answer
-      → Tells u s codebook thresholds (c .number) (c .answer) (c .index) (c .report) × Stays s codebook thresholds index report answer
+      → Tells u s codebook thresholds (c .number) (c .answer) (c .index) (c .report) × Stays s codebook thresholds index report answer place
   c-names-the-damage p = named (N.names-the-damage u s codebook thresholds index report p)
 
   -- NEVER MISLED at dsr_read: if it answers 0, rate, type and multiframes are those sent
   pub c-never-misled : M.Premises u s → c .number ≡ 0 → (getD (c .answer) 0 0 ≡ u .settings .rate) × ((getD (c .answer) 1 0 ≡ u .settings .kind) × (getD (c .answer) 2 0 ≡ multiframesOf u))
   c-never-misled p zero =
-      let z = read-zero answer index report (reading s codebook thresholds index report) zero in
-      let f = at s codebook thresholds index report answer (z .0) (z .1 .0) (z .1 .1) in
+      let z = read-zero answer place index report (reading s codebook thresholds index report) zero in
+      let f = at s codebook thresholds index report answer place (z .0) (z .1 .0) (z .1 .1) in
       let m = M.never-misled u s p codebook thresholds index report (z .1 .0) (z .1 .1) in
       (f 0 ∙ ap (λ (x : Settings). x .rate) (m .settings), (f 1 ∙ ap (λ (x : Settings). x .kind) (m .settings), f 2 ∙ m .multiframes))
 
@@ -186,7 +188,7 @@ module _ (u : Utterance) (s : List ℕ) (codebook thresholds : List ℤ) (index 
 
   hears : (r : List ℕ) → answerNumbers ≤ length answer → reading s codebook thresholds index report ≡ outcome (Read (spoken u)) (over index 0 (indexOctets * multiframesOf u) (padded u)) r → HearsAll
   hears r room e =
-      let q = got-is s codebook thresholds index report answer room (spoken u) (ap (λ (x : Outcome). x .answer) e) in
+      let q = got-is s codebook thresholds index report answer place room (spoken u) (ap (λ (x : Outcome). x .answer) e) in
       let octet : (i : ℕ) → i < indexOctets * multiframesOf u → getD (c .index) i 0 ≡ getD (u .indices) i 0 =
       λ i h. ap (λ (x : Returned). getD (x .index) i 0) q ∙ ap (λ (x : Outcome). getD (x .index) i 0) e
       ∙ front-at index (padded u) (indexOctets * multiframesOf u) i (omega (arith, length-padded u)) ∙ padded-at u i in
@@ -200,15 +202,15 @@ module _ (u : Utterance) (s : List ℕ) (codebook thresholds : List ℤ) (index 
   -- A LIST WITHOUT A WARNING CAN BE TRUSTED at dsr_read: 0 and all notes 0, and the octets are the image, and all of it is heard
   pub c-trusted : T.Premises u s → c .number ≡ 0 → ((i : ℕ) → i < reportOctets * getD (c .answer) 2 0 → getD (c .report) i 0 ≡ 0) → (s ≡ imageOf u) × HearsAll
   c-trusted p zero clean =
-      let z = read-zero answer index report (reading s codebook thresholds index report) zero in
+      let z = read-zero answer place index report (reading s codebook thresholds index report) zero in
       let g = z .1 .0 in
-      let q = got-is s codebook thresholds index report answer (z .0) g (z .1 .1) in
+      let q = got-is s codebook thresholds index report answer place (z .0) g (z .1 .1) in
       let w = T.trusted-by-one u s p codebook thresholds index report g
       (record {
         succeeds = z .1 .1;
         notes-0 = λ i h.
             ap (λ (x : Returned). getD (x .report) i 0) (sym q)
-            ∙ clean i (subst (λ (n : ℕ). i < reportOctets * n) (sym (at s codebook thresholds index report answer (z .0) g (z .1 .1) 2)) h);
+            ∙ clean i (subst (λ (n : ℕ). i < reportOctets * n) (sym (at s codebook thresholds index report answer place (z .0) g (z .1 .1) 2)) h);
       }) in
       let e : reading s codebook thresholds index report
       ≡ outcome (Read (spoken u)) (over index 0 (indexOctets * multiframesOf u) (padded u)) (reading s codebook thresholds index report .report) =
@@ -221,7 +223,7 @@ module _ (u : Utterance) (s : List ℕ) (codebook thresholds : List ℤ) (index 
   -- IF IT IS READ: at most three flips in each header and demand 3's damage to packets; 0 tells all of it
   pub c-names-if-read : DamageUpTo 3 (multiframesOf u) (imageOf u) s → c .number ≡ 0 → Tells u s codebook thresholds (c .number) (c .answer) (c .index) (c .report)
   c-names-if-read d zero =
-      let z = read-zero answer index report (reading s codebook thresholds index report) zero in
+      let z = read-zero answer place index report (reading s codebook thresholds index report) zero in
       named (record { given = z .1 .0; succeeds = z .1 .1; names = I.names-if-read u s d codebook thresholds index report (z .1 .0) (z .1 .1) }) (z .0) .0
 
   -- NO PAIR NAMED at dsr_read: all of it is heard, and each header note is the number of flips, three for a lost one
@@ -229,8 +231,8 @@ module _ (u : Utterance) (s : List ℕ) (codebook thresholds : List ℤ) (index 
       → ((k j : ℕ) → k < multiframesOf u → j < multiframePairs → pairNoteAt (c .report) k j ≡ 0)
       → HearsAll × ((k : ℕ) → k < multiframesOf u → headerNoteAt (c .report) k ≡ headerFlips (imageOf u) s k)
   c-heard-whole d zero none =
-      let z = read-zero answer index report (reading s codebook thresholds index report) zero in
-      let q = got-is s codebook thresholds index report answer (z .0) (z .1 .0) (z .1 .1) in
+      let z = read-zero answer place index report (reading s codebook thresholds index report) zero in
+      let q = got-is s codebook thresholds index report answer place (z .0) (z .1 .0) (z .1 .1) in
       let e = I.heard-if-read u s d codebook thresholds index report (z .1 .0) (z .1 .1) (λ i h.
       ap (λ (x : Returned). pairNoteIn (x .report) i) (sym q) ∙ none (i / multiframePairs) (i % multiframePairs) (omega arith) (omega arith)) in (
         hears (over report 0 (reportOctets * multiframesOf u) (mendedReport u s)) (z .0) e,
@@ -253,17 +255,17 @@ module _ (u : Utterance) (s : List ℕ) (codebook thresholds : List ℤ) (index 
   pub c-last-heard : DamageUpTo 3 (multiframesOf u) (imageOf u) s → c .number ≡ 0
       → ((j : ℕ) → j < multiframePairs → pairNoteAt (c .report) (multiframesOf u - 1) j ≡ 0) → (getD (c .answer) 3 0 ≡ frameCount (u .indices)) × (getD (c .answer) 5 0 ≡ 1)
   c-last-heard d zero none =
-      let z = read-zero answer index report (reading s codebook thresholds index report) zero in
-      let q = got-is s codebook thresholds index report answer (z .0) (z .1 .0) (z .1 .1) in
-      let f = at s codebook thresholds index report answer (z .0) (z .1 .0) (z .1 .1) in
+      let z = read-zero answer place index report (reading s codebook thresholds index report) zero in
+      let q = got-is s codebook thresholds index report answer place (z .0) (z .1 .0) (z .1 .1) in
+      let f = at s codebook thresholds index report answer place (z .0) (z .1 .0) (z .1 .1) in
       let l = I.last-if-read u s d codebook thresholds index report (z .1 .0) (z .1 .1) (λ i b h.
       let k : i / multiframePairs ≡ multiframesOf u - 1 = omega arith in
       ap (λ (x : Returned). pairNoteIn (x .report) i) (sym q) ∙ ap (λ (x : ℕ). pairNoteAt (c .report) x (i % multiframePairs)) k ∙ none (i % multiframePairs) (omega arith)) in
       (f 3 ∙ l .0, f 5 ∙ l .1)
 
 -- WHAT STAYS of any input that dsr_read answers with 0
-pub c-stays : (s : List ℕ) (codebook thresholds : List ℤ) (index report answer : List ℕ) → dsrRead s codebook thresholds index report answer .number ≡ 0
-    → Stays s codebook thresholds index report answer
-c-stays s codebook thresholds index report answer zero =
-    let z = read-zero answer index report (reading s codebook thresholds index report) zero in
-    stays s codebook thresholds index report answer (z .0) (z .1 .0) (z .1 .1)
+pub c-stays : (s : List ℕ) (codebook thresholds : List ℤ) (index report answer : List ℕ) (place : ℕ) → dsrRead s codebook thresholds index report answer place .number ≡ 0
+    → Stays s codebook thresholds index report answer place
+c-stays s codebook thresholds index report answer place zero =
+    let z = read-zero answer place index report (reading s codebook thresholds index report) zero in
+    stays s codebook thresholds index report answer place (z .0) (z .1 .0) (z .1 .1)

@@ -30,7 +30,8 @@ use Rattle.hunting.specs.declared.Counted.{Counted}
 use Rattle.hunting.specs.declared.Answer.the-variants.{Read}
 use Rattle.writer.specs.Writing.{frameCount}
 use Rattle.writer.specs.Image.{Utterance, multiframesOf, imageOf, whole-frames, pairsOf}
-use Rattle.dsr.specs.Bits.{countedNumbers, numbersOf, BitsReturned, dsrReadBits}
+use Rattle.dsr.specs.Entries.{Returned}
+use Rattle.dsr.specs.Bits.{countedNumbers, numbersOf, dsrReadBits}
 use Rattle.demands.specs.Damage.{headerFlips}
 use Rattle.demands.specs.Whole.{front-at}
 use Rattle.demands.specs.NamesTheDamage as N
@@ -45,7 +46,7 @@ use Rattle.dsr_demands.specs.Calls.{bits-success, bits-zero, beyond}
 use Rattle.dsr_demands.specs.Named.{Tells, tells, headerNoteAt, pairNoteAt, beyond-both}
 
 module _ (u : Utterance) (s : List ℕ) (from at least : ℕ) (codebook thresholds : List ℤ) (index report answer : List ℕ) (place : ℕ) where
-  abbrev c : BitsReturned
+  abbrev c : Returned
   c = dsrReadBits s from least codebook thresholds index report answer place
 
   abbrev o : G.Outcome
@@ -71,11 +72,11 @@ module _ (u : Utterance) (s : List ℕ) (from at least : ℕ) (codebook threshol
   c-names-on-air a p room =
       let n = Radio.names-on-air u s from at least a codebook thresholds index report p in
       let e = bits-success answer place index report o room (n .given) (n .succeeds) in
-      let f : (k : ℕ) → getD (c .answer) k 0 ≡ getD (over answer 0 countedNumbers (numbersOf (n .given))) k 0 = λ k. ap (λ (x : BitsReturned). getD (x .answer) k 0) e in (
+      let f : (k : ℕ) → getD (c .answer) k 0 ≡ getD (over answer 0 countedNumbers (numbersOf (n .given))) k 0 = λ k. ap (λ (x : Returned). getD (x .answer) k 0) e in (
         tells u (together u s at) codebook thresholds (n .given .summary) (c .answer) (c .index) (c .report)
-            (subst (λ (x : BitsReturned). N.Names u (together u s at) codebook thresholds (n .given .summary) (x .index) (x .report)) (sym e) (n .names)) (c .number)
-            (ap (λ (x : BitsReturned). x .number) e) (f 0) (f 1) (f 2) (f 4),
-        (stood (a .caught), record { outside = f 6 ∙ n .outside; tested = f 7 ∙ n .tested; place-stays = ap (λ (x : BitsReturned). x .place) e }),
+            (subst (λ (x : Returned). N.Names u (together u s at) codebook thresholds (n .given .summary) (x .index) (x .report)) (sym e) (n .names)) (c .number)
+            (ap (λ (x : Returned). x .number) e) (f 0) (f 1) (f 2) (f 4),
+        (stood (a .caught), record { outside = f 6 ∙ n .outside; tested = f 7 ∙ n .tested; place-stays = ap (λ (x : Returned). x .place) e }),
       )
 
   -- what a caller hears of all of an utterance
@@ -93,12 +94,12 @@ module _ (u : Utterance) (s : List ℕ) (from at least : ℕ) (codebook threshol
   hears : countedNumbers ≤ length answer → (g : Counted) → o .answer ≡ Read g → g .summary ≡ spoken u → o .index ≡ over index 0 (indexOctets * multiframesOf u) (padded u) → HearsAll
   hears room g eg es ei =
       let e = bits-success answer place index report o room g eg in
-      let f : (k : ℕ) → getD (c .answer) k 0 ≡ getD (over answer 0 countedNumbers (numbersOf g)) k 0 = λ k. ap (λ (x : BitsReturned). getD (x .answer) k 0) e in
+      let f : (k : ℕ) → getD (c .answer) k 0 ≡ getD (over answer 0 countedNumbers (numbersOf g)) k 0 = λ k. ap (λ (x : Returned). getD (x .answer) k 0) e in
       let octet : (i : ℕ) → i < indexOctets * multiframesOf u → getD (c .index) i 0 ≡ getD (u .indices) i 0 =
-      λ i h. ap (λ (x : BitsReturned). getD (x .index) i 0) e ∙ ap (λ (l : List ℕ). getD l i 0) ei
+      λ i h. ap (λ (x : Returned). getD (x .index) i 0) e ∙ ap (λ (l : List ℕ). getD l i 0) ei
       ∙ front-at index (padded u) (indexOctets * multiframesOf u) i (omega (arith, length-padded u)) ∙ padded-at u i in
       record {
-        success = ap (λ (x : BitsReturned). x .number) e;
+        success = ap (λ (x : Returned). x .number) e;
         rate = f 0 ∙ ap (λ (x : Summary). x .settings .rate) es;
         kind = f 1 ∙ ap (λ (x : Summary). x .settings .kind) es;
         multiframes = f 2 ∙ ap (λ (x : Summary). x .multiframes) es;
@@ -122,16 +123,16 @@ module _ (u : Utterance) (s : List ℕ) (from at least : ℕ) (codebook threshol
         (
           (λ k h.
               let z : reportOctets * k ≡ reportOctets * k + 0 = omega arith in
-              ap (λ (x : BitsReturned). getD (x .report) (reportOctets * k) 0) e ∙ ap (λ (x : G.Outcome). getD (x .report) (reportOctets * k) 0) q ∙ ap (λ (i : ℕ). getD noted i 0) z ∙ note-octet k 0 h (omega arith)),
+              ap (λ (x : Returned). getD (x .report) (reportOctets * k) 0) e ∙ ap (λ (x : G.Outcome). getD (x .report) (reportOctets * k) 0) q ∙ ap (λ (i : ℕ). getD noted i 0) z ∙ note-octet k 0 h (omega arith)),
           (
             (λ k j h l.
                 let z : reportOctets * k + 1 + j ≡ reportOctets * k + suc j = omega arith in
-                ap (λ (x : BitsReturned). getD (x .report) (reportOctets * k + 1 + j) 0) e ∙ ap (λ (x : G.Outcome). getD (x .report) (reportOctets * k + 1 + j) 0) q ∙ ap (λ (i : ℕ). getD noted i 0) z
+                ap (λ (x : Returned). getD (x .report) (reportOctets * k + 1 + j) 0) e ∙ ap (λ (x : G.Outcome). getD (x .report) (reportOctets * k + 1 + j) 0) q ∙ ap (λ (i : ℕ). getD noted i 0) z
                 ∙ note-octet k (suc j) h (omega arith) ∙ no-more multiframePairs j),
             record {
-              outside = ap (λ (x : BitsReturned). getD (x .answer) 6 0) e;
-              tested = ap (λ (x : BitsReturned). getD (x .answer) 7 0) e;
-              place-stays = ap (λ (x : BitsReturned). x .place) e;
+              outside = ap (λ (x : Returned). getD (x .answer) 6 0) e;
+              tested = ap (λ (x : Returned). getD (x .answer) 7 0) e;
+              place-stays = ap (λ (x : Returned). x .place) e;
             },
           ),
         ),
@@ -164,8 +165,8 @@ module _ (u : Utterance) (s : List ℕ) (from at least : ℕ) (codebook threshol
       (record {
         succeeds = ap (λ (x : R.Outcome). x .answer) y;
         notes-0 = λ i h.
-            ap (λ (x : R.Outcome). getD (x .report) i 0) y ∙ ap (λ (x : BitsReturned). getD (x .report) i 0) (sym e)
-            ∙ clean i (subst (λ (n : ℕ). i < reportOctets * n) (sym (ap (λ (x : BitsReturned). getD (x .answer) 2 0) e)) h);
+            ap (λ (x : R.Outcome). getD (x .report) i 0) y ∙ ap (λ (x : Returned). getD (x .report) i 0) (sym e)
+            ∙ clean i (subst (λ (n : ℕ). i < reportOctets * n) (sym (ap (λ (x : Returned). getD (x .answer) 2 0) e)) h);
       }) in
       (w .image, hears (z .0) g (z .1 .1) (w .sent) (ap (λ (x : R.Outcome). x .index) (sym y) ∙ w .frames))
 
@@ -181,7 +182,7 @@ module _ (u : Utterance) (s : List ℕ) (from at least : ℕ) (codebook threshol
       ap (λ (ps : List ℕ). R.reading (G.imageOf s ps) codebook thresholds index report) (sym (found-on-air u s from at least a))
       ∙ F.success s from least codebook thresholds index report g (z .1 .1) .as-01-says in
       let w = M.never-misled u (together u s at) premises codebook thresholds index report (g .summary) (ap (λ (x : R.Outcome). x .answer) y) in
-      let f : (k : ℕ) → getD (c .answer) k 0 ≡ getD (over answer 0 countedNumbers (numbersOf g)) k 0 = λ k. ap (λ (x : BitsReturned). getD (x .answer) k 0) e in
+      let f : (k : ℕ) → getD (c .answer) k 0 ≡ getD (over answer 0 countedNumbers (numbersOf g)) k 0 = λ k. ap (λ (x : Returned). getD (x .answer) k 0) e in
       (f 0 ∙ ap (λ (x : Settings). x .rate) (w .settings), (f 1 ∙ ap (λ (x : Settings). x .kind) (w .settings), f 2 ∙ w .multiframes))
     where
       most : (k n : ℕ) → k < multiframesOf u → 2 ≤ n → headerFlips (imageOf u) (together u s at) k ≤ n
@@ -199,7 +200,7 @@ module _ (u : Utterance) (s : List ℕ) (from at least : ℕ) (codebook threshol
 
 -- WHAT STAYS of any input that dsr_read_bits answers with 0: octets beyond both parts, numbers beyond the eight, and the place
 module _ (s : List ℕ) (from least : ℕ) (codebook thresholds : List ℤ) (index report answer : List ℕ) (place : ℕ) where
-  abbrev gives : BitsReturned
+  abbrev gives : Returned
   gives = dsrReadBits s from least codebook thresholds index report answer place
 
   pub record BitsStay : Type 0 where
@@ -217,12 +218,12 @@ c-bits-stay s from least codebook thresholds index report answer place zero =
     let e = bits-success answer place index report o (z .0) g (z .1 .1) in
     let y = F.success s from least codebook thresholds index report g (z .1 .1) .as-01-says in
     let b = beyond-both (G.imageOf s (G.all s from least codebook thresholds index report .places)) codebook thresholds index report (g .summary) (ap (λ (x : R.Outcome). x .answer) y) in
-    let m : getD (dsrReadBits s from least codebook thresholds index report answer place .answer) 2 0 ≡ g .summary .multiframes = ap (λ (x : BitsReturned). getD (x .answer) 2 0) e in
+    let m : getD (dsrReadBits s from least codebook thresholds index report answer place .answer) 2 0 ≡ g .summary .multiframes = ap (λ (x : Returned). getD (x .answer) 2 0) e in
     record {
       index-beyond = subst (λ (n : ℕ). drop (indexOctets * n) (dsrReadBits s from least codebook thresholds index report answer place .index) ≡ drop (indexOctets * n) index) (sym m)
-          (ap (λ (x : BitsReturned). drop (indexOctets * g .summary .multiframes) (x .index)) e ∙ sym (ap (λ (x : R.Outcome). drop (indexOctets * g .summary .multiframes) (x .index)) y) ∙ b .0);
+          (ap (λ (x : Returned). drop (indexOctets * g .summary .multiframes) (x .index)) e ∙ sym (ap (λ (x : R.Outcome). drop (indexOctets * g .summary .multiframes) (x .index)) y) ∙ b .0);
       report-beyond = subst (λ (n : ℕ). drop (reportOctets * n) (dsrReadBits s from least codebook thresholds index report answer place .report) ≡ drop (reportOctets * n) report) (sym m)
-          (ap (λ (x : BitsReturned). drop (reportOctets * g .summary .multiframes) (x .report)) e ∙ sym (ap (λ (x : R.Outcome). drop (reportOctets * g .summary .multiframes) (x .report)) y) ∙ b .1);
-      answer-beyond = ap (λ (x : BitsReturned). drop countedNumbers (x .answer)) e ∙ beyond answer (numbersOf g) countedNumbers (z .0) refl;
-      place-stays = ap (λ (x : BitsReturned). x .place) e;
+          (ap (λ (x : Returned). drop (reportOctets * g .summary .multiframes) (x .report)) e ∙ sym (ap (λ (x : R.Outcome). drop (reportOctets * g .summary .multiframes) (x .report)) y) ∙ b .1);
+      answer-beyond = ap (λ (x : Returned). drop countedNumbers (x .answer)) e ∙ beyond answer (numbersOf g) countedNumbers (z .0) refl;
+      place-stays = ap (λ (x : Returned). x .place) e;
     }

@@ -1,4 +1,3 @@
-#![cfg(feature = "header")]
 use dsr::{header_encode, header_read, Header};
 
 fn word(octets: [u8; 4]) -> u32 {

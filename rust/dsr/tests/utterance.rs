@@ -1,0 +1,104 @@
+//! The iterators over frames, pairs and multiframes, and each note.
+mod shared;
+use dsr::{read_into, write_into, HeaderNote, PairNote, Tables, Utterance};
+use shared::{flip, multiframe, speech, SETTINGS};
+
+const CLEAN: HeaderNote = HeaderNote::Readable { flips: 0, out_of_step: false, differs: false };
+
+/// Sixty frames of speech in three multiframes, with pairs 1, 11, 12 and 35 damaged.
+fn damaged() -> Vec<u8> {
+    let mut image = vec![0; 432];
+    write_into(SETTINGS, &speech(60), &mut image).unwrap();
+    for pair in [1, 11, 12, 35] {
+        flip(&mut image, 1152 * (pair / 12) + 48 + 92 * (pair % 12) + 3);
+    }
+    image
+}
+
+/// Reads the octets, which are three multiframes, and hands the utterance on.
+fn with_reading(octets: &[u8], tables: &Tables, test: impl Fn(Utterance<&[u8]>)) {
+    let (mut index, mut report) = ([0xEE; 504], [0xEE; 39]);
+    test(read_into(octets, tables, &mut index, &mut report).unwrap());
+}
+
+#[test]
+fn frames_in_order() {
+    with_reading(&damaged(), &Tables::ZEROS, |heard| {
+        let frames: Vec<u8> = heard.frames().flatten().copied().collect();
+        assert_eq!(frames, heard.indices());
+        assert_eq!(heard.frames().len(), 72);
+        let said = speech(60);
+        assert_eq!(heard.frames().next().unwrap(), &said[..7]);
+        assert_eq!(heard.frames().nth(59).unwrap(), &said[7 * 59..]);
+        assert_eq!(heard.frames().next_back().unwrap(), &[0; 7]);
+        assert_eq!(heard.spoken().len(), 7 * 60);
+    });
+}
+
+#[test]
+fn pairs_run_on_through_all_multiframes() {
+    with_reading(&damaged(), &Tables::ZEROS, |heard| {
+        let bad: Vec<usize> = (0..36).filter(|q| heard.pairs().nth(*q).unwrap().note.is_bad()).collect();
+        assert_eq!((bad, heard.reading.bad, heard.has_notes()), (vec![1, 11, 12, 35], 4, true));
+        assert_eq!(heard.pairs().len(), 36);
+        let paired: Vec<_> = heard.pairs().flat_map(|pair| pair.frames).collect();
+        assert_eq!(paired, heard.frames().collect::<Vec<_>>());
+        let frames: Vec<_> = heard.frames().collect();
+        assert_eq!((frames[2], frames[3]), (frames[1], frames[4]));
+        assert_eq!(heard.pairs().next_back().unwrap().note, PairNote::CrcFailed);
+    });
+}
+
+#[test]
+fn multiframes_have_their_notes_frames_and_pairs() {
+    let mut octets = damaged();
+    flip(&mut octets, 1152 + 16);
+    flip(&mut octets, 1152 + 40);
+    with_reading(&octets, &Tables::ZEROS, |heard| {
+        assert_eq!(heard.multiframes().len(), 3);
+        let notes: Vec<_> = heard.multiframes().map(|multiframe| multiframe.header()).collect();
+        assert_eq!(notes, [CLEAN, HeaderNote::Readable { flips: 2, out_of_step: false, differs: false }, CLEAN]);
+        let pairs: Vec<_> = heard.multiframes().flat_map(|multiframe| multiframe.pairs()).collect();
+        assert_eq!(pairs, heard.pairs().collect::<Vec<_>>());
+        let frames: Vec<_> = heard.multiframes().flat_map(|multiframe| multiframe.frames()).collect();
+        assert_eq!(frames, heard.frames().collect::<Vec<_>>());
+        let last = heard.multiframes().next_back().unwrap();
+        assert_eq!((last.indices(), last.pairs().len(), last.frames().len()), (&heard.indices()[336..], 12, 24));
+    });
+}
+
+#[test]
+fn header_notes_are_named() {
+    let (counted_1, counted_3, counted_3_at_11_khz) = (8, 24, 25);
+    let mut lost = multiframe(16);
+    lost[2] ^= 0b111;
+    let octets = [multiframe(counted_1), lost, multiframe(counted_3)].concat();
+    with_reading(&octets, &Tables::ZEROS, |heard| {
+        let notes: Vec<_> = heard.multiframes().map(|multiframe| multiframe.header()).collect();
+        assert_eq!(notes, [CLEAN, HeaderNote::Lost, CLEAN]);
+        assert_eq!(heard.report()[13], 3);
+    });
+    let octets = [multiframe(counted_1), multiframe(counted_1), multiframe(counted_3_at_11_khz)].concat();
+    with_reading(&octets, &Tables::ZEROS, |heard| {
+        let notes: Vec<_> = heard.multiframes().map(|multiframe| multiframe.header()).collect();
+        let out_of_step = HeaderNote::Readable { flips: 0, out_of_step: true, differs: false };
+        let differs = HeaderNote::Readable { flips: 0, out_of_step: false, differs: true };
+        assert_eq!(notes, [CLEAN, out_of_step, differs]);
+    });
+}
+
+/// A rise from each pair's first frame to its second flags every index pair, which matters only beside a bad pair.
+#[test]
+fn a_pair_that_is_inconsistent_beside_a_bad_one() {
+    let codebook: [i32; 1280] = std::array::from_fn(|i| i as i32 % 128);
+    let said: Vec<u8> = (0..59).flat_map(|frame| [if frame % 2 == 0 { 1 } else { 9 }; 7]).collect();
+    let mut image = vec![0; 432];
+    write_into(SETTINGS, &said, &mut image).unwrap();
+    flip(&mut image, 48 + 92 * 5);
+    with_reading(&image, &Tables::from_arrays(&codebook, &[0; 14]), |heard| {
+        let notes: Vec<_> = heard.pairs().map(|pair| pair.note.octet()).collect();
+        assert_eq!(notes[..5], [0, 0, 0, 0, 2]);
+        assert_eq!(notes[5..29], [&[1][..], &[2; 23]].concat());
+        assert_eq!(heard.pairs().nth(4).unwrap().note, PairNote::BadOtherwise);
+    });
+}
