@@ -119,7 +119,8 @@ fn read_front(
 ) -> Answer
     requires { ⌜ (count ≤ mostMultiframes) × (multiframeOctets * mostMultiframes ≤ length (now image)) ⌝ }
     ensures { λ r. ⌜ outcome r (left index) (left report)
-        ≡ counted (reading (take (multiframeOctets * count) (came image)) (tablesIn codebook thresholds) (came index) (came report)) outside tested ⌝ }
+        ≡ counted (reading (take (multiframeOctets * count) (came image)) (tablesIn codebook thresholds) (came index) (came report))
+        outside tested ⌝ }
 {
     let end = MultiframeLayout::OCTETS * count;
     match reader::read(&image[..end], codebook, thresholds, index, report) {

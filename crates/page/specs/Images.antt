@@ -14,7 +14,7 @@ use Rattle.lists.specs.Tests.{all, all-holds}
 use Rattle.lists.specs.Parts.{part}
 use Rattle.lists.specs.Rows.{joined}
 use Rattle.layout.specs.Layout.{widths, streamOctets, firstPair, multiframePairs}
-use Rattle.consistency.specs.Tables.{Tables}
+use Rattle.consistency.specs.Tables.{Tables, tablesOf}
 use Rattle.settings.specs.Settings.{settings}
 use Rattle.frames.specs.Frames.{zeroFrame as isZeroFrame}
 use Rattle.bits.specs.Bits.{numbers, value, laid, field, fields, bits, octets}
@@ -79,7 +79,7 @@ pub record Table : Type 0 where
   -- "Input 87 B2 08 00 0E EE 01, ten 00, 04, 126 times 00": the frame 1,0,0,0,0,0,0 at 8 kHz, type 0, is written so; "octets beyond that stay"
   pub one-written : writing (settings 0 0) (1 ∷ 0 ∷ 0 ∷ 0 ∷ 0 ∷ 0 ∷ 0 ∷ []) (lent 146) ≡ outcome (Written 144) (dsrlistInput ++ lent 2)
   -- "gives: 0 000000000000, rate 0 type 0 multiframes 1 speech 1 bad 0 end 1", "with all codebook numbers and thresholds 0"
-  pub one-read : reading dsrlistInput (replicate 1280 (pos 0)) (replicate 14 (pos 0)) (lent 170) (lent 15)
+  pub one-read : reading dsrlistInput (tablesOf (replicate 1280 (pos 0)) (replicate 14 (pos 0))) (lent 170) (lent 15)
       ≡ R.outcome (Read (record { settings = settings 0 0; multiframes = 1; speech = 1; bad = 0; end = 1 })) (1 ∷ (replicate 167 0 ++ lent 2)) (replicate 13 0 ++ lent 2)
   -- "Header 8 kHz, type 0, count 1: 08 00 0E EE. Count 2: 10 00 1D 0D. Count 3: 18 00 13 E3.": octets 2 to 5 of the first three multiframes
   pub header-1 : (idx : List ℕ) (m : ℕ) → 0 < m → part 2 4 (image (settings 0 0) idx m) ≡ 0x08 ∷ 0x00 ∷ 0x0E ∷ 0xEE ∷ []

@@ -156,7 +156,7 @@ pub record Table : Type 0 where
   -- one before": 47 and 48 become 46, which is zero. So speech is 30 and end 1 "after replacing" only
   pub bad-pairs : Lists hurt steep (0 ∷ 0 ∷ 2 ∷ 30 ∷ 7 ∷ 1 ∷ []) standing hurtNotes
   -- "with all codebook numbers and thresholds 0", as dsrlist lists them, no pair is inconsistent: 1 and 2 become 3; 25 becomes 24 and 26 becomes 27
-  pub bad-by-crc : Lists hurt (replicate 1280 (pos 0)) (replicate 14 (pos 0)) (0 ∷ 0 ∷ 2 ∷ 30 ∷ 4 ∷ 1 ∷ []) standingPlain plainNotes
+  pub bad-by-crc : Lists hurt (tablesOf (replicate 1280 (pos 0)) (replicate 14 (pos 0))) (0 ∷ 0 ∷ 2 ∷ 30 ∷ 4 ∷ 1 ∷ []) standingPlain plainNotes
   -- "3 lost; a readable one adds 4 if its counter is not (position from 1) mod 16, and 8 if its common bits differ from the settled": settled is
   -- "the first readable header that agrees in them with an earlier readable one", the second, and not what the last two agree in
   pub header-notes : (tables : Tables) → length (tables .codebook) ≡ 1280 → length (tables .thresholds) ≡ 14
