@@ -57,8 +57,10 @@ INTO_LIB = $(DESTDIR)$(LIBDIR)
 INTO_INCLUDE = $(DESTDIR)$(INCLUDEDIR)
 INTO_MAN = $(DESTDIR)$(MANDIR)
 
-.PHONY: help sample test bench lib dsrlist install uninstall clean packages
+.PHONY: help sample test outside bench lib dsrlist install uninstall clean packages
 .SECONDARY:
+# rt and cargo take all processors by themselves, and two runs of rt would write the same files.
+.NOTPARALLEL:
 .DELETE_ON_ERROR:
 
 help: ## this list
@@ -70,6 +72,9 @@ sample: $(DSRLIST) ## proves and builds dsrlist, and lists the shipped sample wi
 
 test: ## the gate: rt ci over every crate, then every check outside of Rattle
 	@.ci/gate
+
+outside: ## the gate without rt ci: every check outside of Rattle
+	@.ci/gate outside
 
 # All rows are printed before a target that was missed fails the whole.
 bench: $(foreach p,$(PARTS),$(BUILD)/$(LIB)/bench-$(p)) ## the library's times against the literal C version
@@ -201,11 +206,12 @@ $(BUILD)/libliteral.so: $(BUILD)/libliteral.a
 
 # --- the checks
 
-.PHONY: programs independent independent-build wrapper wrapper-literal example crctable sample-check listing readme-c readme-rust crates-named installed man-pages \
+.PHONY: programs independent independent-build wrapper wrapper-literal example crctable sample-check listing readme-c readme-rust crates-named installed man-pages versions \
     fuzz drawing drawing-check twin writer writer-size writer-alone stack
 
 # What more than one check calls.
-programs: $(foreach l,library literal,$(foreach p,$(PARTS),$(BUILD)/$(l)/drive-$(p))) $(BUILD)/literal/sample-list $(BUILD)/libliteral.a
+programs: $(foreach l,library literal,$(foreach p,$(PARTS),$(BUILD)/$(l)/drive-$(p))) $(BUILD)/literal/sample-list $(BUILD)/libliteral.a \
+    $(BUILD)/libliteral.so
 
 # The independent implementation against the library (or, with LIB=literal, the literal version).
 compare-%: $(BUILD)/$(LIB)/drive-% independent-build
@@ -273,6 +279,12 @@ readme-rust: $(README_WITH)
 # What make install puts into a folder of its own: the README's C programs are built against it as a user would.
 installed: lib dsrlist
 	.ci/installed $(BUILD)/installed
+
+# The header's version is everyone's.
+versions:
+	grep -qx 'version = "$(VERSION)"' rust/dsr/Cargo.toml
+	grep -qx '__version__ = "$(VERSION)"' python/dsr.py
+	grep -qx '.define DSR_VERSION_TEXT "$(VERSION)"' c/dsr.h
 
 man-pages:
 	mandoc -Tlint -W warning man/dsrlist.1 man/dsr.3
