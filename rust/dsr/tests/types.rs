@@ -1,5 +1,5 @@
 //! The types by themselves: what they take, give and print.
-use dsr::{Error, FrontEnd, HeaderNote, PairNote, Rate, Settings, Tables};
+use dsr::{image_octets, most_multiframes, Error, FrontEnd, HeaderNote, PairNote, Rate, Settings, Tables};
 
 #[test]
 fn rates_and_front_ends_have_01s_codes() {
@@ -72,5 +72,17 @@ fn every_refusal_has_number_place_and_words() {
         assert_eq!(refusal.to_string(), words);
         let boxed: Box<dyn std::error::Error> = refusal.into();
         assert_eq!(boxed.to_string(), words);
+    }
+}
+
+/// An image has room for exactly what a reading of it needs, whatever its size; beyond 255 multiframes nothing is read.
+#[test]
+fn sizes_agree() {
+    for frames in 0..=6119 {
+        let octets = image_octets(frames).unwrap();
+        assert_eq!((most_multiframes(octets), most_multiframes(octets - 1)), (frames / 24 + 1, frames / 24));
+    }
+    for octets in [256 * 144 - 1, 256 * 144, 1 << 20, usize::MAX] {
+        assert_eq!(most_multiframes(octets), 255);
     }
 }

@@ -1,6 +1,6 @@
 //! The iterators over frames, pairs and multiframes, and each note.
 mod shared;
-use dsr::{read_into, write_into, HeaderNote, PairNote, Tables, Utterance};
+use dsr::{read_bits_into, read_into, write_into, HeaderNote, PairNote, Tables, Utterance};
 use shared::{flip, multiframe, speech, SETTINGS};
 
 const CLEAN: HeaderNote = HeaderNote::Readable { flips: 0, out_of_step: false, differs: false };
@@ -76,7 +76,7 @@ fn header_notes_are_named() {
     with_reading(&octets, &Tables::ZEROS, |heard| {
         let notes: Vec<_> = heard.multiframes().map(|multiframe| multiframe.header()).collect();
         assert_eq!(notes, [CLEAN, HeaderNote::Lost, CLEAN]);
-        assert_eq!(heard.report()[13], 3);
+        assert_eq!((heard.report()[13], heard.has_notes(), heard.reading.bad), (3, true, 0));
     });
     let octets = [multiframe(counted_1), multiframe(counted_1), multiframe(counted_3_at_11_khz)].concat();
     with_reading(&octets, &Tables::ZEROS, |heard| {
@@ -87,18 +87,37 @@ fn header_notes_are_named() {
     });
 }
 
-/// A rise from each pair's first frame to its second flags every index pair, which matters only beside a bad pair.
-#[test]
-fn a_pair_that_is_inconsistent_beside_a_bad_one() {
-    let codebook: [i32; 1280] = std::array::from_fn(|i| i as i32 % 128);
+/// Each pair rises from its first frame to its second in every index; the CRC of pair 5 fails.
+fn rising() -> Vec<u8> {
     let said: Vec<u8> = (0..59).flat_map(|frame| [if frame % 2 == 0 { 1 } else { 9 }; 7]).collect();
     let mut image = vec![0; 432];
     write_into(SETTINGS, &said, &mut image).unwrap();
     flip(&mut image, 48 + 92 * 5);
-    with_reading(&image, &Tables::from_arrays(&codebook, &[0; 14]), |heard| {
-        let notes: Vec<_> = heard.pairs().map(|pair| pair.note.octet()).collect();
-        assert_eq!(notes[..5], [0, 0, 0, 0, 2]);
-        assert_eq!(notes[5..29], [&[1][..], &[2; 23]].concat());
-        assert_eq!(heard.pairs().nth(4).unwrap().note, PairNote::BadOtherwise);
-    });
+    image
+}
+
+/// The pair notes of the same octets by either reader.
+fn notes_by_both(octets: &[u8], tables: &Tables) -> [Vec<PairNote>; 2] {
+    let (mut index, mut report) = ([0xEE; 504], [0xEE; 39]);
+    let by_octets = read_into(octets, tables, &mut index, &mut report).unwrap();
+    let notes: Vec<_> = by_octets.pairs().map(|pair| pair.note).collect();
+    let by_bits = read_bits_into(octets, 0, 16, tables, &mut index, &mut report).unwrap();
+    [notes, by_bits.utterance.pairs().map(|pair| pair.note).collect()]
+}
+
+/// A rise flags an index pair if the codebook's numbers rise with the index by more than the threshold. The pair before the bad one is
+/// judged, and each one behind a bad one; the last pair with speech is a frame and a zero frame, which falls.
+#[test]
+fn both_readers_judge_by_the_tables() {
+    let codebook: [i32; 1280] = std::array::from_fn(|i| i as i32 % 128);
+    let rise = 16;
+    for notes in notes_by_both(&rising(), &Tables::from_arrays(&codebook, &[rise - 1; 14])) {
+        assert_eq!(notes[..4], [PairNote::Good; 4]);
+        assert_eq!((notes[4], notes[5]), (PairNote::BadOtherwise, PairNote::CrcFailed));
+        assert_eq!((&notes[6..29], &notes[29..]), (&[PairNote::BadOtherwise; 23][..], &[PairNote::Good; 7][..]));
+    }
+    for notes in notes_by_both(&rising(), &Tables::from_arrays(&codebook, &[rise; 14])) {
+        assert_eq!(notes.iter().filter(|note| note.is_bad()).count(), 1);
+        assert_eq!(notes[5], PairNote::CrcFailed);
+    }
 }
