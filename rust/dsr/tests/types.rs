@@ -48,8 +48,12 @@ fn header_notes_and_their_octets() {
         let note = HeaderNote::from_octet(octet).unwrap();
         assert_eq!((note.octet(), note.is_clean(), note.to_string()), (octet, octet == 0, octet.to_string()));
     }
-    let all = HeaderNote::Readable { flips: 2, out_of_step: true, differs: true };
-    assert_eq!((all.octet(), HeaderNote::Lost.octet()), (14, 3));
+    let note = |octet: u8| HeaderNote::from_octet(octet).unwrap();
+    assert!(matches!(note(1), HeaderNote::Readable { flips: 1, out_of_step: false, differs: false, .. }));
+    assert!(matches!(note(6), HeaderNote::Readable { flips: 2, out_of_step: true, differs: false, .. }));
+    assert!(matches!(note(8), HeaderNote::Readable { flips: 0, out_of_step: false, differs: true, .. }));
+    assert!(matches!(note(14), HeaderNote::Readable { flips: 2, out_of_step: true, differs: true, .. }));
+    assert_eq!(note(3), HeaderNote::Lost);
 }
 
 #[test]

@@ -3,7 +3,16 @@ mod shared;
 use dsr::{read_bits_into, read_into, write_into, HeaderNote, PairNote, Tables, Utterance};
 use shared::{flip, multiframe, speech, SETTINGS};
 
-const CLEAN: HeaderNote = HeaderNote::Readable { flips: 0, out_of_step: false, differs: false };
+/// The header notes of an utterance: flips, whether out of step, whether the settings differ; or nothing for a lost one.
+fn header_notes(heard: Utterance<&[u8]>) -> Vec<Option<(u8, bool, bool)>> {
+    let note = |note: HeaderNote| match note {
+        HeaderNote::Readable { flips, out_of_step, differs, .. } => Some((flips, out_of_step, differs)),
+        HeaderNote::Lost => None,
+    };
+    heard.multiframes().map(|multiframe| note(multiframe.header())).collect()
+}
+
+const CLEAN: Option<(u8, bool, bool)> = Some((0, false, false));
 
 /// Sixty frames of speech in three multiframes, with pairs 1, 11, 12 and 35 damaged.
 fn damaged() -> Vec<u8> {
@@ -56,8 +65,7 @@ fn multiframes_have_their_notes_frames_and_pairs() {
     flip(&mut octets, 1152 + 40);
     with_reading(&octets, &Tables::ZEROS, |heard| {
         assert_eq!(heard.multiframes().len(), 3);
-        let notes: Vec<_> = heard.multiframes().map(|multiframe| multiframe.header()).collect();
-        assert_eq!(notes, [CLEAN, HeaderNote::Readable { flips: 2, out_of_step: false, differs: false }, CLEAN]);
+        assert_eq!(header_notes(heard), [CLEAN, Some((2, false, false)), CLEAN]);
         let pairs: Vec<_> = heard.multiframes().flat_map(|multiframe| multiframe.pairs()).collect();
         assert_eq!(pairs, heard.pairs().collect::<Vec<_>>());
         let frames: Vec<_> = heard.multiframes().flat_map(|multiframe| multiframe.frames()).collect();
@@ -74,16 +82,13 @@ fn header_notes_are_named() {
     lost[2] ^= 0b111;
     let octets = [multiframe(counted_1), lost, multiframe(counted_3)].concat();
     with_reading(&octets, &Tables::ZEROS, |heard| {
-        let notes: Vec<_> = heard.multiframes().map(|multiframe| multiframe.header()).collect();
-        assert_eq!(notes, [CLEAN, HeaderNote::Lost, CLEAN]);
+        assert_eq!(header_notes(heard), [CLEAN, None, CLEAN]);
         assert_eq!((heard.report()[13], heard.has_notes(), heard.reading.bad), (3, true, 0));
     });
     let octets = [multiframe(counted_1), multiframe(counted_1), multiframe(counted_3_at_11_khz)].concat();
     with_reading(&octets, &Tables::ZEROS, |heard| {
-        let notes: Vec<_> = heard.multiframes().map(|multiframe| multiframe.header()).collect();
-        let out_of_step = HeaderNote::Readable { flips: 0, out_of_step: true, differs: false };
-        let differs = HeaderNote::Readable { flips: 0, out_of_step: false, differs: true };
-        assert_eq!(notes, [CLEAN, out_of_step, differs]);
+        let (out_of_step, differs) = (Some((0, true, false)), Some((0, false, true)));
+        assert_eq!(header_notes(heard), [CLEAN, out_of_step, differs]);
     });
 }
 
