@@ -1,8 +1,18 @@
-/* dsr.h: the proved voice-link codec as C functions (ETSI ES 201 108 multiframes).
+/* dsr.h: the proved voice-link codec as C functions (ETSI ES 201 108 multiframes), for C99 and C++11 and later.
  *
- * Each function takes any numbers, and slices of any length and content; a slice is a pointer and then a length, and the pointer is
- * never null, even for a length of 0. Lent memory that a function writes overlaps no other lent memory. Nothing is allocated and
- * nothing is kept between calls. The archive is for x86-64. */
+ * In this order: version, sizes, numbers and their names, how the lent memory is laid out, the proved functions, and over them the
+ * functions for daily use, which give a struct. Start with those:
+ *   dsr_write_utterance   frames to the octets that are sent
+ *   dsr_read_utterance    received octets to frames
+ *   dsr_hunt_utterance    received bits with no octet boundary to frames
+ *   dsr_hunt_multiframe   the first place of a multiframe in such bits
+ *   dsr_status_text       what a status says
+ *   dsr_octets_for_frames, dsr_multiframes_in, dsr_index_octets, dsr_report_octets   how much memory to lend
+ *
+ * Each function takes any numbers, and slices of any length and content; a slice is a pointer and then a length. Lent memory that a
+ * function writes overlaps no other lent memory. Nothing is allocated and nothing is kept between calls: threads may call at once. Every
+ * function that can refuse returns 0 (DSR_DONE) if it is done. "01" is the specification that the library follows, "02" the list of its
+ * changes; docs/FORMAT.md says both in the project's own words. */
 #ifndef DSR_H
 #define DSR_H
 
@@ -13,12 +23,21 @@
 extern "C" {
 #endif
 
+/* DSR_VERSION is this header's version as a number that grows, DSR_VERSION_TEXT the same to print. */
+#define DSR_VERSION_MAJOR 0
+#define DSR_VERSION_MINOR 2
+#define DSR_VERSION_PATCH 0
+#define DSR_VERSION (DSR_VERSION_MAJOR * 10000 + DSR_VERSION_MINOR * 100 + DSR_VERSION_PATCH)
+#define DSR_VERSION_TEXT "0.2.0"
+
 /* DSR_MULTIFRAME_OCTETS is the size of a multiframe: sync 2, header 4, feature stream 138. */
 #define DSR_MULTIFRAME_OCTETS 144
 /* DSR_STREAM_OCTETS is the size of a multiframe's feature stream: twelve pair packets of 92 bits. */
 #define DSR_STREAM_OCTETS 138
 /* DSR_FRAME_INDICES is the number of index octets of a frame: six below 64, then one of any value. */
 #define DSR_FRAME_INDICES 7
+/* DSR_MULTIFRAME_FRAMES is the number of frames of a multiframe. */
+#define DSR_MULTIFRAME_FRAMES 24
 /* DSR_MULTIFRAME_INDICES is the number of index octets of a multiframe's 24 frames. */
 #define DSR_MULTIFRAME_INDICES 168
 /* DSR_MULTIFRAME_REPORT is the number of report octets of a multiframe: a header note, then twelve pair notes. */
@@ -91,11 +110,27 @@ enum dsr_status {
 
     /* DSR_HEADER_UNREADABLE (dsr_header_read): no codeword differs from the word in at most two bits. */
     DSR_HEADER_UNREADABLE = 97,
-    /* DSR_WRONG_LENGTH (dsr_pack, dsr_unpack): a slice has another length than the multiframe's. */
+    /* DSR_WRONG_LENGTH (dsr_pack, dsr_unpack): a slice has another length than the multiframe's. (The functions that give a struct): a
+     * null pointer has a length other than 0. */
     DSR_WRONG_LENGTH = 98,
     /* DSR_READ_ANSWER_SHORT: answer shorter than DSR_ANSWER_NUMBERS, in dsr_read_bits than DSR_BITS_ANSWER_NUMBERS. All lent memory
      * stays. */
     DSR_READ_ANSWER_SHORT = 99
+};
+
+/* dsr_rate is the code of a sample rate. 2 is undefined and refused. */
+enum dsr_rate {
+    DSR_RATE_8_KHZ = 0,
+    DSR_RATE_11_KHZ = 1,
+    DSR_RATE_16_KHZ = 3,
+    /* DSR_RATE_NONE: in the struct of a refused reading, so that a missed refusal does not pass for 8 kHz. It is never sent. */
+    DSR_RATE_NONE = 255
+};
+
+/* dsr_front_end is the type of a front end. */
+enum dsr_front_end {
+    DSR_STANDARD = 0,
+    DSR_NOISE_ROBUST = 1
 };
 
 /* dsr_answer is the place of each number in a successful reading's answer. */
@@ -137,6 +172,33 @@ enum dsr_note {
     /* DSR_PAIR_BAD: the pair is bad otherwise (inconsistent, beside a bad one). */
     DSR_PAIR_BAD = 2
 };
+
+/* --- how the lent memory is laid out
+ *
+ * Indices, lent to be written and given back by a reading: seven octets a frame, frame after frame, frame f (from 0) from octet 7f on.
+ * Octet 7f + c is an index into codebook c:
+ *
+ *   c         0       1       2       3       4        5         6
+ *   elements  C1 C2   C3 C4   C5 C6   C7 C8   C9 C10   C11 C12   C0 logE
+ *   below     64      64      64      64      64       64        256
+ *
+ * A reading gives 24 frames for each multiframe; those behind the last frame of speech are padding, seven zeros each.
+ *
+ * Report, given back by a reading: 13 octets a multiframe, multiframe k (from 0) from octet 13k on: the header note, then twelve pair
+ * notes. Octet 13k + 1 + p is the note of frames 24k + 2p and 24k + 2p + 1.
+ *
+ * Codebook, 1,280 numbers from 0: the seven codebooks one after the other. Codebook c below 6 begins at number 128c and has 64 entries,
+ * codebook 6 begins at number 768 and has 256. An entry is two numbers, its elements as above: entry j of codebook c is numbers
+ * 128c + 2j and 128c + 2j + 1.
+ *
+ * Thresholds, 14 numbers from 0: 2c and 2c + 1 are for the two elements of codebook c, in the codebook's scale, of any sign. From the first
+ * frame of a pair to the second an index is flagged if either of its elements rises by more than its threshold. At least two flagged
+ * indices make a pair inconsistent, and an inconsistent pair is bad if the next pair's CRC fails or the pair before it is bad. With all
+ * 1,280 and 14 numbers 0 no pair is inconsistent. */
+
+/* --- the proved functions
+ *
+ * Here no pointer is null, even for a length of 0. */
 
 /* dsr_header_encode gives the codeword of a message: the message in bits 0 to 15 and P1 to P16 in bits 16 to 31, first sent bit least
  * significant. */
@@ -182,14 +244,215 @@ uint32_t dsr_hunt(const uint8_t *octets, size_t octets_len, uint64_t from, uint6
 
 /* dsr_read_bits hunts from bit `from` on, takes the 1,152 bits found, hunts on right behind them, and so on to the end; then it reads the
  * multiframes found as dsr_read does, their syncs taken as whole. DSR_DONE, and answer holds the eight numbers of enum dsr_answer, index
- * the first 168m octets and report the first 13m (octets beyond them stay, numbers beyond the eighth too), and *place stays; or a refusal, the first of 11, 21, 22 and
- * 15 to 20 that applies, and *place is its place and answer, index and report stay as they came. Lend an answer of
- * DSR_BITS_ANSWER_NUMBERS numbers; fewer are refused before all else with DSR_READ_ANSWER_SHORT, and then *place stays too.
+ * the first 168m octets and report the first 13m (octets beyond them stay, numbers beyond the eighth too), and *place stays; or a refusal,
+ * the first of 11, 21, 22 and 15 to 20 that applies, and *place is its place and answer, index and report stay as they came. Lend an answer
+ * of DSR_BITS_ANSWER_NUMBERS numbers; fewer are refused before all else with DSR_READ_ANSWER_SHORT, and then *place stays too.
  * A refusal gives no number of places tested: dsr_hunt does. An answer that is used again still holds the last success: look at the
  * number returned. */
 uint32_t dsr_read_bits(const uint8_t *octets, size_t octets_len, uint64_t from, uint64_t least, const int32_t *codebook,
                        size_t codebook_len, const int32_t *thresholds, size_t thresholds_len, uint8_t *index, size_t index_len,
                        uint8_t *report, size_t report_len, uint64_t *answer, size_t answer_len, uint64_t *place);
+
+/* --- the functions for daily use
+ *
+ * They are not proved, but tested. They add to the proved functions only this: the answer is a struct that is filled on a refusal too; a
+ * null pointer is allowed where its length is 0, and with another length it is refused with DSR_WRONG_LENGTH before all else; and the
+ * compiler warns if the status is dropped. The pointer to the struct is never null. A name that ends in _ is the header's own. */
+
+#if defined(__GNUC__) || defined(__clang__)
+#define DSR_MUST_USE __attribute__((warn_unused_result))
+#else
+#define DSR_MUST_USE
+#endif
+
+/* DSR_AS_ is a cast that a strict C++ compiler takes too. */
+#ifdef __cplusplus
+#define DSR_AS_(type, number) static_cast<type>(number)
+#else
+#define DSR_AS_(type, number) ((type)(number))
+#endif
+
+/* struct dsr_tables is what a reading judges pairs by. How it is laid out stands above. */
+struct dsr_tables {
+    int32_t codebook[DSR_CODEBOOK_NUMBERS];
+    int32_t thresholds[DSR_THRESHOLD_NUMBERS];
+};
+
+/* struct dsr_writing is what a writing says. */
+struct dsr_writing {
+    enum dsr_status status;
+    /* The place of a refusal; 0 on success, and if the status has none. */
+    uint64_t place;
+    /* The number of octets written, 144 a multiframe; 0 on a refusal. */
+    size_t octets;
+};
+
+/* struct dsr_reading is what a reading says. On a refusal rate is DSR_RATE_NONE and every number behind it is 0. */
+struct dsr_reading {
+    enum dsr_status status;
+    /* The place of a refusal; 0 on success, and if the status has none. */
+    uint64_t place;
+    /* The settled sample rate, a number of enum dsr_rate, and the settled front end, one of enum dsr_front_end. */
+    unsigned rate;
+    unsigned type;
+    /* The number of multiframes, m: of the lent memory 168m index octets and 13m report octets are filled. */
+    unsigned multiframes;
+    /* The number of frames up to the last one that is not padding. */
+    unsigned speech;
+    /* The number of bad pairs: those whose note is not 0. */
+    unsigned bad;
+    /* 1 if the last frame is zero, which marks the end of an utterance; 0 if the end is missing. */
+    unsigned end;
+    /* Of a hunt: the number of bits outside the multiframes found, and of places tested. A reading of octets has 0 here. */
+    uint64_t outside;
+    uint64_t tested;
+};
+
+/* struct dsr_hunted is what a hunt for one multiframe says. */
+struct dsr_hunted {
+    enum dsr_status status;
+    /* The place of a refusal; 0 on success, and if the status has none. */
+    uint64_t place;
+    /* The multiframe's first bit; UINT64_MAX on a refusal. */
+    uint64_t found;
+    /* The number of places tested, on a refusal too. */
+    uint64_t tested;
+};
+
+/* dsr_multiframes_for_frames gives the number of multiframes that so many frames are written to; 0 above DSR_MOST_FRAMES. */
+static inline size_t dsr_multiframes_for_frames(size_t frames) {
+    return frames > DSR_MOST_FRAMES ? 0 : frames / DSR_MULTIFRAME_FRAMES + 1;
+}
+
+/* dsr_octets_for_frames gives the octets to lend for writing so many frames; 0 above DSR_MOST_FRAMES. */
+static inline size_t dsr_octets_for_frames(size_t frames) { return DSR_MULTIFRAME_OCTETS * dsr_multiframes_for_frames(frames); }
+
+/* dsr_multiframes_in gives the number of multiframes of an image of so many octets, and the most that a reading of so many received octets
+ * can give: at most DSR_MOST_MULTIFRAMES. Who lends that many's dsr_index_octets and dsr_report_octets never meets DSR_READ_INDEX_SHORT
+ * or DSR_READ_REPORT_SHORT. */
+static inline size_t dsr_multiframes_in(size_t octets) {
+    size_t whole = octets / DSR_MULTIFRAME_OCTETS;
+    return whole < DSR_MOST_MULTIFRAMES ? whole : DSR_MOST_MULTIFRAMES;
+}
+
+/* dsr_index_octets gives the index octets of so many multiframes; 0 above DSR_MOST_MULTIFRAMES. */
+static inline size_t dsr_index_octets(size_t multiframes) {
+    return multiframes > DSR_MOST_MULTIFRAMES ? 0 : DSR_MULTIFRAME_INDICES * multiframes;
+}
+
+/* dsr_report_octets gives the report octets of so many multiframes; 0 above DSR_MOST_MULTIFRAMES. */
+static inline size_t dsr_report_octets(size_t multiframes) {
+    return multiframes > DSR_MOST_MULTIFRAMES ? 0 : DSR_MULTIFRAME_REPORT * multiframes;
+}
+
+/* dsr_status_text gives the words of 01 and 02 for when a status is given; a number that is no status has words too. */
+static inline const char *dsr_status_text(uint32_t status) {
+    switch (status) {
+    case DSR_DONE: return "done";
+    case DSR_WRITE_SETTINGS: return "rate not 0, 1 or 3, or type above 1";
+    case DSR_WRITE_INDEX_COUNT: return "index octets no multiple of 7";
+    case DSR_WRITE_FRAME_COUNT: return "more than 6,119 frames";
+    case DSR_WRITE_INDEX_VALUE: return "one of the first six indices of a frame above 63";
+    case DSR_WRITE_ZERO_FRAME: return "an all-zero frame that is the last, or whose number is a multiple of 24";
+    case DSR_WRITE_OUTPUT_SHORT: return "output shorter than 144m";
+    case DSR_READ_TABLES: return "codebook not 1,280 or thresholds not 14";
+    case DSR_READ_UNKNOWN: return "octets at p begin nothing known";
+    case DSR_READ_CUT: return "sync with too few octets, or a lone last 87 or 78";
+    case DSR_READ_NO_MULTIFRAME: return "no multiframe";
+    case DSR_READ_TOO_MANY: return "a sync after 255 multiframes, even a cut one";
+    case DSR_READ_UNSETTLED: return "settings not settled";
+    case DSR_READ_SETTINGS: return "settled rate is 2 or any EXP is 1";
+    case DSR_READ_INDEX_SHORT: return "index buffer under 168m";
+    case DSR_READ_REPORT_SHORT: return "report buffer under 13m";
+    case DSR_READ_ALL_BAD: return "every pair bad";
+    case DSR_HUNT_MATCH: return "T outside 12 to 16";
+    case DSR_HUNT_NOWHERE: return "no place found by the first hunt";
+    case DSR_HEADER_UNREADABLE: return "no codeword differs from the word in at most two bits";
+    case DSR_WRONG_LENGTH: return "a length is not the multiframe's, or not 0 for a null pointer";
+    case DSR_READ_ANSWER_SHORT: return "answer too short";
+    default: return "no status of this library";
+    }
+}
+
+/* dsr_lent_ says whether a pointer can be lent with that length. */
+static inline int dsr_lent_(const void *memory, size_t len) { return memory || len == 0; }
+
+/* dsr_write_utterance writes frames as dsr_write does. Rate and type are numbers of enum dsr_rate and enum dsr_front_end; every other is
+ * refused, whatever its width. */
+DSR_MUST_USE static inline enum dsr_status dsr_write_utterance(uint64_t rate, uint64_t type, const uint8_t *indices, size_t indices_len,
+                                                               uint8_t *out, size_t out_len, struct dsr_writing *writing) {
+    uint8_t no_index = 0, no_out = 0;
+    uint64_t place = 0;
+    uint32_t number = DSR_WRONG_LENGTH;
+    if (dsr_lent_(indices, indices_len) && dsr_lent_(out, out_len))
+        number = dsr_write(rate, type, indices ? indices : &no_index, indices_len, out ? out : &no_out, out_len, &place);
+    writing->status = DSR_AS_(enum dsr_status, number);
+    writing->place = number == DSR_DONE ? 0 : place;
+    writing->octets = number == DSR_DONE ? DSR_AS_(size_t, place) : 0;
+    return writing->status;
+}
+
+/* dsr_fill_ fills a reading. A proved function that refuses leaves the answer as it came, so a refusal shows what stood there before. */
+static inline enum dsr_status dsr_fill_(uint32_t number, uint64_t place, const uint64_t *answer, struct dsr_reading *reading) {
+    reading->status = DSR_AS_(enum dsr_status, number);
+    reading->place = place;
+    reading->rate = DSR_AS_(unsigned, answer[DSR_ANSWER_RATE]);
+    reading->type = DSR_AS_(unsigned, answer[DSR_ANSWER_TYPE]);
+    reading->multiframes = DSR_AS_(unsigned, answer[DSR_ANSWER_MULTIFRAMES]);
+    reading->speech = DSR_AS_(unsigned, answer[DSR_ANSWER_SPEECH]);
+    reading->bad = DSR_AS_(unsigned, answer[DSR_ANSWER_BAD]);
+    reading->end = DSR_AS_(unsigned, answer[DSR_ANSWER_END]);
+    reading->outside = answer[DSR_ANSWER_OUTSIDE];
+    reading->tested = answer[DSR_ANSWER_TESTED];
+    return reading->status;
+}
+
+/* dsr_read_utterance reads received octets as dsr_read does. Null tables are refused with DSR_READ_TABLES. */
+DSR_MUST_USE static inline enum dsr_status dsr_read_utterance(const uint8_t *octets, size_t octets_len, const struct dsr_tables *tables,
+                                                              uint8_t *index, size_t index_len, uint8_t *report, size_t report_len,
+                                                              struct dsr_reading *reading) {
+    uint8_t no_octet = 0, no_index = 0, no_report = 0;
+    int32_t no_table = 0;
+    uint64_t answer[DSR_BITS_ANSWER_NUMBERS] = {DSR_RATE_NONE}, place = 0;
+    uint32_t number = DSR_WRONG_LENGTH;
+    if (dsr_lent_(octets, octets_len) && dsr_lent_(index, index_len) && dsr_lent_(report, report_len))
+        number = dsr_read(octets ? octets : &no_octet, octets_len, tables ? tables->codebook : &no_table,
+                          tables ? DSR_CODEBOOK_NUMBERS : 0, tables ? tables->thresholds : &no_table, tables ? DSR_THRESHOLD_NUMBERS : 0,
+                          index ? index : &no_index, index_len, report ? report : &no_report, report_len, answer, DSR_ANSWER_NUMBERS,
+                          &place);
+    return dsr_fill_(number, place, answer, reading);
+}
+
+/* dsr_hunt_utterance reads bits with no octet boundary as dsr_read_bits does: from bit `from` on, at least `least` (12 to 16) of the sync's
+ * bits matching. Null tables are refused with DSR_READ_TABLES. */
+DSR_MUST_USE static inline enum dsr_status dsr_hunt_utterance(const uint8_t *octets, size_t octets_len, uint64_t from, uint64_t least,
+                                                              const struct dsr_tables *tables, uint8_t *index, size_t index_len,
+                                                              uint8_t *report, size_t report_len, struct dsr_reading *reading) {
+    uint8_t no_octet = 0, no_index = 0, no_report = 0;
+    int32_t no_table = 0;
+    uint64_t answer[DSR_BITS_ANSWER_NUMBERS] = {DSR_RATE_NONE}, place = 0;
+    uint32_t number = DSR_WRONG_LENGTH;
+    if (dsr_lent_(octets, octets_len) && dsr_lent_(index, index_len) && dsr_lent_(report, report_len))
+        number = dsr_read_bits(octets ? octets : &no_octet, octets_len, from, least, tables ? tables->codebook : &no_table,
+                               tables ? DSR_CODEBOOK_NUMBERS : 0, tables ? tables->thresholds : &no_table,
+                               tables ? DSR_THRESHOLD_NUMBERS : 0, index ? index : &no_index, index_len, report ? report : &no_report,
+                               report_len, answer, DSR_BITS_ANSWER_NUMBERS, &place);
+    return dsr_fill_(number, place, answer, reading);
+}
+
+/* dsr_hunt_multiframe finds the first multiframe from bit `from` on as dsr_hunt does. */
+DSR_MUST_USE static inline enum dsr_status dsr_hunt_multiframe(const uint8_t *octets, size_t octets_len, uint64_t from, uint64_t least,
+                                                               struct dsr_hunted *hunted) {
+    uint8_t no_octet = 0;
+    uint32_t number = DSR_WRONG_LENGTH;
+    hunted->place = 0;
+    hunted->found = UINT64_MAX;
+    hunted->tested = 0;
+    if (dsr_lent_(octets, octets_len))
+        number = dsr_hunt(octets ? octets : &no_octet, octets_len, from, least, &hunted->found, &hunted->tested, &hunted->place);
+    hunted->status = DSR_AS_(enum dsr_status, number);
+    return hunted->status;
+}
 
 #ifdef __cplusplus
 }

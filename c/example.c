@@ -1,30 +1,37 @@
 /* Writes an utterance of 30 frames, damages its image as a radio link would, and reads it back: by octets, and then as a modem gives it
  * that knows no octet boundary. */
+#include <inttypes.h>
 #include <stdio.h>
 
 #include "dsr.h"
 
-enum { IDLE_BITS = 19, LEAST = 14 };
+enum { FRAMES = 30, MULTIFRAMES = FRAMES / DSR_MULTIFRAME_FRAMES + 1, IDLE_BITS = 19, LEAST = 14 };
 
-static uint8_t image[2 * DSR_MULTIFRAME_OCTETS], modem[2 * DSR_MULTIFRAME_OCTETS + 4];
-static uint8_t index_octets[2 * DSR_MULTIFRAME_INDICES], report[2 * DSR_MULTIFRAME_REPORT];
-static int32_t codebook[DSR_CODEBOOK_NUMBERS], thresholds[DSR_THRESHOLD_NUMBERS];
+static uint8_t image[MULTIFRAMES * DSR_MULTIFRAME_OCTETS], modem[sizeof image + 4];
+static uint8_t frames[MULTIFRAMES * DSR_MULTIFRAME_INDICES], report[MULTIFRAMES * DSR_MULTIFRAME_REPORT];
+static struct dsr_tables tables; /* all zero here: lend your own */
 
-static void read_and_print(size_t octets) {
-    uint64_t a[DSR_ANSWER_NUMBERS] = {0};
-    uint32_t number = dsr_read(image, octets, codebook, DSR_CODEBOOK_NUMBERS, thresholds, DSR_THRESHOLD_NUMBERS, index_octets,
-                               sizeof index_octets, report, sizeof report, a, DSR_ANSWER_NUMBERS);
-    if (number != DSR_DONE) {
-        printf("refused %u %llu\n", number, (unsigned long long)a[DSR_ANSWER_PLACE]);
-        return;
-    }
-    for (size_t k = 0; k < a[DSR_ANSWER_MULTIFRAMES]; k++) {
+static void print_refusal(enum dsr_status status, uint64_t place) {
+    printf("refused %u %" PRIu64 ": %s\n", (unsigned)status, place, dsr_status_text(status));
+}
+
+static void print_notes(unsigned multiframes) {
+    for (unsigned k = 0; k < multiframes; k++) {
         const uint8_t *notes = report + DSR_MULTIFRAME_REPORT * k;
         printf("%u ", notes[0]);
         for (unsigned p = 1; p <= DSR_MULTIFRAME_PAIRS; p++) printf("%u", notes[p]);
         printf("\n");
     }
-    printf("speech %llu bad %llu\n", (unsigned long long)a[DSR_ANSWER_SPEECH], (unsigned long long)a[DSR_ANSWER_BAD]);
+}
+
+static void read_and_print(size_t octets) {
+    struct dsr_reading r;
+    if (dsr_read_utterance(image, octets, &tables, frames, sizeof frames, report, sizeof report, &r) != DSR_DONE) {
+        print_refusal(r.status, r.place);
+        return;
+    }
+    print_notes(r.multiframes);
+    printf("rate %u type %u: speech %u bad %u end %u\n", r.rate, r.type, r.speech, r.bad, r.end);
 }
 
 /* The image behind idle bits, all zero, that end in the middle of an octet. */
@@ -34,39 +41,37 @@ static void send_through_modem(size_t octets) {
 }
 
 static void hunt_and_print(uint64_t from) {
-    uint64_t found = 0, tested = 0, place = 0;
-    uint32_t number = dsr_hunt(modem, sizeof modem, from, LEAST, &found, &tested, &place);
-    if (number == DSR_DONE) printf("found at bit %llu", (unsigned long long)found);
-    else printf("refused %u %llu", number, (unsigned long long)place);
-    printf(", %llu places tested\n", (unsigned long long)tested);
+    struct dsr_hunted h;
+    if (dsr_hunt_multiframe(modem, sizeof modem, from, LEAST, &h) != DSR_DONE) print_refusal(h.status, h.place);
+    else printf("found at bit %" PRIu64 ", %" PRIu64 " places tested\n", h.found, h.tested);
 }
 
 static void read_bits_and_print(void) {
-    uint64_t a[DSR_BITS_ANSWER_NUMBERS] = {0}, place = 0;
-    uint32_t number = dsr_read_bits(modem, sizeof modem, 0, LEAST, codebook, DSR_CODEBOOK_NUMBERS, thresholds, DSR_THRESHOLD_NUMBERS,
-                                    index_octets, sizeof index_octets, report, sizeof report, a, DSR_BITS_ANSWER_NUMBERS, &place);
-    if (number != DSR_DONE) {
-        printf("refused %u %llu\n", number, (unsigned long long)place);
+    struct dsr_reading r;
+    if (dsr_hunt_utterance(modem, sizeof modem, 0, LEAST, &tables, frames, sizeof frames, report, sizeof report, &r) != DSR_DONE) {
+        print_refusal(r.status, r.place);
         return;
     }
-    printf("multiframes %llu speech %llu bad %llu: %llu bits outside, %llu places tested\n",
-           (unsigned long long)a[DSR_ANSWER_MULTIFRAMES], (unsigned long long)a[DSR_ANSWER_SPEECH], (unsigned long long)a[DSR_ANSWER_BAD],
-           (unsigned long long)a[DSR_ANSWER_OUTSIDE], (unsigned long long)a[DSR_ANSWER_TESTED]);
+    print_notes(r.multiframes);
+    printf("rate %u type %u: speech %u bad %u end %u, %" PRIu64 " bits outside, %" PRIu64 " places tested\n", r.rate, r.type, r.speech,
+           r.bad, r.end, r.outside, r.tested);
 }
 
 int main(void) {
-    uint8_t indices[30 * DSR_FRAME_INDICES];
-    uint64_t octets = 0;
+    uint8_t indices[FRAMES * DSR_FRAME_INDICES];
+    struct dsr_writing w;
     for (unsigned i = 0; i < sizeof indices; i++) indices[i] = (uint8_t)(i % 63 + 1);
-    if (dsr_write(0, 0, indices, sizeof indices, image, sizeof image, &octets) != DSR_DONE) return 1;
-    read_and_print(octets);
-    image[2] ^= 0x81; /* two flips in the first header: mended */
+    if (dsr_write_utterance(2, DSR_STANDARD, indices, sizeof indices, image, sizeof image, &w) != DSR_DONE)
+        print_refusal(w.status, w.place); /* there is no rate 2 */
+    if (dsr_write_utterance(DSR_RATE_11_KHZ, DSR_STANDARD, indices, sizeof indices, image, sizeof image, &w) != DSR_DONE) return 1;
+    read_and_print(w.octets);
+    image[2] ^= 0x81; /* two flips in the first header, one of them in the rate: mended */
     image[6] ^= 0x01; /* one in its first pair: found, and the pair replaced */
-    read_and_print(octets);
-    read_and_print(octets - 1); /* the last multiframe is cut */
+    read_and_print(w.octets);
+    read_and_print(w.octets - 1); /* the last multiframe is cut */
     image[1] ^= 0x10; /* one flip in the first sync: the octet reader refuses, the hunt does not mind */
-    read_and_print(octets);
-    send_through_modem(octets);
+    read_and_print(w.octets);
+    send_through_modem(w.octets);
     hunt_and_print(0);
     hunt_and_print(IDLE_BITS + 1); /* goes on behind the first */
     hunt_and_print(IDLE_BITS + DSR_MULTIFRAME_BITS + 1); /* no whole multiframe is left */

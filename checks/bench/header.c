@@ -23,7 +23,7 @@ static void run_literal_encode(void) {
 static void run_library_read(void) {
     uint16_t message = 0;
     uint32_t flips = 0, sum = 0;
-    for (unsigned i = 0; i < WORDS; i++) sum += dsr_header_read(words[i], &message, &flips) + message + flips;
+    for (unsigned i = 0; i < WORDS; i++) sum += (dsr_header_read(words[i], &message, &flips) == DSR_DONE) + message + flips;
     sink = sum;
 }
 

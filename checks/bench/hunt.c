@@ -68,8 +68,9 @@ static void run_literal_read_bits(void) {
 
 /* The octet reader on the same multiframes. */
 static void run_library_read(void) {
+    uint64_t place = 0;
     sink = dsr_read(image, image_len, codebook, CODEBOOK_NUMBERS, thresholds, THRESHOLD_NUMBERS, index_b, sizeof index_b, report_b,
-                    sizeof report_b, answer_b, DSR_ANSWER_NUMBERS);
+                    sizeof report_b, answer_b, DSR_ANSWER_NUMBERS, &place);
 }
 
 /* Writes m multiframes, and again from bit 3 on. */

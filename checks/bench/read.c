@@ -13,13 +13,15 @@ static size_t image_len;
 static volatile uint32_t sink;
 
 static void run_library_read(void) {
+    uint64_t place = 0;
     sink = dsr_read(image, image_len, codebook, CODEBOOK_NUMBERS, thresholds, THRESHOLD_NUMBERS, index_a, sizeof index_a, report_a,
-                    sizeof report_a, answer_a, DSR_ANSWER_NUMBERS);
+                    sizeof report_a, answer_a, DSR_ANSWER_NUMBERS, &place);
 }
 
 static void run_literal_read(void) {
+    uint64_t place = 0;
     sink = literal_read(image, image_len, codebook, CODEBOOK_NUMBERS, thresholds, THRESHOLD_NUMBERS, index_b, sizeof index_b, report_b,
-                         sizeof report_b, answer_b);
+                         sizeof report_b, answer_b, &place);
 }
 
 static uint8_t *header_of(unsigned k) { return image + MULTIFRAME_OCTETS * (size_t)k + SYNC_OCTETS; }

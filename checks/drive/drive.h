@@ -8,6 +8,9 @@
 #ifndef DRIVE_H
 #define DRIVE_H
 
+#ifndef _GNU_SOURCE
+#define _GNU_SOURCE /* memfd_create */
+#endif
 #include <stddef.h>
 #include <stdint.h>
 #include <stdio.h>
@@ -100,6 +103,21 @@ static inline int margin_kept(const struct lent *l) {
 }
 
 static inline int all_kept(const struct lent *l) { return margin_kept(l) && memcmp(l->data, l->copy, l->len) == 0; }
+
+/* A number that a call may write is lent as a slice is, so that it stands between guarded pages too: here with what it holds before. */
+static inline void lend_number(struct lent *l, int mode, const void *number, size_t size) {
+    l->len = size;
+    l->data = mode == 0 ? l->arena + ARENA - size : l->arena;
+    memcpy(l->data, number, size);
+    memset(mode == 0 ? l->data - MARGIN : l->data + size, PATTERN, MARGIN);
+}
+
+static inline void take_number(struct lent *l, int mode) {
+    uint64_t number = take_64();
+    lend_number(l, mode, &number, sizeof number);
+}
+
+static inline uint64_t *number_of(const struct lent *l) { return (uint64_t *)l->data; }
 
 /* A slice of `len` zero octets that needs no memory until it is touched: for lengths beyond 32 bits. */
 static inline uint8_t *wide_slice(uint64_t len, int prot) {

@@ -3,8 +3,7 @@
  *   'B', mode, from, least, before, octets, codebook, thresholds, index, report, answer, place
  *        ->  number, kept, place, answer, index, report
  * `before` is how many zero octets stand before the given ones: so bits beyond 32 bits in number can be lent. A slice is a length of
- * 32 bits and its elements. A number that a call may write is lent as a slice of one number of 64 bits, so that it stands between
- * guarded pages as the buffers do. */
+ * 32 bits and its elements; found, tested and place are one number of 64 bits each, what is lent for it. */
 #include "../../c/dsr.h"
 #include "drive.h"
 
@@ -18,13 +17,6 @@ struct search {
     size_t octets_len;
     uint8_t *wide;
 };
-
-static uint64_t *number_of(const struct lent *l) { return (uint64_t *)l->data; }
-
-static void take_number(struct lent *l, int mode) {
-    take_slice(l, mode, sizeof(uint64_t));
-    if (l->len != sizeof(uint64_t)) fail("not one number");
-}
 
 static struct search take_search(int mode) {
     struct search s = {.from = take_64()};

@@ -1,56 +1,95 @@
 /* Drives dsr_read.
- *   'R', mode, octets, codebook, thresholds, index, report  ->  number, kept, answer (six of 64 bits, lent with 0xA55A), index, report
- *   'L', octets' length (64 bits), all zeros, tables of zeros, empty buffers  ->  number, 1, answer */
-#include "../../c/dsr.h"
+ *   'R', mode, octets, codebook, thresholds, index, report, answer, place  ->  number, kept, place, answer, index, report
+ *   'L', before, lengths of codebook, thresholds, index, report and answer (64 bits each), octets, place
+ *        ->  number, 1, place, multiframes of the answer, first index octet, first report octet (64 bits each)
+ * In 'L' `before` octets of inverse syncs stand before the given octets, and all other memory is of zeros: so places and lengths beyond
+ * 32 bits can be tried.
+ * A slice is a length of 32 bits and its elements; answer is a slice of numbers of 64 bits, and place is one such number. */
 #include "drive.h"
 
-static uint64_t answer[DSR_ANSWER_NUMBERS];
+#include "../../c/dsr.h"
 
-static void lend_answer(void) {
-    for (unsigned i = 0; i < DSR_ANSWER_NUMBERS; i++) answer[i] = 0xA55A;
+static struct {
+    struct lent octets, codebook, thresholds, index, report, answer, place;
+} lend;
+
+static uint32_t call_read(const uint8_t *octets, size_t len) {
+    return dsr_read(octets, len, (const int32_t *)lend.codebook.data, lend.codebook.len / sizeof(int32_t),
+                    (const int32_t *)lend.thresholds.data, lend.thresholds.len / sizeof(int32_t), lend.index.data, lend.index.len,
+                    lend.report.data, lend.report.len, number_of(&lend.answer), lend.answer.len / sizeof(uint64_t),
+                    number_of(&lend.place));
 }
 
-static void give_answer(void) {
-    for (unsigned i = 0; i < DSR_ANSWER_NUMBERS; i++) give_64(answer[i]);
+static void read_lent(void) {
+    int mode = take_8();
+    take_slice(&lend.octets, mode, 1);
+    take_slice(&lend.codebook, mode, sizeof(int32_t));
+    take_slice(&lend.thresholds, mode, sizeof(int32_t));
+    take_slice(&lend.index, mode, 1);
+    take_slice(&lend.report, mode, 1);
+    take_slice(&lend.answer, mode, sizeof(uint64_t));
+    take_number(&lend.place, mode);
+    uint32_t number = call_read(lend.octets.data, lend.octets.len);
+    int kept = all_kept(&lend.octets) && all_kept(&lend.codebook) && all_kept(&lend.thresholds) && margin_kept(&lend.index)
+               && margin_kept(&lend.report) && margin_kept(&lend.answer) && margin_kept(&lend.place);
+    give_32(number);
+    give_32((uint32_t)kept);
+    give_64(*number_of(&lend.place));
+    give(lend.answer.data, lend.answer.len);
+    give(lend.index.data, lend.index.len);
+    give(lend.report.data, lend.report.len);
+}
+
+/* `before` octets of inverse syncs, then the given ones. The inverse syncs are one short file that is mapped again and again. */
+static uint8_t *behind_inverse_syncs(uint64_t before, const struct lent *octets) {
+    enum { UNIT = 1 << 21 };
+    uint8_t *all = wide_slice(before + octets->len + 1, PROT_READ | PROT_WRITE);
+    int file = memfd_create("inverse syncs", 0);
+    if (file < 0 || ftruncate(file, UNIT) != 0) fail("no file in memory");
+    uint8_t *unit = mmap(NULL, UNIT, PROT_READ | PROT_WRITE, MAP_SHARED, file, 0);
+    if (unit == MAP_FAILED) fail("no memory");
+    for (size_t i = 0; i < UNIT; i++) unit[i] = i % 2 == 0 ? 0x78 : 0x4D;
+    uint64_t at = 0;
+    for (; at + UNIT <= before; at += UNIT)
+        if (mmap(all + at, UNIT, PROT_READ, MAP_SHARED | MAP_FIXED | MAP_POPULATE, file, 0) == MAP_FAILED) fail("no room for inverse syncs");
+    memcpy(all + at, unit, before - at);
+    memcpy(all + before, octets->data, octets->len);
+    munmap(unit, UNIT);
+    close(file);
+    return all;
 }
 
 static void read_wide(void) {
-    static int32_t codebook[DSR_CODEBOOK_NUMBERS], thresholds[DSR_THRESHOLD_NUMBERS];
-    static uint8_t index[1], report[1];
-    uint64_t len = take_64();
-    uint8_t *octets = wide_slice(len, PROT_READ);
-    lend_answer();
-    give_32(dsr_read(octets, len, codebook, DSR_CODEBOOK_NUMBERS, thresholds, DSR_THRESHOLD_NUMBERS, index, 0, report, 0, answer,
-                     DSR_ANSWER_NUMBERS));
+    enum { SLICES = 5 };
+    static const size_t size[SLICES] = {sizeof(int32_t), sizeof(int32_t), 1, 1, sizeof(uint64_t)};
+    uint64_t before = take_64(), len[SLICES];
+    uint8_t *zeros[SLICES];
+    for (unsigned i = 0; i < SLICES; i++) {
+        len[i] = take_64();
+        zeros[i] = wide_slice(size[i] * len[i] + 1, PROT_READ | PROT_WRITE);
+    }
+    take_slice(&lend.octets, 0, 1);
+    uint64_t place = take_64();
+    uint8_t *octets = behind_inverse_syncs(before, &lend.octets);
+    uint64_t *answer = (uint64_t *)zeros[4];
+    give_32(dsr_read(octets, before + lend.octets.len, (const int32_t *)zeros[0], len[0], (const int32_t *)zeros[1], len[1], zeros[2],
+                     len[2], zeros[3], len[3], answer, len[4], &place));
     give_32(1);
-    give_answer();
-    munmap(octets, len);
+    give_64(place);
+    give_64(answer[DSR_ANSWER_MULTIFRAMES]);
+    give_64(zeros[2][0]);
+    give_64(zeros[3][0]);
+    munmap(octets, before + lend.octets.len + 1);
+    for (unsigned i = 0; i < SLICES; i++) munmap(zeros[i], size[i] * len[i] + 1);
 }
 
 int main(void) {
-    struct lent octets = arena(), codebook = arena(), thresholds = arena(), index = arena(), report = arena();
+    struct lent *all[] = {&lend.octets, &lend.codebook, &lend.thresholds, &lend.index, &lend.report, &lend.answer, &lend.place};
+    for (size_t i = 0; i < sizeof all / sizeof *all; i++) *all[i] = arena();
     for (;;) {
         int kind = next_call();
-        if (kind == 'L') {
-            read_wide();
-            continue;
-        }
-        if (kind != 'R') fail("unknown call");
-        int mode = take_8();
-        take_slice(&octets, mode, 1);
-        take_slice(&codebook, mode, sizeof(int32_t));
-        take_slice(&thresholds, mode, sizeof(int32_t));
-        take_slice(&index, mode, 1);
-        take_slice(&report, mode, 1);
-        lend_answer();
-        uint32_t number = dsr_read(octets.data, octets.len, (const int32_t *)codebook.data, codebook.len / sizeof(int32_t),
-                                   (const int32_t *)thresholds.data, thresholds.len / sizeof(int32_t), index.data, index.len,
-                                   report.data, report.len, answer, DSR_ANSWER_NUMBERS);
-        int kept = all_kept(&octets) && all_kept(&codebook) && all_kept(&thresholds) && margin_kept(&index) && margin_kept(&report);
-        give_32(number);
-        give_32((uint32_t)kept);
-        give_answer();
-        give(index.data, index.len);
-        give(report.data, report.len);
+        if (kind == 'R') read_lent();
+        else if (kind == 'L') read_wide();
+        else fail("unknown call");
     }
 }

@@ -3,7 +3,7 @@
  * damage of the kinds that the reader is proved to see is named, a hunt ends at the first place that passes, and a reading that hunts is
  * the reading of what the hunts find.
  *
- *   fuzz SECONDS [SEED]            runs for that time and prints how often each answer was given
+ *   fuzz SECONDS [SEED]            runs for that time and prints how often each answer was given; the environment can give SEED too
  *   fuzz 0 SEED ROUND              makes the calls of one round again
  *
  * Each round draws from a generator of its own, made of seed and round, so a failure's round is all that is needed to see it again. */
@@ -14,7 +14,17 @@
 
 #include "../../c/dsr.h"
 
-enum { SYNC = 2, HEADER = 4, PACKET_BITS = 92, FRAMES = 24, MARGIN = 64, PATTERN = 0xC5, STATUSES = 100, SEED = 201108 };
+enum {
+    SYNC = 2,
+    HEADER = 4,
+    PACKET_BITS = 92,
+    FRAMES = 24,
+    MARGIN = 64,
+    PATTERN = 0xC5,
+    UNTOUCHED = 0xA55A,
+    STATUSES = 100,
+    SEED = 201108
+};
 
 static uint64_t state, seed = SEED, round_number, given[STATUSES], read_back, named, hunted;
 
@@ -140,8 +150,10 @@ static void try_header(void) {
     expect(__builtin_popcount(word) % 2 == 0, "a codeword has an odd number of ones");
     word ^= places(flips);
     if (chance(4) == 0) word = chance(65536) << 16 | chance(65536), flips = 5;
-    uint32_t readable = dsr_header_read(word, &got, &count);
-    expect(readable <= 1, "a header's answer is neither 0 nor 1");
+    uint32_t number = dsr_header_read(word, &got, &count);
+    int readable = number == DSR_DONE;
+    expect(readable || number == DSR_HEADER_UNREADABLE, "a header's answer is neither done nor unreadable");
+    given[number]++;
     if (readable) {
         expect(count <= 2, "more than two flips were mended");
         expect((uint32_t)__builtin_popcount(dsr_header_encode(got) ^ word) == count, "flips are not the distance to the codeword");
@@ -160,11 +172,12 @@ static void try_stream(void) {
     struct lent stream = lend_buffer(near(DSR_STREAM_OCTETS)), indices = lend_buffer(near(DSR_MULTIFRAME_INDICES));
     struct lent notes = lend_buffer(near(DSR_MULTIFRAME_PAIRS));
     int right = stream.len == DSR_STREAM_OCTETS && indices.len == DSR_MULTIFRAME_INDICES && notes.len == DSR_MULTIFRAME_PAIRS;
-    uint32_t done = dsr_unpack(stream.data, stream.len, indices.data, indices.len, notes.data, notes.len);
-    expect(done == (uint32_t)right, "unpacking answers to lengths other than it says");
-    if (done) {
+    uint32_t number = dsr_unpack(stream.data, stream.len, indices.data, indices.len, notes.data, notes.len);
+    expect(number == (right ? DSR_DONE : DSR_WRONG_LENGTH), "unpacking answers to lengths other than it says");
+    given[number]++;
+    if (right) {
         struct lent again = lend_buffer(DSR_STREAM_OCTETS);
-        expect(dsr_pack(indices.data, indices.len, again.data, again.len) == 1, "unpacked frames cannot be packed");
+        expect(dsr_pack(indices.data, indices.len, again.data, again.len) == DSR_DONE, "unpacked frames cannot be packed");
         for (size_t t = 0; t < 8 * DSR_STREAM_OCTETS; t++) {
             expect(notes.data[t / PACKET_BITS] <= 1, "a note of unpacking is neither 0 nor 1");
             unsigned was = stream.data[t / 8] >> t % 8 & 1, is = again.data[t / 8] >> t % 8 & 1;
@@ -185,7 +198,7 @@ static void try_stream(void) {
 static size_t octets_for(size_t frames) { return DSR_MULTIFRAME_OCTETS * (frames / FRAMES + 1); }
 
 /* What a refused writing says has to be so, and nothing before it. */
-static void check_refused_writing(uint32_t number, uint64_t place, const struct lent *indices, uint8_t rate, uint8_t type, size_t out) {
+static void check_refused_writing(uint32_t number, uint64_t place, const struct lent *indices, uint64_t rate, uint64_t type, size_t out) {
     size_t frames = indices->len / DSR_FRAME_INDICES;
     int settings = (rate == 0 || rate == 1 || rate == 3) && type <= 1, whole = indices->len % DSR_FRAME_INDICES == 0;
     expect((number == DSR_WRITE_SETTINGS) == !settings, "refusal 1 against the settings");
@@ -201,15 +214,15 @@ static void check_refused_writing(uint32_t number, uint64_t place, const struct 
     }
 }
 
-static void check_reads_back(uint8_t rate, uint8_t type, const struct lent *indices, const struct lent *image) {
+static void check_reads_back(uint64_t rate, uint64_t type, const struct lent *indices, const struct lent *image) {
     size_t frames = indices->len / DSR_FRAME_INDICES, m = image->len / DSR_MULTIFRAME_OCTETS;
     struct lent index = lend_buffer(DSR_MULTIFRAME_INDICES * m), report = lend_buffer(DSR_MULTIFRAME_REPORT * m);
     struct lent codebook = lend_buffer(4 * DSR_CODEBOOK_NUMBERS), thresholds = lend_buffer(4 * DSR_THRESHOLD_NUMBERS);
-    uint64_t a[DSR_ANSWER_NUMBERS];
+    uint64_t a[DSR_ANSWER_NUMBERS], place = UNTOUCHED;
     uint32_t number = dsr_read(image->data, image->len, (const int32_t *)codebook.data, DSR_CODEBOOK_NUMBERS,
                                (const int32_t *)thresholds.data, DSR_THRESHOLD_NUMBERS, index.data, index.len, report.data, report.len, a,
-                               DSR_ANSWER_NUMBERS);
-    expect(number == DSR_DONE, "a written utterance is refused");
+                               DSR_ANSWER_NUMBERS, &place);
+    expect(number == DSR_DONE && place == UNTOUCHED, "a written utterance is refused, or its place touched");
     expect(a[DSR_ANSWER_RATE] == rate && a[DSR_ANSWER_TYPE] == type, "a written utterance has other settings");
     expect(a[DSR_ANSWER_MULTIFRAMES] == m && a[DSR_ANSWER_SPEECH] == frames, "a written utterance has another length");
     expect(a[DSR_ANSWER_BAD] == 0 && a[DSR_ANSWER_END] == 1, "a written utterance has bad pairs or no end");
@@ -221,6 +234,9 @@ static void check_reads_back(uint8_t rate, uint8_t type, const struct lent *indi
     read_back++;
 }
 
+/* A small number, and one of these moved up, so that it is small again where a number is cut. */
+static uint64_t any_number(void) { return chance(5) + (chance(2) ? (uint64_t)1 << chance(64) : 0); }
+
 static void try_write(void) {
     size_t frames = frames_of_an_utterance(), room = octets_for(frames);
     struct lent indices = lend(DSR_FRAME_INDICES * frames + (chance(20) == 0 ? chance(7) : 0));
@@ -228,8 +244,8 @@ static void try_write(void) {
     speak(indices.data, frames, 1);
     memcpy(indices.copy, indices.data, indices.len);
     struct lent out = lend_buffer(chance(8) == 0 ? chance((uint32_t)room) : room + (chance(2) ? chance(300) : 0));
-    uint8_t rate = (uint8_t)(chance(9) == 0 ? chance(256) : 0x310 >> 4 * chance(3) & 15), type = (uint8_t)chance(chance(9) ? 2 : 256);
-    uint64_t place = 0xA55A;
+    uint64_t rate = chance(9) == 0 ? any_number() : 0x310 >> 4 * chance(3) & 15, type = chance(9) == 0 ? any_number() : chance(2);
+    uint64_t place = UNTOUCHED;
     uint32_t number = dsr_write(rate, type, indices.data, indices.len, out.data, out.len, &place);
     expect(number <= DSR_WRITE_OUTPUT_SHORT, "a writing's answer is no number of 01");
     given[number]++;
@@ -260,7 +276,7 @@ static void write_octets(size_t frames) {
     uint64_t place = 0;
     spoken_frames = frames;
     speak(spoken, frames, 0);
-    uint32_t number = dsr_write(chance(2) ? 0 : 3, (uint8_t)chance(2), spoken, DSR_FRAME_INDICES * frames, octets, sizeof octets, &place);
+    uint32_t number = dsr_write(chance(2) ? 0 : 3, chance(2), spoken, DSR_FRAME_INDICES * frames, octets, sizeof octets, &place);
     expect(number == DSR_DONE, "an utterance that fits is refused");
     octets_len = place;
 }
@@ -334,7 +350,7 @@ static void check_written_again(const struct lent *in, const struct lent *index,
         if (report->data[i] != 0) return;
     struct lent out = lend_buffer(in->len);
     uint64_t place = 0;
-    uint32_t number = dsr_write((uint8_t)a[DSR_ANSWER_RATE], (uint8_t)a[DSR_ANSWER_TYPE], index->data,
+    uint32_t number = dsr_write(a[DSR_ANSWER_RATE], a[DSR_ANSWER_TYPE], index->data,
                                 DSR_FRAME_INDICES * a[DSR_ANSWER_SPEECH], out.data, out.len, &place);
     if (number == DSR_DONE) expect(place == in->len && memcmp(out.data, in->data, in->len) == 0, "a reading without a note is written otherwise");
     give_back(&out);
@@ -370,6 +386,7 @@ static void check_refused_reading(uint32_t number, uint64_t place, const struct 
     case DSR_READ_NO_MULTIFRAME: expect(place == in->len, "refusal 14"); break;
     case DSR_READ_TOO_MANY: expect(left > 1 && at[0] == 0x87 && place >= DSR_MOST_MULTIFRAMES * DSR_MULTIFRAME_OCTETS, "refusal 15"); break;
     case DSR_READ_INDEX_SHORT: expect(place > index->len && place % DSR_MULTIFRAME_INDICES == 0, "refusal 18"); break;
+    case DSR_READ_ANSWER_SHORT: break;
     case DSR_READ_REPORT_SHORT: expect(place > report->len && place % DSR_MULTIFRAME_REPORT == 0, "refusal 19"); break;
     default: expect(place == 0, "a refusal has a place that 01 does not give it");
     }
@@ -394,6 +411,28 @@ static size_t room_near(size_t needed) {
 
 static size_t room_for(size_t each) { return room_near(each * (octets_len / DSR_MULTIFRAME_OCTETS)); }
 
+/* An answer of its length, of less or of more, and a place. */
+static struct lent lend_answer(size_t numbers) {
+    return lend_buffer(sizeof(uint64_t) * (chance(15) == 0 ? chance((uint32_t)numbers) : numbers + chance(2) * chance(5)));
+}
+
+static struct lent lend_place(void) {
+    uint64_t untouched = UNTOUCHED;
+    return lend_copy(&untouched, sizeof untouched);
+}
+
+/* What the number says of tables, answer and place. */
+static void check_number(uint32_t number, int tables, const struct lent *answer, const struct lent *place) {
+    int short_answer = answer->len < sizeof(uint64_t) * DSR_ANSWER_NUMBERS, done = number == DSR_DONE;
+    expect((number == DSR_READ_ANSWER_SHORT) == short_answer, "refusal 99 against the answer's length");
+    if (short_answer) expect(stays_from(place, 0), "a short answer touched the place");
+    else expect(done || (number >= DSR_READ_TABLES && number <= DSR_READ_ALL_BAD), "a reading's answer is no number of 01");
+    if (!short_answer) expect((number == DSR_READ_TABLES) == !tables, "refusal 11 against the tables");
+    expect(stays_from(answer, done ? sizeof(uint64_t) * DSR_ANSWER_NUMBERS : 0), "a reading touched numbers that have to stay");
+    if (done) expect(stays_from(place, 0), "a reading that ended well touched the place");
+    given[number]++;
+}
+
 static void try_read(void) {
     if (chance(20) == 0) {
         octets_len = chance(400);
@@ -406,16 +445,15 @@ static void try_read(void) {
     struct lent report = lend_buffer(room_for(DSR_MULTIFRAME_REPORT));
     struct lent codebook = lend_table(chance(40) ? DSR_CODEBOOK_NUMBERS : chance(2000));
     struct lent thresholds = lend_table(chance(40) ? DSR_THRESHOLD_NUMBERS : chance(30));
-    uint64_t a[DSR_ANSWER_NUMBERS] = {0};
+    struct lent answer = lend_answer(DSR_ANSWER_NUMBERS), place = lend_place();
     uint32_t number = dsr_read(in.data, in.len, (const int32_t *)codebook.data, codebook.len / 4, (const int32_t *)thresholds.data,
-                               thresholds.len / 4, index.data, index.len, report.data, report.len, a, DSR_ANSWER_NUMBERS);
-    expect(number == DSR_DONE || (number >= DSR_READ_TABLES && number <= DSR_READ_ALL_BAD), "a reading's answer is no number of 01");
+                               thresholds.len / 4, index.data, index.len, report.data, report.len, (uint64_t *)answer.data,
+                               answer.len / sizeof(uint64_t), (uint64_t *)place.data);
     int tables = codebook.len / 4 == DSR_CODEBOOK_NUMBERS && thresholds.len / 4 == DSR_THRESHOLD_NUMBERS;
-    expect((number == DSR_READ_TABLES) == !tables, "refusal 11 against the tables");
-    given[number]++;
-    if (number == DSR_DONE) check_reading(&in, &index, &report, a);
-    else check_refused_reading(number, a[DSR_ANSWER_PLACE], &in, &index, &report);
-    give_back(&index), give_back(&report);
+    check_number(number, tables, &answer, &place);
+    if (number == DSR_DONE) check_reading(&in, &index, &report, (const uint64_t *)answer.data);
+    else check_refused_reading(number, *(uint64_t *)place.data, &in, &index, &report);
+    give_back(&index), give_back(&report), give_back(&answer), give_back(&place);
     give_back_kept(&in, "reading touched the octets");
     give_back_kept(&codebook, "reading touched the codebook"), give_back_kept(&thresholds, "reading touched the thresholds");
 }
@@ -459,14 +497,14 @@ static void try_damage(void) {
     static uint8_t damaged[DSR_MULTIFRAME_PAIRS * DSR_MOST_MULTIFRAMES];
     write_octets(FRAMES + chance(chance(50) ? 100 : 3000));
     size_t m = octets_len / DSR_MULTIFRAME_OCTETS;
-    uint8_t rate = octets[SYNC] & 3, type = octets[SYNC] >> 2 & 1;
+    uint64_t rate = octets[SYNC] & 3, type = octets[SYNC] >> 2 & 1;
     damage_image(damaged, m);
     struct lent in = lend_copy(octets, octets_len), index = lend_buffer(DSR_MULTIFRAME_INDICES * m);
     struct lent report = lend_buffer(DSR_MULTIFRAME_REPORT * m);
     struct lent codebook = lend_table(DSR_CODEBOOK_NUMBERS), thresholds = lend_table(DSR_THRESHOLD_NUMBERS);
-    uint64_t a[DSR_ANSWER_NUMBERS] = {0};
+    uint64_t a[DSR_ANSWER_NUMBERS] = {0}, place = UNTOUCHED;
     uint32_t number = dsr_read(in.data, in.len, (const int32_t *)codebook.data, DSR_CODEBOOK_NUMBERS, (const int32_t *)thresholds.data,
-                               DSR_THRESHOLD_NUMBERS, index.data, index.len, report.data, report.len, a, DSR_ANSWER_NUMBERS);
+                               DSR_THRESHOLD_NUMBERS, index.data, index.len, report.data, report.len, a, DSR_ANSWER_NUMBERS, &place);
     expect(number == DSR_DONE || number == DSR_READ_ALL_BAD, "a damaged image is refused");
     given[number]++;
     if (number == DSR_DONE) {
@@ -475,7 +513,7 @@ static void try_damage(void) {
         check_named(damaged, &index, &report, m);
         named++;
     } else {
-        check_refused_reading(number, a[DSR_ANSWER_PLACE], &in, &index, &report);
+        check_refused_reading(number, place, &in, &index, &report);
     }
     give_back(&index), give_back(&report);
     give_back_kept(&in, "reading touched the octets");
@@ -484,7 +522,7 @@ static void try_damage(void) {
 
 /* --- hunting */
 
-enum { SYNC_BITS = 8 * SYNC, FRONT_BITS = 8 * (SYNC + HEADER), UNTOUCHED = 0xA55A, FEW_PLACES = 20000 };
+enum { SYNC_BITS = 8 * SYNC, FRONT_BITS = 8 * (SYNC + HEADER), FEW_PLACES = 20000 };
 
 static const uint8_t whole_sync[SYNC] = {0x87, 0xB2}, inverse_sync[SYNC] = {0x78, 0x4D};
 
@@ -588,7 +626,7 @@ static int passes(const uint8_t *in, uint64_t t, uint64_t least) {
     for (uint64_t i = 0; i < SYNC_BITS; i++) matches += bit_of(in, t + i) == bit_of(whole_sync, i);
     if (matches < least) return 0;
     for (uint64_t i = SYNC_BITS; i < FRONT_BITS; i++) word |= (uint32_t)bit_of(in, t + i) << (i - SYNC_BITS);
-    return dsr_header_read(word, &message, &flips) == 1;
+    return dsr_header_read(word, &message, &flips) == DSR_DONE;
 }
 
 static void try_hunt(const struct lent *in, uint64_t from, uint64_t least) {
@@ -644,20 +682,20 @@ struct rooms {
 };
 
 static struct rooms lend_rooms(size_t m) {
-    size_t numbers = chance(15) == 0 ? chance(DSR_BITS_ANSWER_NUMBERS) : DSR_BITS_ANSWER_NUMBERS + chance(2) * chance(5);
     struct rooms r;
     r.codebook = lend_table(chance(40) ? DSR_CODEBOOK_NUMBERS : chance(2000));
     r.thresholds = lend_table(chance(40) ? DSR_THRESHOLD_NUMBERS : chance(30));
     r.index = lend_buffer(room_near(DSR_MULTIFRAME_INDICES * m));
     r.report = lend_buffer(room_near(DSR_MULTIFRAME_REPORT * m));
-    r.answer = lend_buffer(sizeof(uint64_t) * numbers);
+    r.answer = lend_answer(DSR_BITS_ANSWER_NUMBERS);
     return r;
 }
 
-static uint32_t read_octets(const struct gathered *g, const struct rooms *r, struct lent *index, struct lent *report, uint64_t *a) {
+static uint32_t read_octets(const struct gathered *g, const struct rooms *r, struct lent *index, struct lent *report, uint64_t *a,
+                            uint64_t *place) {
     return dsr_read(g->image, DSR_MULTIFRAME_OCTETS * g->m, (const int32_t *)r->codebook.data, r->codebook.len / 4,
                     (const int32_t *)r->thresholds.data, r->thresholds.len / 4, index->data, index->len, report->data, report->len, a,
-                    DSR_ANSWER_NUMBERS);
+                    DSR_ANSWER_NUMBERS, place);
 }
 
 /* The refusals that come before anything is read, in their order; 0 if there is none. */
@@ -694,8 +732,8 @@ static void check_read_bits(const struct lent *in, const struct rooms *r, uint64
     uint64_t a[DSR_ANSWER_NUMBERS] = {0}, right_place;
     uint32_t right = refused_before(r, from, least, g, &right_place);
     if (right == DSR_DONE) {
-        right = read_octets(g, r, &index, &report, a);
-        right_place = right == DSR_DONE ? UNTOUCHED : a[DSR_ANSWER_PLACE];
+        right_place = UNTOUCHED;
+        right = read_octets(g, r, &index, &report, a, &right_place);
     }
     expect(number == right && place == right_place, "a hunting reading's number or place is not that of what was found");
     if (number == DSR_DONE) {
@@ -746,15 +784,18 @@ static void play_round(void) {
 
 int main(int argc, char **argv) {
     time_t end = time(NULL) + (argc > 1 ? atoi(argv[1]) : 10);
-    if (argc > 2) seed = strtoull(argv[2], NULL, 10);
+    const char *given_seed = argc > 2 ? argv[2] : getenv("SEED");
+    if (given_seed != NULL) seed = strtoull(given_seed, NULL, 10);
+    printf("seed %llu\n", (unsigned long long)seed);
+    fflush(stdout);
     if (argc > 3) {
         round_number = strtoull(argv[3], NULL, 10);
         play_round();
         return 0;
     }
     for (; time(NULL) < end; round_number++) play_round();
-    printf("seed %llu: %llu rounds, %llu utterances read back, %llu damaged images with every damaged pair named, ",
-           (unsigned long long)seed, (unsigned long long)round_number, (unsigned long long)read_back, (unsigned long long)named);
+    printf("%llu rounds, %llu utterances read back, %llu damaged images with every damaged pair named, ",
+           (unsigned long long)round_number, (unsigned long long)read_back, (unsigned long long)named);
     printf("%llu read at any bit\nanswers:", (unsigned long long)hunted);
     for (unsigned i = 0; i < STATUSES; i++)
         if (given[i] > 0) printf(" %u:%llu", i, (unsigned long long)given[i]);

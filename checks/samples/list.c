@@ -18,16 +18,16 @@ static void print_notes(const uint8_t *notes) {
 
 int main(void) {
     static const char *const names[DSR_ANSWER_NUMBERS] = {"rate", " type", " multiframes", " speech", " bad", " end"};
-    uint64_t answer[DSR_ANSWER_NUMBERS] = {0};
+    uint64_t answer[DSR_ANSWER_NUMBERS] = {0}, place = 0;
     size_t len = fread(octets, 1, sizeof octets, stdin);
     if (len > LIMIT) {
         printf("too long\n");
         return 0;
     }
     uint32_t number = dsr_read(octets, len, codebook, DSR_CODEBOOK_NUMBERS, thresholds, DSR_THRESHOLD_NUMBERS, frames, sizeof frames,
-                               report, sizeof report, answer, DSR_ANSWER_NUMBERS);
+                               report, sizeof report, answer, DSR_ANSWER_NUMBERS, &place);
     if (number != DSR_DONE) {
-        printf("refused %u %llu\n", number, (unsigned long long)answer[DSR_ANSWER_PLACE]);
+        printf("refused %u %llu\n", number, (unsigned long long)place);
         return 0;
     }
     for (size_t k = 0; k < answer[DSR_ANSWER_MULTIFRAMES]; k++) print_notes(report + DSR_MULTIFRAME_REPORT * k);

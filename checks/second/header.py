@@ -8,13 +8,16 @@ a word belongs to the one that differs from it in at most two bits. No syndrome,
 Use: header.py COMMAND..   (the command that runs the header driver)
 """
 import itertools
+import os
 import random
 import struct
 import sys
 
 from driver import Driver, numbers
 
-SEED = 201108
+SEED = int(os.environ.get("SEED", "201108"))
+LENT = 0xA55A
+UNREADABLE = 97
 
 # ES 201 108, clause 6.2.3, equation (6.2): the matrix as it is printed, before the sign T. Its columns are P1 to P16 only after the
 # transpose: row i belongs to message bit i.
@@ -90,24 +93,26 @@ def nearest_of_all(codewords, word):
 class Check:
     def __init__(self, command):
         self.driver = Driver(command)
+        self.calls = 0
 
     def encode(self, messages):
         call = b"E" + struct.pack("<I%dI" % len(messages), len(messages), *messages)
         return numbers(self.driver.ask(call, 4 * len(messages)))
 
     def read(self, words):
-        call = b"R" + struct.pack("<I%dI" % len(words), len(words), *words)
-        got = numbers(self.driver.ask(call, 12 * len(words)))
-        return [tuple(got[3 * i : 3 * i + 3]) for i in range(len(words))]
+        self.calls += 1
+        call = b"R" + struct.pack("<BIII%dI" % len(words), self.calls % 2, LENT, LENT, len(words), *words)
+        got = numbers(self.driver.ask(call, 16 * len(words)))
+        return [tuple(got[4 * i : 4 * i + 4]) for i in range(len(words))]
 
     def compare(self, codewords, name, words, want_lost=None):
-        """Holds the library's readings to the nearest codeword; a lost word leaves both lent numbers (0xA55A) alone."""
+        """Holds the library's readings to the nearest codeword; a lost word leaves both lent numbers alone."""
         lost = 0
         for start in range(0, len(words), 20000):
             part = words[start : start + 20000]
             for word, got in zip(part, self.read(part)):
                 close = nearest(codewords, word)
-                want = (0, 0xA55A, 0xA55A) if close is None else (1,) + close
+                want = (UNREADABLE, 1, LENT, LENT) if close is None else (0, 1) + close
                 lost += close is None
                 if got != want:
                     raise SystemExit("word %08x: the library reads %s, the second program %s" % (word, got, want))
@@ -124,6 +129,7 @@ def flipped(codeword, places):
 
 def main():
     rng = random.Random(SEED)
+    print("  seed %d" % SEED)
     check = Check(sys.argv[1:])
     codewords = [by_matrix(message) for message in range(65536)]
     for message in range(65536):

@@ -9,6 +9,7 @@ what it says of damaged ones.
 Use: stream.py COMMAND..   (the command that runs the stream driver)
 """
 import itertools
+import os
 import random
 import struct
 import sys
@@ -17,7 +18,7 @@ from crccheck.crc import Crc4G704
 
 from driver import Driver, numbers, slice_of
 
-SEED = 201108
+SEED = int(os.environ.get("SEED", "201108"))
 GENERATOR = 0b10011  # X^4 + X + 1
 
 
@@ -71,7 +72,7 @@ class Check:
         indices = bytes(x for frame in frames for x in frame)
         self.calls += 1
         got = self.driver.ask(b"P" + bytes([self.calls % 2]) + slice_of(indices) + slice_of(bytes([0xEE]) * 138), 8 + 138)
-        if numbers(got[:8]) != (1, 1):
+        if numbers(got[:8]) != (0, 1):
             raise SystemExit("pack: answer and kept are %s" % (numbers(got[:8]),))
         parts = packets(got[8:])
         for p, part in enumerate(parts):
@@ -87,7 +88,7 @@ class Check:
         lent = slice_of(bytes([0xEE]) * 168) + slice_of(bytes([0xEE]) * 12)
         self.calls += 1
         got = self.driver.ask(b"U" + bytes([self.calls % 2]) + slice_of(octets_of(parts)) + lent, 8 + 168 + 12)
-        if numbers(got[:8]) != (1, 1):
+        if numbers(got[:8]) != (0, 1):
             raise SystemExit("unpack: answer and kept are %s" % (numbers(got[:8]),))
         notes = [int(by_division(part[:88]) != part[88:]) for part in parts]
         if got[8:176] != indices_of(parts) or list(got[176:]) != notes:
@@ -129,6 +130,7 @@ def bursts(check, part):
 
 def main():
     rng = random.Random(SEED)
+    print("  seed %d" % SEED)
     check = Check(sys.argv[1:])
     one = [[1, 0, 0, 0, 0, 0, 0]] + [[0] * 7] * 23
     parts = check.pack(one)

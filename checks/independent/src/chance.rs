@@ -1,6 +1,14 @@
 //! A fixed stream of numbers (splitmix64), so that each run tries the same inputs.
 
+/// The seed of a run that is given none.
 pub const SEED: u64 = 201_108;
+
+/// The seed that the environment variable SEED gives, or the fixed one; it is printed.
+pub fn seed() -> u64 {
+    let seed = std::env::var("SEED").map_or(SEED, |text| text.parse().expect("SEED is a number"));
+    println!("  seed {seed}");
+    seed
+}
 
 pub struct Chance(u64);
 

@@ -4,8 +4,11 @@ use std::collections::BTreeMap;
 use std::io::{BufReader, BufWriter, Read, Write};
 use std::process::{Child, ChildStdin, ChildStdout, Command, Stdio};
 
-/// What the drivers put into a lent number before a call.
-pub const LENT: u32 = 0xA55A;
+/// What dsr.h's functions answer beside 01's and 02's numbers.
+pub const DONE: u32 = 0;
+pub const HEADER_UNREADABLE: u32 = 97;
+pub const WRONG_LENGTH: u32 = 98;
+pub const ANSWER_SHORT: u32 = 99;
 
 pub struct Driver {
     child: Child,
@@ -81,6 +84,11 @@ impl Call {
 
     pub fn octet(mut self, x: u8) -> Call {
         self.0.push(x);
+        self
+    }
+
+    pub fn word(mut self, x: u32) -> Call {
+        self.0.extend(x.to_le_bytes());
         self
     }
 

@@ -1,5 +1,6 @@
 //! Frames, pair packets and the feature stream, 01 "Frame" and "CRC". A packet is one number of 92 bits, first sent least significant;
 //! the CRC is a sum of powers of X, one for each bit that is set.
+use crate::driver::WRONG_LENGTH;
 
 pub const FRAME: usize = 7;
 pub const FRAMES: usize = 24;
@@ -74,12 +75,15 @@ pub fn packets_of(stream: &[u8]) -> [u128; PAIRS] {
     })
 }
 
-/// dsr_pack's answer: the stream, or nothing.
-pub fn pack(indices: &[u8], room: usize) -> Option<Vec<u8>> {
-    if indices.len() != INDICES || room != STREAM || !indices.chunks(FRAME).all(fits) {
-        return None;
+/// dsr_pack's answer: the stream, or the number of the refusal.
+pub fn pack(indices: &[u8], room: usize) -> Result<Vec<u8>, u32> {
+    if indices.len() != INDICES || room != STREAM {
+        return Err(WRONG_LENGTH);
     }
-    Some(stream_of(&std::array::from_fn(|p| packet_of(&indices[14 * p..][..7], &indices[14 * p + 7..][..7]))))
+    if !indices.chunks(FRAME).all(fits) {
+        return Err(4);
+    }
+    Ok(stream_of(&std::array::from_fn(|p| packet_of(&indices[14 * p..][..7], &indices[14 * p + 7..][..7]))))
 }
 
 /// The index octets and the twelve notes of a stream.

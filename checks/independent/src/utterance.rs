@@ -24,6 +24,15 @@ impl Part {
         }
     }
 
+    /// Three flips are never mended.
+    pub fn lose_header(&mut self, chance: &mut Chance) {
+        let message = self.header as u16;
+        self.header = encode(message);
+        for place in chance.places(3, 32) {
+            self.header ^= 1 << place;
+        }
+    }
+
     /// Another message in the header: other settings, an expansion bit, rate 2, another counter.
     pub fn other_header(&mut self, chance: &mut Chance) {
         let bit = chance.below(16);
@@ -49,16 +58,94 @@ fn message(rate: u16, kind: u16, position: usize) -> u16 {
     rate | kind << 2 | ((position % 16) as u16) << 3
 }
 
-/// A clean utterance; the last multiframe ends in zero frames.
+/// A clean utterance. The last multiframe mostly ends in zero frames; once in a while it has none.
 pub fn utterance(chance: &mut Chance, m: usize) -> Vec<Part> {
     let (rate, kind) = (chance.pick(&[0, 1, 3]), chance.pick(&[0, 1]));
-    let n = 24 * (m - 1) + chance.below(24);
-    let frames: Vec<[u8; 7]> = (0..24 * m).map(|f| if f < n { chance.frame() } else { [0; 7] }).collect();
+    let n = 24 * (m - 1) + chance.below(25);
+    let mut frames: Vec<[u8; 7]> = (0..24 * m).map(|f| if f < n { chance.frame() } else { [0; 7] }).collect();
+    if n > 0 {
+        frames[n - 1] = chance.speech();
+    }
     let part = |k: usize| Part {
         header: encode(message(rate, kind, k + 1)),
         packets: std::array::from_fn(|p| packet_of(&frames[24 * k + 2 * p], &frames[24 * k + 2 * p + 1])),
     };
     (0..m).map(part).collect()
+}
+
+/// Bits of a message that are not the counter's.
+const COMMON: u16 = 0xFF87;
+
+/// Every header gets settings that no other has, but for those at `stay`; a third of the changed ones is lost.
+pub fn estrange(chance: &mut Chance, parts: &mut [Part], stay: &[usize]) {
+    let mut taken: Vec<u16> = parts.iter().map(|part| part.header as u16 & COMMON).collect();
+    for (k, part) in parts.iter_mut().enumerate().filter(|(k, _)| !stay.contains(k)) {
+        let mut common = chance.word() as u16 & COMMON;
+        while taken.contains(&common) {
+            common = chance.word() as u16 & COMMON;
+        }
+        taken.push(common);
+        part.header = encode(common | ((k as u16 + 1) % 16) << 3);
+        if chance.once_in(3) {
+            part.lose_header(chance);
+        }
+    }
+}
+
+/// No two headers agree, and an only one is no codeword: 16.
+pub fn unsettle(chance: &mut Chance, parts: &mut [Part]) {
+    estrange(chance, parts, &[]);
+    if let [only] = parts {
+        only.header ^= 1 << chance.below(32);
+    }
+}
+
+/// Rate 2 or an expansion bit in every header: 17.
+pub fn forbid(chance: &mut Chance, parts: &mut [Part]) {
+    let bit = 7 + chance.below(9);
+    let rate = chance.once_in(3);
+    for part in parts {
+        let was = part.header as u16;
+        part.header = encode(if rate { was & !3 | 2 } else { was | 1 << bit });
+    }
+}
+
+/// Every pair bad: 20.
+pub fn spoil(chance: &mut Chance, parts: &mut [Part]) {
+    for part in parts {
+        for packet in &mut part.packets {
+            *packet ^= 1 << chance.below(92);
+        }
+    }
+}
+
+/// Damage of every kind anywhere in an utterance; how rare each kind is, is drawn once for all of it.
+pub fn damage_anywhere(chance: &mut Chance, parts: &mut [Part]) {
+    let rare: [usize; 5] = std::array::from_fn(|_| chance.pick(&[1_000_000, 2, 5, 20, 100]));
+    for part in parts.iter_mut() {
+        if chance.once_in(rare[0]) {
+            part.other_header(chance);
+        }
+        if chance.once_in(rare[1]) {
+            part.header_damage(chance, 2);
+        }
+        if chance.once_in(rare[2]) {
+            part.lose_header(chance);
+        }
+        for packet in &mut part.packets {
+            if chance.once_in(rare[3]) {
+                *packet = bad_packet(chance, *packet);
+            }
+        }
+    }
+    let pairs = PAIRS * parts.len();
+    for _ in 0..pairs / (20 * rare[4]) {
+        let start = chance.below(pairs);
+        let end = pairs.min(start + 1 + chance.below(60));
+        for p in start..end {
+            parts[p / PAIRS].packets[p % PAIRS] ^= 1 << chance.below(92);
+        }
+    }
 }
 
 pub fn image(parts: &[Part]) -> Vec<u8> {

@@ -16,7 +16,7 @@ fn refusal<T>(number: u32, place: usize) -> Result<T, Refusal> {
 }
 
 /// The image, or the refusal.
-pub fn write(rate: u8, kind: u8, indices: &[u8], room: usize) -> Result<Vec<u8>, Refusal> {
+pub fn write(rate: u64, kind: u64, indices: &[u8], room: usize) -> Result<Vec<u8>, Refusal> {
     if ![0, 1, 3].contains(&rate) || ![0, 1].contains(&kind) {
         return refusal(1, 0);
     }
@@ -45,7 +45,7 @@ pub fn write(rate: u8, kind: u8, indices: &[u8], room: usize) -> Result<Vec<u8>,
 }
 
 /// Sync, header and stream; `position` counts from 1.
-pub fn multiframe(rate: u8, kind: u8, position: usize, indices: &[u8]) -> Vec<u8> {
+pub fn multiframe(rate: u64, kind: u64, position: usize, indices: &[u8]) -> Vec<u8> {
     let message = rate as u16 + 4 * kind as u16 + 8 * (position % 16) as u16;
     let stream = pack(indices, STREAM).expect("indices fit");
     [&SYNC[..], &encode(message).to_le_bytes(), &stream].concat()

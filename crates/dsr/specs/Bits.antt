@@ -1,28 +1,25 @@
--- What the entries of the hunting reader answer, in numbers, and what they leave in lent memory: a refusal leaves the answer as it came and
--- has a place of its own, a success leaves the place.
+-- What the entries of the hunting reader answer, in numbers, and what they leave in lent memory.
 -- Assumes nothing.
 use mathlib.Core.Path.{_≡_, refl, sym, ap, ap₂, _∙_}
 use mathlib.Core.List.{List, [], _∷_, _++_}
 use Prim.Native.Nat.{ℕ, _≤_, _<_}
 use native.Mathlib.Omega.{arith}
 use lib.Dec.{ltb}
-use lib.IntN.{ℤ}
 use lib.ListN.{length, set, length-set}
-use borrow.Author.Tests.{lt-ltb, le-ltb}
-use Rattle.lists.specs.Tests.{when, by-test}
+use Rattle.lists.specs.Tests.{by-test}
 use Rattle.lists.specs.Parts.{over, behind, set-over, length-over}
+use Rattle.consistency.specs.Tables.{Tables}
 use Rattle.hunt.specs.Hunt as H
 use Rattle.hunt.specs.declared.Hunted.{Hunted}
 use Rattle.hunt.specs.declared.Hunted.the-variants as HA
-use Rattle.refusals.specs.Refusals.{success, noRoom, huntNumber, huntPlace, huntTested, huntingNumber, huntingPlace}
+use Rattle.refusals.specs.Refusals.{success, huntNumber, huntPlace, huntTested, huntingNumber, huntingPlace}
 use Rattle.refusals.specs.declared.Hunt.{Hunt as HuntRefusal}
 use Rattle.hunting.specs.Hunting.{Outcome, outcome, huntingReading}
 use Rattle.hunting.specs.Says.{never-12-to-14}
 use Rattle.hunting.specs.declared.Counted.{Counted}
-use Rattle.refusals.specs.declared.Hunting.{Hunting as Refusal}
 use Rattle.hunting.specs.declared.Answer.{Answer}
 use Rattle.hunting.specs.declared.Answer.the-variants.{Read, Refused}
-use Rattle.dsr.specs.Entries.{answerNumbers, summaryNumbers}
+use Rattle.dsr.specs.Entries.{answerNumbers, summaryNumbers, Told, numbers, refusal, Given, given, Returned, answered, returning}
 
 -- ---- the hunt: its number, and the three lent numbers
 pub record HuntReturned : Type 0 where
@@ -46,24 +43,13 @@ countedNumbers = 8
 abbrev pub numbersOf : Counted → List ℕ
 numbersOf c = summaryNumbers (c .summary) ++ (c .outside ∷ c .tested ∷ [])
 
-pub record BitsReturned : Type 0 where
-  pub number : ℕ
-  pub index : List ℕ
-  pub report : List ℕ
-  pub answer : List ℕ
-  pub place : ℕ
+-- the hunting reading in numbers
+abbrev pub bitsTold : Answer → Told
+bitsTold (Read c) = numbers (numbersOf c)
+bitsTold (Refused x) = refusal (huntingNumber x) (huntingPlace x)
 
-abbrev pub bitsReturned : ℕ → List ℕ → List ℕ → List ℕ → ℕ → BitsReturned
-bitsReturned n i r a p = record { number = n; index = i; report = r; answer = a; place = p }
-
--- success gives 0 and eight numbers, a refusal its number and its place
-abbrev pub bitsAnswered : List ℕ → ℕ → List ℕ → List ℕ → Answer → BitsReturned
-bitsAnswered a p i r (Read c) = bitsReturned success i r (over a 0 countedNumbers (numbersOf c)) p
-bitsAnswered a p i r (Refused x) = bitsReturned (huntingNumber x) i r a (huntingPlace x)
-
--- with no room for eight numbers nothing is read, and all stays
-unfoldable pub bitsReturning : List ℕ → ℕ → List ℕ → List ℕ → Outcome → BitsReturned
-bitsReturning a p i r o = when (ltb (length a) countedNumbers) (bitsReturned noRoom i r a p) (bitsAnswered a p (o .index) (o .report) (o .answer))
+abbrev pub bitsGiven : Outcome → Given
+bitsGiven o = given (bitsTold (o .answer)) (o .index) (o .report)
 
 -- ---- what the entries give, for every input: their contracts are equations with these
 -- dsr_hunt: its number and the three lent numbers; found and place as they came
@@ -71,9 +57,9 @@ abbrev pub dsrHunt : List ℕ → ℕ → ℕ → ℕ → ℕ → HuntReturned
 dsrHunt octets from least found place = huntReturning found place (H.hunted octets from least)
 
 -- dsr_read_bits: its number, both buffers, the lent numbers and the place
-abbrev pub dsrReadBits : List ℕ → ℕ → ℕ → List ℤ → List ℤ → List ℕ → List ℕ → List ℕ → ℕ → BitsReturned
-dsrReadBits octets from least codebook thresholds index report answer place =
-    bitsReturning answer place index report (huntingReading octets from least codebook thresholds index report)
+abbrev pub dsrReadBits : List ℕ → ℕ → ℕ → Tables → List ℕ → List ℕ → List ℕ → ℕ → Returned
+dsrReadBits octets from least tables index report answer place =
+    returning countedNumbers answer place index report (bitsGiven (huntingReading octets from least tables index report))
 
 -- ---- the entries' ends
 pub hunt-found : (f p q n : ℕ) (h : Hunted) → HA.Found q n ≡ h → huntReturned success q n p ≡ huntReturning f p h
@@ -94,38 +80,24 @@ eight-stored a b c room e =
     let two : set (set b 6 (c .outside)) 7 (c .tested) ≡ over (set b 6 (c .outside)) 7 1 (c .tested ∷ []) = set-over (set b 6 (c .outside)) 7 (c .tested) (omega arith) in
     behind a 0 7 1 (six ++ (c .outside ∷ [])) (c .tested ∷ []) (omega arith) refl (behind a 0 6 1 six (c .outside ∷ []) (omega arith) refl e one) two
 
-module _ (a : List ℕ) (p : ℕ) (i r : List ℕ) (o : Outcome) where
-  pub bits-no-room : length a < countedNumbers → bitsReturned noRoom i r a p ≡ bitsReturning a p i r o
-  unfolding bitsReturning
-  bits-no-room h = rw (lt-ltb (length a) countedNumbers h)
-
-  answer : countedNumbers ≤ length a → (x : Answer) (i′ r′ : List ℕ) → outcome x i′ r′ ≡ o → bitsAnswered a p i′ r′ x ≡ bitsReturning a p i r o
-  unfolding bitsReturning
-  answer h x i′ r′ e = rw (le-ltb (length a) countedNumbers h) (ap (λ (q : Outcome). bitsAnswered a p (q .index) (q .report) (q .answer)) e)
-
-  pub bits-read : countedNumbers ≤ length a → (x : Answer) (c : Counted) (i′ r′ a′ : List ℕ) → outcome x i′ r′ ≡ o → x ≡ Read c
-      → a′ ≡ over a 0 countedNumbers (numbersOf c) → bitsReturned success i′ r′ a′ p ≡ bitsReturning a p i r o
-  bits-read h x c i′ r′ a′ e ex ea = ap (λ (l : List ℕ). bitsReturned success i′ r′ l p) ea ∙ ap (bitsAnswered a p i′ r′) (sym ex) ∙ answer h x i′ r′ e
-
-  pub bits-refused : countedNumbers ≤ length a → (x : Answer) (q : Refusal) (i′ r′ : List ℕ) (n k : ℕ) → outcome x i′ r′ ≡ o → x ≡ Refused q
-      → n ≡ huntingNumber q → k ≡ huntingPlace q → bitsReturned n i′ r′ a k ≡ bitsReturning a p i r o
-  bits-refused h x q i′ r′ n k e ex en ek =
-      ap₂ (λ (m j : ℕ). bitsReturned m i′ r′ a j) en ek ∙ ap (bitsAnswered a p i′ r′) (sym ex) ∙ answer h x i′ r′ e
+-- the hunting reading, once its answer is known
+pub bits-given-as : {x y : Answer} {i r : List ℕ} {o : Outcome} → outcome x i r ≡ o → x ≡ y → given (bitsTold y) i r ≡ bitsGiven o
+bits-given-as {x} {y} {i} {r} {o} e ex = ap (λ (z : Answer). given (bitsTold z) i r) (sym ex) ∙ ap bitsGiven e
 
 -- 12 TO 14 ARE NEVER RETURNED
-module _ (s : List ℕ) (from least : ℕ) (codebook thresholds : List ℤ) (index report a : List ℕ) (p : ℕ) where
+module _ (s : List ℕ) (from least : ℕ) (tables : Tables) (index report a : List ℕ) (p : ℕ) where
   abbrev read : Outcome
-  read = huntingReading s from least codebook thresholds index report
+  read = huntingReading s from least tables index report
 
   abbrev NoCut : ℕ → Type 0
   NoCut n = (n ≡ 12 → ⊥) × (n ≡ 13 → ⊥) × (n ≡ 14 → ⊥)
 
-  answered-uncut : (x : Answer) → read .answer ≡ x → NoCut (bitsAnswered a p (read .index) (read .report) x .number)
+  answered-uncut : (x : Answer) → read .answer ≡ x → NoCut (answered countedNumbers a p (read .index) (read .report) (bitsTold x) .number)
   answered-uncut (Read c) e = (λ e. omega arith, λ e. omega arith, λ e. omega arith)
-  answered-uncut (Refused r) e = never-12-to-14 s from least codebook thresholds index report r e
+  answered-uncut (Refused r) e = never-12-to-14 s from least tables index report r e
 
-  pub returned-uncut : NoCut (bitsReturning a p index report read .number)
-  unfolding bitsReturning
+  pub returned-uncut : NoCut (returning countedNumbers a p index report (bitsGiven read) .number)
+  unfolding returning
   returned-uncut =
-      by-test (λ (x : BitsReturned). NoCut (x .number)) (ltb (length a) countedNumbers) (λ h. (λ e. omega arith, λ e. omega arith, λ e. omega arith)) (λ h.
+      by-test (λ (x : Returned). NoCut (x .number)) (ltb (length a) countedNumbers) (λ h. (λ e. omega arith, λ e. omega arith, λ e. omega arith)) (λ h.
       answered-uncut (read .answer) refl)

@@ -1,4 +1,5 @@
-// The entries for C and Rust: numbers and slices only, and nothing is asked of the caller. c/dsr.h says the same in C.
+// The entries for C and Rust: numbers and slices only, and nothing is asked of the caller. All but the encoder of headers answer 0 if they
+// are done, and else the number of a refusal. c/dsr.h says the same in C.
 use header::Header;
 use hunt::Hunted;
 use hunting::Counted;
@@ -7,21 +8,28 @@ use layout::Pair;
 use layout::ReadingLayout;
 use reader::Answer;
 use reader::Summary;
+use refusals::Writing;
 use settings::Settings;
 use writer::Found;
 ghost use mathlib.Core.Path.{_≡_};
 ghost use Prim.Native.Nat.{_≤_};
 ghost use lib.ListN.{length};
 ghost use Rattle.lists.specs.Parts.{over};
+ghost use Rattle.consistency.specs.Lent.{came, left, tablesIn};
 ghost use Rattle.header_code.specs.Code.{codeword};
 ghost use Rattle.header.specs.Reading.{reading};
-ghost use Rattle.dsr.specs.Bits.{huntReturned, dsrHunt, countedNumbers, numbersOf, bitsReturned, dsrReadBits};
-ghost use Rattle.dsr.specs.Entries.{answerNumbers, summaryNumbers, writeReturned, dsrWrite, returned, dsrRead, headerRead, packed, packing, unpacked, unpacking};
+ghost use Rattle.dsr.specs.Bits.{huntReturned, dsrHunt, countedNumbers, numbersOf, dsrReadBits};
+ghost use Rattle.dsr.specs.Entries.{answerNumbers, summaryNumbers, writeReturned, dsrWrite, returned, dsrRead};
+ghost use Rattle.dsr.specs.Entries.{headerRead, packed, packing, unpacked, unpacking};
+ghost use Rattle.dsr.specs.Laws.{settingsFit};
 
 // The numbers of a reading's answer, and those of a hunting reading's.
 const ANSWER: usize = 6;
 
 const COUNTED: usize = 8;
+
+// The largest number of eight bits.
+const OCTET: u64 = 255;
 
 // dsr_header_encode gives the codeword of a 16-bit message.
 #[no_mangle]
@@ -31,74 +39,96 @@ pub extern "C" fn dsr_header_encode(message: u16) -> u32
     header::encode(message)
 }
 
-// dsr_header_read answers 1 with the message and the number of flipped bits, or 0 for a lost header, and then both lent numbers stay.
+// dsr_header_read answers 0 and puts the message and the number of flipped bits into the lent numbers; or 97 for a lost header (house), and
+// then both stay.
 #[no_mangle]
 pub extern "C" fn dsr_header_read(word: u32, message: &mut u16, flips: &mut u32) -> u32
-    ensures { λ r. ⌜ headerRead r (now (message .exit)) (now (flips .exit)) (now (message .entry)) (now (flips .entry)) (reading word) ⌝ }
+    ensures { λ r. ⌜ headerRead r (left message) (left flips) (came message) (came flips) (reading word) ⌝ }
 {
     match header::read(word) {
         Header::Codeword(d) => {
             *message = d.message;
             *flips = d.flips;
-            1
+            refusals::SUCCESS
         }
-        Header::Lost => 0,
+        Header::Lost => refusals::UNREADABLE,
     }
 }
 
-// dsr_pack turns the 24 frames of a multiframe into its stream and answers 1, or 0 if a length or an index is wrong, and then the stream
-// stays.
+// dsr_pack turns the 24 frames of a multiframe into its stream and answers 0; or 98 for a wrong length (house), or the writer's 4 for an
+// index above 63, and then the stream stays.
 #[no_mangle]
 pub extern "C" fn dsr_pack(indices: &[u8], stream: &mut [u8]) -> u32
-    ensures { λ r. ⌜ packed r (now (stream .exit)) ≡ packing (now (indices .entry)) (now (stream .entry)) ⌝ }
+    ensures { λ r. ⌜ packed r (left stream) ≡ packing (came indices) (came stream) ⌝ }
 {
     if indices.len() != ReadingLayout::INDEX {
-        return 0;
+        return refusals::WRONG_LENGTH;
     }
     if stream.len() != MultiframeLayout::STREAM {
-        return 0;
+        return refusals::WRONG_LENGTH;
     }
     match writer::first_wide(indices) {
-        Found::At(_) => 0,
+        Found::At(f) => refusals::writing_number(Writing::WideIndex { frame: f }),
         Found::Nowhere => {
             packet::put_stream(indices, Pair(0), stream, 0);
-            1
+            refusals::SUCCESS
         }
     }
 }
 
-// dsr_unpack turns a stream into its 24 frames and twelve notes, 0 for a right CRC and 1 for a failed one, and answers 1, or 0 if a length
-// is wrong, and then both lent buffers stay.
+// dsr_unpack turns a stream into its 24 frames and twelve notes, 0 for a right CRC and 1 for a failed one, and answers 0; or 98 for a wrong
+// length (house), and then both lent buffers stay.
 #[no_mangle]
 pub extern "C" fn dsr_unpack(stream: &[u8], indices: &mut [u8], notes: &mut [u8]) -> u32
-    ensures { λ r. ⌜ unpacked r (now (indices .exit)) (now (notes .exit)) ≡ unpacking (now (stream .entry)) (now (indices .entry)) (now (notes .entry)) ⌝ }
+    ensures { λ r. ⌜ unpacked r (left indices) (left notes) ≡ unpacking (came stream) (came indices) (came notes) ⌝ }
 {
     if stream.len() != MultiframeLayout::STREAM {
-        return 0;
+        return refusals::WRONG_LENGTH;
     }
     if indices.len() != ReadingLayout::INDEX {
-        return 0;
+        return refusals::WRONG_LENGTH;
     }
     if notes.len() != MultiframeLayout::PAIRS {
-        return 0;
+        return refusals::WRONG_LENGTH;
     }
     notes::take_stream_apart(stream, indices, Pair(0));
     notes::note_stream(stream, notes, Pair(0));
-    1
+    refusals::SUCCESS
 }
 
-// dsr_write answers 01's number, 0 for success, and puts the octets written or the refusal's place into place.
+// Do rate and type fit the octets that the writer takes? What does not is no setting, and must not be cut to one.
+fn fits(rate: u64, kind: u64) -> bool
+    ensures { λ r. ⌜ r ≡ settingsFit rate kind ⌝ }
+{
+    if OCTET < rate {
+        return false;
+    }
+    if OCTET < kind {
+        return false;
+    }
+    true
+}
+
+// dsr_write answers 01's number, 0 for success, and puts the octets written or the refusal's place into place. Rate and type are numbers of
+// 64 bits, so that a caller's number arrives as it is: 256 is refused, and not taken for 0.
 #[no_mangle]
 pub extern "C" fn dsr_write(
-    rate: u8,
-    kind: u8,
+    rate: u64,
+    kind: u64,
     indices: &[u8],
     out: &mut [u8],
     place: &mut u64,
 ) -> u32
-    ensures { λ r. ⌜ writeReturned r (now (out .exit)) (now (place .exit)) ≡ dsrWrite rate kind (now (indices .entry)) (now (out .entry)) ⌝ }
+    ensures { λ r. ⌜ writeReturned r (left out) (left place) ≡ dsrWrite rate kind (came indices) (came out) ⌝ }
 {
-    let settings = Settings { rate, kind };
+    if !fits(rate, kind) {
+        *place = refusals::writing_place(Writing::WrongSettings) as u64;
+        return refusals::writing_number(Writing::WrongSettings);
+    }
+    let settings = Settings {
+        rate: rate as u8,
+        kind: kind as u8,
+    };
     let answer = writer::write(settings, indices, out);
     *place = writer::place_of(answer) as u64;
     writer::number_of(answer)
@@ -107,7 +137,7 @@ pub extern "C" fn dsr_write(
 // The six numbers of a success, in 01's order. It asks for their room, which dsr_read has tested.
 fn put_summary(s: Summary, answer: &mut [u64])
     requires { ⌜ answerNumbers ≤ length (now answer) ⌝ }
-    ensures { λ _. ⌜ now (answer .exit) ≡ over (now (answer .entry)) 0 answerNumbers (summaryNumbers s) ⌝ }
+    ensures { λ _. ⌜ left answer ≡ over (came answer) 0 answerNumbers (summaryNumbers s) ⌝ }
 {
     answer[0] = s.settings.rate as u64;
     answer[1] = s.settings.kind as u64;
@@ -117,8 +147,9 @@ fn put_summary(s: Summary, answer: &mut [u64])
     answer[5] = s.end as u64;
 }
 
-// dsr_read answers 01's number, 0 for success, and puts six numbers (rate, type, multiframes, speech, bad, end) or a refusal's place into
-// answer. Room for fewer than six numbers is refused with 99, a number that 01 does not have, and then all lent memory stays.
+// dsr_read answers 0 and puts six numbers (rate, type, multiframes, speech, bad, end) into answer, and place stays; or 01's number, and puts
+// the refusal's place into place, and all other lent memory stays. Room for fewer than six numbers is refused with 99 (house), and then all
+// lent memory stays.
 #[no_mangle]
 pub extern "C" fn dsr_read(
     octets: &[u8],
@@ -127,8 +158,10 @@ pub extern "C" fn dsr_read(
     index: &mut [u8],
     report: &mut [u8],
     answer: &mut [u64],
+    place: &mut u64,
 ) -> u32
-    ensures { λ r. ⌜ returned r (now (index .exit)) (now (report .exit)) (now (answer .exit)) ≡ dsrRead (now (octets .entry)) (now (codebook .entry)) (now (thresholds .entry)) (now (index .entry)) (now (report .entry)) (now (answer .entry)) ⌝ }
+    ensures { λ r. ⌜ returned r (left index) (left report) (left answer) (left place)
+        ≡ dsrRead (came octets) (tablesIn codebook thresholds) (came index) (came report) (came answer) (came place) ⌝ }
 {
     if answer.len() < ANSWER {
         return refusals::NO_ROOM;
@@ -139,7 +172,7 @@ pub extern "C" fn dsr_read(
             refusals::SUCCESS
         }
         Answer::Refused(r) => {
-            answer[0] = refusals::reading_place(r) as u64;
+            *place = refusals::reading_place(r) as u64;
             refusals::reading_number(r)
         }
     }
@@ -156,7 +189,7 @@ pub extern "C" fn dsr_hunt(
     tested: &mut u64,
     place: &mut u64,
 ) -> u32
-    ensures { λ r. ⌜ huntReturned r (now (found .exit)) (now (tested .exit)) (now (place .exit)) ≡ dsrHunt (now (octets .entry)) from least (now (found .entry)) (now (place .entry)) ⌝ }
+    ensures { λ r. ⌜ huntReturned r (left found) (left tested) (left place) ≡ dsrHunt (came octets) from least (came found) (came place) ⌝ }
 {
     match hunt::hunt(octets, from as usize, least as usize) {
         Hunted::Found {
@@ -179,7 +212,7 @@ pub extern "C" fn dsr_hunt(
 // dsr_read_bits has tested.
 fn put_counted(c: Counted, answer: &mut [u64])
     requires { ⌜ countedNumbers ≤ length (now answer) ⌝ }
-    ensures { λ _. ⌜ now (answer .exit) ≡ over (now (answer .entry)) 0 countedNumbers (numbersOf c) ⌝ }
+    ensures { λ _. ⌜ left answer ≡ over (came answer) 0 countedNumbers (numbersOf c) ⌝ }
 {
     let s = c.summary;
     put_summary(s, answer);
@@ -202,7 +235,8 @@ pub extern "C" fn dsr_read_bits(
     answer: &mut [u64],
     place: &mut u64,
 ) -> u32
-    ensures { λ r. ⌜ bitsReturned r (now (index .exit)) (now (report .exit)) (now (answer .exit)) (now (place .exit)) ≡ dsrReadBits (now (octets .entry)) from least (now (codebook .entry)) (now (thresholds .entry)) (now (index .entry)) (now (report .entry)) (now (answer .entry)) (now (place .entry)) ⌝ }
+    ensures { λ r. ⌜ returned r (left index) (left report) (left answer) (left place)
+        ≡ dsrReadBits (came octets) from least (tablesIn codebook thresholds) (came index) (came report) (came answer) (came place) ⌝ }
 {
     if answer.len() < COUNTED {
         return refusals::NO_ROOM;

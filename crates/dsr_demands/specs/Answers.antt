@@ -12,31 +12,32 @@ use Rattle.refusals.specs.declared.Reading.the-variants.{CutShort, IndexShort, 
 use Rattle.reader.specs.declared.Answer.the-variants.{Read, Refused}
 use Rattle.writer.specs.Writing as W
 use Rattle.writer.specs.Writing.{firstFrom, roomAnswer, writing}
-use Rattle.dsr.specs.Entries.{returning, dsrWrite, dsrRead}
+use Rattle.dsr.specs.Entries.{returning, givenOf, dsrWrite, dsrRead}
+use Rattle.consistency.specs.Tables.{tablesOf}
 
 -- 16 kHz, noise robust, 2 multiframes, 30 frames of speech, 4 bad pairs, end
 abbrev pub talk : Outcome
 talk = outcome (Read (record { settings = settings 3 1; multiframes = 2; speech = 30; bad = 4; end = 1 })) (1 ∷ []) (2 ∷ [])
 
--- seven numbers lent, which came as 90 to 96; index and report came as 5 and 6
+-- seven numbers lent, which came as 90 to 96; index and report came as 5 and 6, the place as 8
 abbrev pub seven : List ℕ
 seven = 90 ∷ 91 ∷ 92 ∷ 93 ∷ 94 ∷ 95 ∷ 96 ∷ []
 
 pub record Table : Type 0 where
   -- rate, type, multiframes, speech, bad, end; a seventh number stays
-  pub six-numbers : returning seven (5 ∷ []) (6 ∷ []) talk ≡ record { number = 0; index = 1 ∷ []; report = 2 ∷ []; answer = 3 ∷ 1 ∷ 2 ∷ 30 ∷ 4 ∷ 1 ∷ 96 ∷ [] }
-  -- a refusal puts its place into the first number, and leaves the others and both buffers
-  pub refused-13 : returning seven (5 ∷ []) (6 ∷ []) (outcome (Refused (CutShort 290)) (5 ∷ []) (6 ∷ []))
-      ≡ record { number = 13; index = 5 ∷ []; report = 6 ∷ []; answer = 290 ∷ 91 ∷ 92 ∷ 93 ∷ 94 ∷ 95 ∷ 96 ∷ [] }
-  pub refused-18 : returning seven (5 ∷ []) (6 ∷ []) (outcome (Refused (IndexShort 336)) (5 ∷ []) (6 ∷ []))
-      ≡ record { number = 18; index = 5 ∷ []; report = 6 ∷ []; answer = 336 ∷ 91 ∷ 92 ∷ 93 ∷ 94 ∷ 95 ∷ 96 ∷ [] }
-  pub refused-20 : returning seven (5 ∷ []) (6 ∷ []) (outcome (Refused AllBad) (5 ∷ []) (6 ∷ []))
-      ≡ record { number = 20; index = 5 ∷ []; report = 6 ∷ []; answer = 0 ∷ 91 ∷ 92 ∷ 93 ∷ 94 ∷ 95 ∷ 96 ∷ [] }
+  pub six-numbers : returning 6 seven 8 (5 ∷ []) (6 ∷ []) (givenOf talk) ≡ record { number = 0; index = 1 ∷ []; report = 2 ∷ []; answer = 3 ∷ 1 ∷ 2 ∷ 30 ∷ 4 ∷ 1 ∷ 96 ∷ []; place = 8 }
+  -- a refusal has a place of its own, and leaves the answer and both buffers
+  pub refused-13 : returning 6 seven 8 (5 ∷ []) (6 ∷ []) (givenOf (outcome (Refused (CutShort 290)) (5 ∷ []) (6 ∷ [])))
+      ≡ record { number = 13; index = 5 ∷ []; report = 6 ∷ []; answer = seven; place = 290 }
+  pub refused-18 : returning 6 seven 8 (5 ∷ []) (6 ∷ []) (givenOf (outcome (Refused (IndexShort 336)) (5 ∷ []) (6 ∷ [])))
+      ≡ record { number = 18; index = 5 ∷ []; report = 6 ∷ []; answer = seven; place = 336 }
+  pub refused-20 : returning 6 seven 8 (5 ∷ []) (6 ∷ []) (givenOf (outcome (Refused AllBad) (5 ∷ []) (6 ∷ [])))
+      ≡ record { number = 20; index = 5 ∷ []; report = 6 ∷ []; answer = seven; place = 0 }
   -- no room for six numbers: 99 comes before all, and all stays
-  pub five-numbers : returning (replicate 5 90) (5 ∷ []) (6 ∷ []) talk ≡ record { number = 99; index = 5 ∷ []; report = 6 ∷ []; answer = replicate 5 90 }
+  pub five-numbers : returning 6 (replicate 5 90) 8 (5 ∷ []) (6 ∷ []) (givenOf talk) ≡ record { number = 99; index = 5 ∷ []; report = 6 ∷ []; answer = replicate 5 90; place = 8 }
   -- dsr_read itself: no tables are 11
-  pub no-tables : dsrRead (0x87 ∷ []) [] [] (5 ∷ []) (6 ∷ []) seven
-      ≡ record { number = 11; index = 5 ∷ []; report = 6 ∷ []; answer = 0 ∷ 91 ∷ 92 ∷ 93 ∷ 94 ∷ 95 ∷ 96 ∷ [] }
+  pub no-tables : dsrRead (0x87 ∷ []) (tablesOf [] []) (5 ∷ []) (6 ∷ []) seven 8
+      ≡ record { number = 11; index = 5 ∷ []; report = 6 ∷ []; answer = seven; place = 0 }
   -- dsr_write: rate before type, the number returned, the place lent, the output as it came
   pub rate-2 : dsrWrite 2 0 [] (7 ∷ []) ≡ record { number = 1; output = 7 ∷ []; place = 0 }
   pub type-2 : dsrWrite 0 2 [] (7 ∷ []) ≡ record { number = 1; output = 7 ∷ []; place = 0 }

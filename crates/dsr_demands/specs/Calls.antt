@@ -3,15 +3,15 @@
 -- Assumes nothing.
 use mathlib.Core.Path.{_≡_, refl, sym, ap, ap₂, _∙_}
 use mathlib.Core.Bool.{Bool, true, false}
-use mathlib.Core.List.{List, [], _∷_}
+use mathlib.Core.List.{List}
 use Prim.Native.Nat.{ℕ, _≤_, _<_}
 use native.Mathlib.Omega.{arith}
 use lib.Dec.{ltb}
-use lib.IntN.{ℤ}
 use lib.ListN.{length, drop}
 use borrow.Author.Tests.{le-ltb, lt-ltb, ltb-false}
 use Rattle.lists.specs.Tests.{when}
 use Rattle.lists.specs.Parts.{over, drop-over}
+use Rattle.consistency.specs.Tables.{Tables}
 use Rattle.settings.specs.Settings.{settings}
 use Rattle.writer.specs.Writing as W
 use Rattle.writer.specs.Writing.{writing}
@@ -34,8 +34,8 @@ use Rattle.hunting.specs.declared.Counted.{Counted}
 use Rattle.refusals.specs.declared.Hunting as GR
 use Rattle.hunting.specs.declared.Answer as GA
 use Rattle.hunting.specs.declared.Answer.the-variants as GW
-use Rattle.dsr.specs.Entries.{answerNumbers, summaryNumbers, returned, answered, returning, dsrWrite, dsrRead}
-use Rattle.dsr.specs.Bits.{countedNumbers, numbersOf, bitsReturned, bitsAnswered, bitsReturning, dsrReadBits}
+use Rattle.dsr.specs.Entries.{answerNumbers, summaryNumbers, Told, numbers, refusal, Given, given, returned, answered, returning, toldOf, givenOf, dsrWrite, dsrRead}
+use Rattle.dsr.specs.Bits.{countedNumbers, numbersOf, bitsTold, bitsGiven, dsrReadBits}
 
 -- octets beyond what is laid over a buffer's front stay
 pub beyond : (l f : List ℕ) (w : ℕ) → w ≤ length l → length f ≡ w → drop w (over l 0 w f) ≡ drop w l
@@ -60,103 +60,120 @@ module _ (rate kind : ℕ) (indices out : List ℕ) where
       by (Written k) n = absurd (n refl)
       by (WV.Refused r) n = refl
 
--- ---- dsr_read
-module _ (a i r : List ℕ) (o : R.Outcome) where
-  -- a reading that succeeds, with room for six numbers, is 0, both buffers and the six numbers; numbers beyond stay
-  pub read-success : answerNumbers ≤ length a → (g : Summary) → o .answer ≡ Read g → returning a i r o ≡ returned 0 (o .index) (o .report) (over a 0 answerNumbers (summaryNumbers g))
+-- ---- both readings, of w numbers
+module _ (w : ℕ) (a : List ℕ) (p : ℕ) (i r : List ℕ) (g : Given) where
+  -- a success, with room for its numbers, is 0, both buffers and its numbers; numbers beyond them and the place stay
+  told-success : w ≤ length a → (l : List ℕ) → g .told ≡ numbers l → returning w a p i r g ≡ returned 0 (g .index) (g .report) (over a 0 w l) p
   unfolding returning
-  read-success h g e = rw (le-ltb (length a) answerNumbers h) (ap (answered a (o .index) (o .report)) e)
+  told-success h l e = rw (le-ltb (length a) w h) (ap (answered w a p (g .index) (g .report)) e)
+
+  -- a refusal is its number and its place, and the answer stays
+  pub told-refused : w ≤ length a → (n q : ℕ) → g ≡ given (refusal n q) i r → returning w a p i r g ≡ returned n i r a q
+  unfolding returning
+  told-refused h n q e = rw (le-ltb (length a) w h) (ap (λ (x : Given). answered w a p (x .index) (x .report) (x .told)) e)
+
+  -- no room is 99, and all stays
+  told-no-room : length a < w → returning w a p i r g ≡ returned noRoom i r a p
+  unfolding returning
+  told-no-room h = rw (lt-ltb (length a) w h)
+
+  -- 0 is told with room only
+  told-zero : returning w a p i r g .number ≡ 0 → (w ≤ length a) × (answered w a p (g .index) (g .report) (g .told) .number ≡ 0)
+  unfolding returning
+  told-zero e = by (ltb (length a) w) refl e
+    where
+      by : (t : Bool) → ltb (length a) w ≡ t → when t (returned noRoom i r a p) (answered w a p (g .index) (g .report) (g .told)) .number ≡ 0
+          → (w ≤ length a) × (answered w a p (g .index) (g .report) (g .told) .number ≡ 0)
+      by true s e = absurd (omega arith)
+      by false s e = (ltb-false (length a) w s, e)
+
+  -- where a refusal leaves both buffers, any other number than 0 does, and the answer stays
+  told-keeps : ((n q : ℕ) → g .told ≡ refusal n q → (g .index ≡ i) × (g .report ≡ r)) → (returning w a p i r g .number ≡ 0 → ⊥)
+      → (returning w a p i r g .index ≡ i) × ((returning w a p i r g .report ≡ r) × (returning w a p i r g .answer ≡ a))
+  unfolding returning
+  told-keeps stays n = by (ltb (length a) w) (g .told) refl n
+    where
+      by : (t : Bool) (x : Told) → g .told ≡ x → (when t (returned noRoom i r a p) (answered w a p (g .index) (g .report) x) .number ≡ 0 → ⊥)
+          → (when t (returned noRoom i r a p) (answered w a p (g .index) (g .report) x) .index ≡ i)
+          × ((when t (returned noRoom i r a p) (answered w a p (g .index) (g .report) x) .report ≡ r)
+          × (when t (returned noRoom i r a p) (answered w a p (g .index) (g .report) x) .answer ≡ a))
+      by true x q n = (refl, (refl, refl))
+      by false (numbers l) q n = absurd (n refl)
+      by false (refusal k m) q n = (stays k m q .0, (stays k m q .1, refl))
+
+-- numbers are no refusal
+no-refusal : {l : List ℕ} {n q : ℕ} → numbers l ≡ refusal n q → ⊥
+no-refusal e = let k : _≡_ {A = ℕ} 0 1 = cc in omega arith
+
+-- ---- dsr_read
+module _ (a : List ℕ) (p : ℕ) (i r : List ℕ) (o : R.Outcome) where
+  -- a reading that succeeds, with room for six numbers, is 0, both buffers and the six numbers; numbers beyond and the place stay
+  pub read-success : answerNumbers ≤ length a → (g : Summary) → o .answer ≡ Read g
+      → returning answerNumbers a p i r (givenOf o) ≡ returned 0 (o .index) (o .report) (over a 0 answerNumbers (summaryNumbers g)) p
+  read-success h g e = told-success answerNumbers a p i r (givenOf o) h (summaryNumbers g) (ap toldOf e)
 
   -- and nothing else is 0
-  pub read-zero : returning a i r o .number ≡ 0 → (answerNumbers ≤ length a) × ((g : Summary) × (o .answer ≡ Read g))
-  unfolding returning
-  read-zero e = by (ltb (length a) answerNumbers) (o .answer) refl refl e
+  pub read-zero : returning answerNumbers a p i r (givenOf o) .number ≡ 0 → (answerNumbers ≤ length a) × ((g : Summary) × (o .answer ≡ Read g))
+  read-zero e = let z = told-zero answerNumbers a p i r (givenOf o) e in (z .0, by (o .answer) refl (z .1))
     where
-      by : (t : Bool) (x : Answer) → ltb (length a) answerNumbers ≡ t → o .answer ≡ x → when t (returned noRoom i r a) (answered a (o .index) (o .report) x) .number ≡ 0
-          → (answerNumbers ≤ length a) × ((g : Summary) × (o .answer ≡ Read g))
-      by true x s q e = absurd (omega arith)
-      by false (Read g) s q e = (ltb-false (length a) answerNumbers s, (g, q))
-      by false (Refused x) s q e = absurd (reading-no-success x e)
-
-  -- where a refusal leaves both buffers, any other number does, and all numbers of the answer but the first
-  keeps : ((x : Refusal) → o .answer ≡ Refused x → (o .index ≡ i) × (o .report ≡ r)) → (returning a i r o .number ≡ 0 → ⊥)
-      → (returning a i r o .index ≡ i) × ((returning a i r o .report ≡ r) × (drop 1 (returning a i r o .answer) ≡ drop 1 a))
-  unfolding returning
-  keeps stays n = by (ltb (length a) answerNumbers) (o .answer) refl n
-    where
-      by : (t : Bool) (x : Answer) → o .answer ≡ x → (when t (returned noRoom i r a) (answered a (o .index) (o .report) x) .number ≡ 0 → ⊥)
-          → (when t (returned noRoom i r a) (answered a (o .index) (o .report) x) .index ≡ i)
-          × ((when t (returned noRoom i r a) (answered a (o .index) (o .report) x) .report ≡ r) × (drop 1 (when t (returned noRoom i r a) (answered a (o .index) (o .report) x) .answer) ≡ drop 1 a))
-      by true x q n = (refl, (refl, refl))
-      by false (Read g) q n = absurd (n refl)
-      by false (Refused x) q n = (stays x q .0, (stays x q .1, refl))
+      by : (x : Answer) → o .answer ≡ x → answered answerNumbers a p (o .index) (o .report) (toldOf x) .number ≡ 0 → (g : Summary) × (o .answer ≡ Read g)
+      by (Read g) q e = (g, q)
+      by (Refused x) q e = absurd (reading-no-success x e)
 
 -- a refusal of the reader leaves both buffers
-refusal-stays : (octets : List ℕ) (codebook thresholds : List ℤ) (index report : List ℕ) (x : Refusal) → reading octets codebook thresholds index report .answer ≡ Refused x
-    → (reading octets codebook thresholds index report .index ≡ index) × (reading octets codebook thresholds index report .report ≡ report)
-refusal-stays octets codebook thresholds index report x e =
-    let k = refusal-keeps octets codebook thresholds index report x e in
+refusal-stays : (octets : List ℕ) (tables : Tables) (index report : List ℕ) (x : Refusal) → reading octets tables index report .answer ≡ Refused x
+    → (reading octets tables index report .index ≡ index) × (reading octets tables index report .report ≡ report)
+refusal-stays octets tables index report x e =
+    let k = refusal-keeps octets tables index report x e in
     (ap (λ (o : R.Outcome). o .index) k, ap (λ (o : R.Outcome). o .report) k)
 
--- any other number leaves both buffers as they came, and all numbers of the answer but the first
-pub read-keeps : (octets : List ℕ) (codebook thresholds : List ℤ) (index report answer : List ℕ)
-    → (dsrRead octets codebook thresholds index report answer .number ≡ 0 → ⊥)
-    → (dsrRead octets codebook thresholds index report answer .index ≡ index)
-    × ((dsrRead octets codebook thresholds index report answer .report ≡ report) × (drop 1 (dsrRead octets codebook thresholds index report answer .answer) ≡ drop 1 answer))
-read-keeps octets codebook thresholds index report answer =
-    keeps answer index report (reading octets codebook thresholds index report) (refusal-stays octets codebook thresholds index report)
+-- any other number leaves both buffers and the answer as they came
+pub read-keeps : (octets : List ℕ) (tables : Tables) (index report answer : List ℕ) (place : ℕ)
+    → (dsrRead octets tables index report answer place .number ≡ 0 → ⊥)
+    → (dsrRead octets tables index report answer place .index ≡ index)
+    × ((dsrRead octets tables index report answer place .report ≡ report) × (dsrRead octets tables index report answer place .answer ≡ answer))
+read-keeps octets tables index report answer place =
+    told-keeps answerNumbers answer place index report (givenOf (reading octets tables index report)) (λ n q.
+    by (reading octets tables index report .answer) refl)
+  where
+    by : (x : Answer) {n q : ℕ} → reading octets tables index report .answer ≡ x → toldOf x ≡ refusal n q
+        → (reading octets tables index report .index ≡ index) × (reading octets tables index report .report ≡ report)
+    by (Read g) z e = absurd (no-refusal e)
+    by (Refused y) z e = refusal-stays octets tables index report y z
 
--- a refusal gives 01's number, and its place in the answer's first number; with no room for six numbers it is 99, and all stays
-pub read-refused : (octets : List ℕ) (codebook thresholds : List ℤ) (index report answer : List ℕ) (x : Refusal) → answerNumbers ≤ length answer
-    → reading octets codebook thresholds index report .answer ≡ Refused x
-    → dsrRead octets codebook thresholds index report answer ≡ returned (readingNumber x) index report (over answer 0 1 (readingPlace x ∷ []))
-unfolding returning
-read-refused octets codebook thresholds index report answer x room e =
-    rw (le-ltb (length answer) answerNumbers room)
-    (ap (λ (o : R.Outcome). answered answer (o .index) (o .report) (o .answer)) (refusal-keeps octets codebook thresholds index report x e))
+-- a refusal gives 01's number and its place, and all else stays; with no room for six numbers it is 99, and all stays
+pub read-refused : (octets : List ℕ) (tables : Tables) (index report answer : List ℕ) (place : ℕ) (x : Refusal) → answerNumbers ≤ length answer
+    → reading octets tables index report .answer ≡ Refused x
+    → dsrRead octets tables index report answer place ≡ returned (readingNumber x) index report answer (readingPlace x)
+read-refused octets tables index report answer place x room e =
+    told-refused answerNumbers answer place index report (givenOf (reading octets tables index report)) room (readingNumber x) (readingPlace x)
+    (ap givenOf (refusal-keeps octets tables index report x e))
 
-pub read-no-room : (octets : List ℕ) (codebook thresholds : List ℤ) (index report answer : List ℕ) → length answer < answerNumbers
-    → dsrRead octets codebook thresholds index report answer ≡ returned noRoom index report answer
-unfolding returning
-read-no-room octets codebook thresholds index report answer h = rw (lt-ltb (length answer) answerNumbers h)
+pub read-no-room : (octets : List ℕ) (tables : Tables) (index report answer : List ℕ) (place : ℕ) → length answer < answerNumbers
+    → dsrRead octets tables index report answer place ≡ returned noRoom index report answer place
+read-no-room octets tables index report answer place =
+    told-no-room answerNumbers answer place index report (givenOf (reading octets tables index report))
 
 -- ---- dsr_read_bits
 module _ (a : List ℕ) (p : ℕ) (i r : List ℕ) (o : G.Outcome) where
   pub bits-success : countedNumbers ≤ length a → (c : Counted) → o .answer ≡ GW.Read c
-      → bitsReturning a p i r o ≡ bitsReturned 0 (o .index) (o .report) (over a 0 countedNumbers (numbersOf c)) p
-  unfolding bitsReturning
-  bits-success h c e = rw (le-ltb (length a) countedNumbers h) (ap (bitsAnswered a p (o .index) (o .report)) e)
+      → returning countedNumbers a p i r (bitsGiven o) ≡ returned 0 (o .index) (o .report) (over a 0 countedNumbers (numbersOf c)) p
+  bits-success h c e = told-success countedNumbers a p i r (bitsGiven o) h (numbersOf c) (ap bitsTold e)
 
-  pub bits-zero : bitsReturning a p i r o .number ≡ 0 → (countedNumbers ≤ length a) × ((c : Counted) × (o .answer ≡ GW.Read c))
-  unfolding bitsReturning
-  bits-zero e = by (ltb (length a) countedNumbers) (o .answer) refl refl e
+  pub bits-zero : returning countedNumbers a p i r (bitsGiven o) .number ≡ 0 → (countedNumbers ≤ length a) × ((c : Counted) × (o .answer ≡ GW.Read c))
+  bits-zero e = let z = told-zero countedNumbers a p i r (bitsGiven o) e in (z .0, by (o .answer) refl (z .1))
     where
-      by : (t : Bool) (x : GA.Answer) → ltb (length a) countedNumbers ≡ t → o .answer ≡ x
-          → when t (bitsReturned noRoom i r a p) (bitsAnswered a p (o .index) (o .report) x) .number ≡ 0 → (countedNumbers ≤ length a) × ((c : Counted) × (o .answer ≡ GW.Read c))
-      by true x s q e = absurd (omega arith)
-      by false (GW.Read c) s q e = (ltb-false (length a) countedNumbers s, (c, q))
-      by false (GW.Refused x) s q e = absurd (hunting-no-success x e)
-
-  bits-keep : ((x : GR.Hunting) → o .answer ≡ GW.Refused x → (o .index ≡ i) × (o .report ≡ r)) → (bitsReturning a p i r o .number ≡ 0 → ⊥)
-      → (bitsReturning a p i r o .index ≡ i) × ((bitsReturning a p i r o .report ≡ r) × (bitsReturning a p i r o .answer ≡ a))
-  unfolding bitsReturning
-  bits-keep stays n = by (ltb (length a) countedNumbers) (o .answer) refl n
-    where
-      by : (t : Bool) (x : GA.Answer) → o .answer ≡ x → (when t (bitsReturned noRoom i r a p) (bitsAnswered a p (o .index) (o .report) x) .number ≡ 0 → ⊥)
-          → (when t (bitsReturned noRoom i r a p) (bitsAnswered a p (o .index) (o .report) x) .index ≡ i)
-          × ((when t (bitsReturned noRoom i r a p) (bitsAnswered a p (o .index) (o .report) x) .report ≡ r)
-          × (when t (bitsReturned noRoom i r a p) (bitsAnswered a p (o .index) (o .report) x) .answer ≡ a))
-      by true x q n = (refl, (refl, refl))
-      by false (GW.Read c) q n = absurd (n refl)
-      by false (GW.Refused x) q n = (stays x q .0, (stays x q .1, refl))
+      by : (x : GA.Answer) → o .answer ≡ x → answered countedNumbers a p (o .index) (o .report) (bitsTold x) .number ≡ 0 → (c : Counted) × (o .answer ≡ GW.Read c)
+      by (GW.Read c) q e = (c, q)
+      by (GW.Refused x) q e = absurd (hunting-no-success x e)
 
 -- a refusal of the hunting reader leaves both buffers
-module _ (s : List ℕ) (from least : ℕ) (codebook thresholds : List ℤ) (index report : List ℕ) where
+module _ (s : List ℕ) (from least : ℕ) (tables : Tables) (index report : List ℕ) where
   abbrev found : G.Outcome
-  found = huntingReading s from least codebook thresholds index report
+  found = huntingReading s from least tables index report
 
   bits-stay : (x : GR.Hunting) → found .answer ≡ GW.Refused x → (found .index ≡ index) × (found .report ≡ report)
-  bits-stay x e = by (F.fate s from least codebook thresholds index report)
+  bits-stay x e = by (F.fate s from least tables index report)
     where
       kept : (y : GR.Hunting) → found ≡ G.outcome (GW.Refused y) index report → (found .index ≡ index) × (found .report ≡ report)
       kept y q = (ap (λ (o : G.Outcome). o .index) q, ap (λ (o : G.Outcome). o .report) q)
@@ -172,29 +189,31 @@ module _ (s : List ℕ) (from least : ℕ) (codebook thresholds : List ℤ) (ind
           from-answer (Refused y) z =
               (ap (λ (w : G.Outcome). w .index) q ∙ stays y z .0, ap (λ (w : G.Outcome). w .report) q ∙ stays y z .1)
 
-      by : F.Fate s from least codebook thresholds index report → (found .index ≡ index) × (found .report ≡ report)
-      by (F.tables w q) = kept _ q
+      by : F.Fate s from least tables index report → (found .index ≡ index) × (found .report ≡ report)
+      by (F.wrongTables w q) = kept _ q
       by (F.range t w q) = kept _ q
       by (F.nowhere t r n q) = kept _ q
       by (F.many p t r x b q) = kept _ q
-      by (F.read t r n w q) = counted-stays _ _ _ (refusal-stays _ codebook thresholds index report) q
+      by (F.read t r n w q) = counted-stays _ _ _ (refusal-stays _ tables index report) q
 
   -- any other number than 0 leaves both buffers and the answer as they came
-  pub bits-kept : (answer : List ℕ) (place : ℕ) → (dsrReadBits s from least codebook thresholds index report answer place .number ≡ 0 → ⊥)
-      → (dsrReadBits s from least codebook thresholds index report answer place .index ≡ index)
-      × ((dsrReadBits s from least codebook thresholds index report answer place .report ≡ report) × (dsrReadBits s from least codebook thresholds index report answer place .answer ≡ answer))
-  bits-kept answer place = bits-keep answer place index report found bits-stay
+  pub bits-kept : (answer : List ℕ) (place : ℕ) → (dsrReadBits s from least tables index report answer place .number ≡ 0 → ⊥)
+      → (dsrReadBits s from least tables index report answer place .index ≡ index)
+      × ((dsrReadBits s from least tables index report answer place .report ≡ report) × (dsrReadBits s from least tables index report answer place .answer ≡ answer))
+  bits-kept answer place = told-keeps countedNumbers answer place index report (bitsGiven found) (λ n q. by (found .answer) refl)
+    where
+      by : (x : GA.Answer) {n q : ℕ} → found .answer ≡ x → bitsTold x ≡ refusal n q → (found .index ≡ index) × (found .report ≡ report)
+      by (GW.Read c) z e = absurd (no-refusal e)
+      by (GW.Refused y) z e = bits-stay y z
 
-  -- a refusal gives its number and its place; with no room for eight numbers it is 99, and all stays
+  -- a refusal gives its number and its place, and all else stays; with no room for eight numbers it is 99, and all stays
   pub bits-refused : (answer : List ℕ) (place : ℕ) (x : GR.Hunting) → countedNumbers ≤ length answer → found .answer ≡ GW.Refused x
-      → dsrReadBits s from least codebook thresholds index report answer place ≡ bitsReturned (huntingNumber x) index report answer (huntingPlace x)
-  unfolding bitsReturning
+      → dsrReadBits s from least tables index report answer place ≡ returned (huntingNumber x) index report answer (huntingPlace x)
   bits-refused answer place x room e =
       let k = bits-stay x e in
-      rw (le-ltb (length answer) countedNumbers room)
-      (ap (bitsAnswered answer place (found .index) (found .report)) e ∙ ap₂ (λ (i r : List ℕ). bitsReturned (huntingNumber x) i r answer (huntingPlace x)) (k .0) (k .1))
+      told-refused countedNumbers answer place index report (bitsGiven found) room (huntingNumber x) (huntingPlace x)
+      (ap (λ (y : GA.Answer). given (bitsTold y) (found .index) (found .report)) e ∙ ap₂ (given (bitsTold (GW.Refused x))) (k .0) (k .1))
 
   pub bits-no-room : (answer : List ℕ) (place : ℕ) → length answer < countedNumbers
-      → dsrReadBits s from least codebook thresholds index report answer place ≡ bitsReturned noRoom index report answer place
-  unfolding bitsReturning
-  bits-no-room answer place h = rw (lt-ltb (length answer) countedNumbers h)
+      → dsrReadBits s from least tables index report answer place ≡ returned noRoom index report answer place
+  bits-no-room answer place = told-no-room countedNumbers answer place index report (bitsGiven found)

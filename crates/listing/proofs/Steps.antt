@@ -10,8 +10,8 @@ use lib.ListN.{length, set, getD, take, replicate, length-append, length-replica
 use lib.Seq.{take-suc, take-all, length-take-le}
 use Rattle.lists.specs.Parts.{over, over-none, behind, set-over, length-over}
 use Rattle.lists.specs.Rows.{joined}
-use lib.IntN.{ℤ, pos}
-use Rattle.layout.specs.Layout.{mostMultiframes, indexOctets, reportOctets, codebookNumbers, thresholdNumbers}
+use Rattle.consistency.specs.Tables.{Tables}
+use Rattle.layout.specs.Layout.{mostMultiframes, indexOctets, reportOctets}
 use Rattle.refusals.specs.Refusals.{readingNumber, readingPlace}
 use Rattle.refusals.specs.declared.Reading.{Reading}
 use Rattle.cutting.specs.Cutting.{cutting}
@@ -23,7 +23,7 @@ use Rattle.reader.specs.declared.Verdict.the-variants.{Refuse, Accept}
 use Rattle.reader.specs.declared.Answer.{Answer}
 use Rattle.reader.specs.declared.Answer.the-variants.{Read, Refused}
 use Rattle.listing.specs.Text.{digit, decimal, decimal-small, decimal-large, length-decimal, Put}
-use Rattle.listing.specs.Listing.{newline, space, rateWord, typeWord, multiframesWord, speechWord, badWord, endWord, refusedWord, field, pairText, line, total, refusal, lineOf, listed, readingOf, listing}
+use Rattle.listing.specs.Listing.{newline, space, rateWord, typeWord, multiframesWord, speechWord, badWord, endWord, refusedWord, field, pairText, line, total, refusal, lineOf, listed, zeroTables, readingOf, listing}
 
 -- nothing, put
 pub put-none : (l : List ℕ) (at : ℕ) → Put [] l at l at
@@ -129,27 +129,27 @@ refusal-done r n d l m₁ m₂ at a e room en ed p u q =
     (append-assoc (field refusedWord n) (field space d) newline ∙ ap₂ (λ (i j : ℕ). field refusedWord i ++ (field space j ++ newline)) en ed) z
 
 -- ---- the reading that is listed
-module _ (octets : List ℕ) (codebook thresholds : List ℤ) (index report : List ℕ) where
+module _ (octets : List ℕ) (tables : Tables) (index report : List ℕ) where
   -- a reading that succeeds has room in the report for each of its multiframes
-  pub read-fits : (s : Summary) (i r : List ℕ) → outcome (Read s) i r ≡ reading octets codebook thresholds index report
+  pub read-fits : (s : Summary) (i r : List ℕ) → outcome (Read s) i r ≡ reading octets tables index report
       → reportOctets * s .multiframes ≤ length report
   unfolding reading
-  read-fits s i r e = go (verdict octets codebook thresholds (length index) (length report)) refl e
+  read-fits s i r e = go (verdict octets tables (length index) (length report)) refl e
     where
-      go : (v : Verdict) → verdict octets codebook thresholds (length index) (length report) ≡ v
-          → outcome (Read s) i r ≡ finished octets codebook thresholds index report (cutting octets .places) v → reportOctets * s .multiframes ≤ length report
+      go : (v : Verdict) → verdict octets tables (length index) (length report) ≡ v
+          → outcome (Read s) i r ≡ finished octets tables index report (cutting octets .places) v → reportOctets * s .multiframes ≤ length report
       go (Refuse x) ev eo = let y : _≡_ {A = Answer} (Read s) (Refused x) = ap (λ (o : Outcome). o .answer) eo in let z : _≡_ {A = ℕ} 0 1 = cc in absurd (omega arith)
       go (Accept c) ev eo =
-          let y : Read s ≡ Read (summary octets (cutting octets .places) (receivedNotes octets (cutting octets .places) codebook thresholds) c)
+          let y : Read s ≡ Read (summary octets (cutting octets .places) (receivedNotes octets (cutting octets .places) tables) c)
           = ap (λ (o : Outcome). o .answer) eo in
-          let w : s ≡ summary octets (cutting octets .places) (receivedNotes octets (cutting octets .places) codebook thresholds) c = cc in
-          let f = accepted octets codebook thresholds (length index) (length report) c ev .fitting in
+          let w : s ≡ summary octets (cutting octets .places) (receivedNotes octets (cutting octets .places) tables) c = cc in
+          let f = accepted octets tables (length index) (length report) c ev .fitting in
           rw (ap (λ (q : Summary). q .multiframes) w) (f .roomy .report-room)
 
 -- the report's octets of every multiframe lie in the report that is lent
 pub lines-fit : (octets i r : List ℕ) (x : Answer) (s : Summary) → outcome x i r ≡ readingOf octets → x ≡ Read s → s .multiframes ≤ mostMultiframes
 lines-fit octets i r x s e ex =
-    let f = read-fits octets (replicate codebookNumbers (pos 0)) (replicate thresholdNumbers (pos 0)) (replicate (indexOctets * mostMultiframes) 0)
+    let f = read-fits octets zeroTables (replicate (indexOctets * mostMultiframes) 0)
     (replicate (reportOctets * mostMultiframes) 0) s i r (ap (λ (y : Answer). outcome y i r) (sym ex) ∙ e) in
     omega (arith, f, length-replicate {A = ℕ} (reportOctets * mostMultiframes) 0)
 

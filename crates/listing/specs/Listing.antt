@@ -7,6 +7,7 @@ use lib.IntN.{ℤ, pos}
 use Rattle.lists.specs.Parts.{part}
 use Rattle.lists.specs.Rows.{joined}
 use Rattle.layout.specs.Layout.{multiframePairs, mostMultiframes, indexOctets, reportOctets, codebookNumbers, thresholdNumbers}
+use Rattle.consistency.specs.Tables.{Tables, tablesOf}
 use Rattle.refusals.specs.Refusals.{readingNumber, readingPlace}
 use Rattle.refusals.specs.declared.Reading.{Reading}
 use Rattle.reader.specs.Reading.{Outcome, reading}
@@ -83,11 +84,13 @@ abbrev pub listed : List ℕ → Answer → List ℕ
 listed report (Read s) = joined (lineOf report) (s .multiframes) ++ total s
 listed report (Refused r) = refusal r
 
--- the reading that is listed: with all codebook numbers and thresholds 0, and room for every utterance
+-- all codebook numbers and thresholds 0
+abbrev pub zeroTables : Tables
+zeroTables = tablesOf (replicate codebookNumbers (pos 0)) (replicate thresholdNumbers (pos 0))
+
+-- the reading that is listed: with these tables, and room for every utterance
 abbrev pub readingOf : List ℕ → Outcome
-readingOf octets =
-    reading octets (replicate codebookNumbers (pos 0)) (replicate thresholdNumbers (pos 0)) (replicate (indexOctets * mostMultiframes) 0)
-    (replicate (reportOctets * mostMultiframes) 0)
+readingOf octets = reading octets zeroTables (replicate (indexOctets * mostMultiframes) 0) (replicate (reportOctets * mostMultiframes) 0)
 
 -- THE LISTING of octets
 unfoldable pub listing : List ℕ → List ℕ

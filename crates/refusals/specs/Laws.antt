@@ -1,4 +1,4 @@
--- No refusal has the number of success or of no room, and no number stands for two cases: `writingOf` and its like give back the case from number and
+-- No refusal has the number of success or one of the house, and no number stands for two cases: `writingOf` and its like give back the case from number and
 -- place alone.
 -- Assumes nothing.
 use Prim.Native.Nat.{ℕ, _+_, _-_, _<_}
@@ -7,7 +7,7 @@ use native.Mathlib.Omega.{arith}
 use lib.Dec.{eqb}
 use Rattle.lists.specs.Tests.{when}
 use Rattle.layout.specs.declared.Frame.{Frame}
-use Rattle.refusals.specs.Refusals.{success, noRoom, writingNumber, writingPlace, readingNumber, readingPlace, huntNumber, huntPlace, huntTested, huntingNumber, huntingPlace}
+use Rattle.refusals.specs.Refusals.{success, unreadable, writingNumber, writingPlace, readingNumber, readingPlace, huntNumber, huntPlace, huntTested, huntingNumber, huntingPlace}
 use Rattle.refusals.specs.declared.Writing.{Writing}
 use Rattle.refusals.specs.declared.Writing.the-variants as W
 use Rattle.refusals.specs.declared.Reading.{Reading}
@@ -17,9 +17,9 @@ use Rattle.refusals.specs.declared.Hunt.the-variants as H
 use Rattle.refusals.specs.declared.Hunting.{Hunting}
 use Rattle.refusals.specs.declared.Hunting.the-variants as G
 
--- the number of neither success nor of no room
+-- the number of neither success nor the house, whose smallest is `unreadable`
 abbrev pub Between : ℕ → Type 0
-Between n = (success < n) × (n < noRoom)
+Between n = (success < n) × (n < unreadable)
 
 -- ---- the writer's
 pub writing-between : (r : Writing) → Between (writingNumber r)

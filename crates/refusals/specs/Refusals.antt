@@ -14,7 +14,16 @@ use Rattle.refusals.specs.declared.Hunting.the-variants as G
 abbrev pub success : ℕ
 success = 0
 
--- no room for the numbers of an answer: a number that 01 does not have (house)
+-- ---- numbers that 01 does not have (house)
+-- no codeword is near enough to a header
+abbrev pub unreadable : ℕ
+unreadable = 97
+
+-- a slice has another length than the multiframe's
+abbrev pub wrongLength : ℕ
+wrongLength = 98
+
+-- no room for the numbers of an answer
 abbrev pub noRoom : ℕ
 noRoom = 99
 

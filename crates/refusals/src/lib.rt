@@ -8,8 +8,14 @@ ghost use Rattle.refusals.specs.Refusals.{writingNumber, writingPlace, r
 // SUCCESS is the number of an answer that is no refusal.
 pub const SUCCESS: u32 = 0;
 
-// NO_ROOM is what an entry answers if there is no room for the numbers of its answer: a number that 01 does not have (house). It has no
-// place.
+// Three numbers that 01 does not have (house), above all of its own. They have no place.
+// UNREADABLE is the number of a header that no codeword is near enough to.
+pub const UNREADABLE: u32 = 97;
+
+// WRONG_LENGTH is the number of a slice that has another length than the multiframe's.
+pub const WRONG_LENGTH: u32 = 98;
+
+// NO_ROOM is the number of an answer that is too short for its numbers.
 pub const NO_ROOM: u32 = 99;
 
 // Why an utterance is not written: 01's refusals 1 to 6. Frames count from 0 here, in 01's places from 1.

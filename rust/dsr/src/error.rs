@@ -1,37 +1,58 @@
 //! The refusals of document 01, and those of document 02 that have landed.
-use std::fmt;
+use core::fmt;
+
+use crate::library::{Status, DONE};
 
 macro_rules! refusals {
     ($($name:ident = $number:literal, $words:literal, $meaning:literal;)*) => {
-        /// A refusal: each holds its place, whose meaning is the refusal's own.
-        #[derive(Debug, Clone, Copy, PartialEq, Eq)]
+        /// A refusal. Its number and its place are those of document 01 or 02; what the place is depends on the refusal.
+        ///
+        /// A refusal changes no octet of a lent buffer. More refusals come as the requests of 02 land, so a `match` needs an arm for
+        /// the rest.
+        ///
+        /// ```
+        /// use dsr::{write_into, Error, FrontEnd, Rate, Settings};
+        /// let settings = Settings::new(Rate::Khz8, FrontEnd::Standard);
+        /// let refusal = write_into(settings, &[5; 8], &mut [0; 144]).unwrap_err();
+        /// assert_eq!(refusal, Error::WriteIndexCount { place: 8 });
+        /// assert_eq!((refusal.number(), refusal.place()), (2, 8));
+        /// assert_eq!(refusal.to_string(), "refused 2 8: index octets no multiple of 7 (place: their number)");
+        /// ```
+        #[derive(Debug, Clone, Copy, PartialEq, Eq, Hash)]
+        #[non_exhaustive]
         pub enum Error {
-            $(#[doc = $words] #[doc = concat!("(place: ", $meaning, ")")] $name { place: u64 },)*
+            $(
+                #[doc = concat!(stringify!($number), ": ", $words, ".")]
+                $name {
+                    #[doc = concat!("Place: ", $meaning, ".")]
+                    place: u64,
+                },
+            )*
         }
 
         impl Error {
-            /// The document's number of the refusal.
-            pub fn number(&self) -> u32 {
+            /// `number` is the document's number of the refusal, as in dsr.h.
+            pub const fn number(&self) -> u32 {
                 match self { $(Error::$name { .. } => $number,)* }
             }
 
-            /// The document's place of the refusal.
-            pub fn place(&self) -> u64 {
+            /// `place` is the refusal's place; [`Error::meaning`] says of what.
+            pub const fn place(&self) -> u64 {
                 match *self { $(Error::$name { place } => place,)* }
             }
 
-            /// The document's words for when the refusal is given.
-            pub fn words(&self) -> &'static str {
+            /// `words` are the document's words for when the refusal is given.
+            pub const fn words(&self) -> &'static str {
                 match self { $(Error::$name { .. } => $words,)* }
             }
 
-            /// The document's words for what its place is.
-            pub fn meaning(&self) -> &'static str {
+            /// `meaning` is the document's words for what the place is.
+            pub const fn meaning(&self) -> &'static str {
                 match self { $(Error::$name { .. } => $meaning,)* }
             }
 
-            /// The refusal with that number, if there is one.
-            pub fn new(number: u32, place: u64) -> Option<Error> {
+            /// `new` gives the refusal with that number, if there is one.
+            pub const fn new(number: u32, place: u64) -> Option<Error> {
                 match number { $($number => Some(Error::$name { place }),)* _ => None }
             }
         }
@@ -60,45 +81,46 @@ refusals! {
 }
 
 impl Error {
-    /// Nothing for success, else the refusal.
-    #[cfg(any(feature = "write", feature = "read", feature = "hunt"))]
-    pub(crate) fn check(number: u32, place: u64) -> Result<(), Error> {
-        match number {
-            0 => Ok(()),
-            _ => Err(Error::new(number, place).expect("the library answers with a number of the documents")),
+    /// Nothing for success, else the refusal. dsr.h's own numbers, from 97 on, never come here: the types of the callers rule them out.
+    pub(crate) fn check(status: Status, place: u64) -> Result<(), Error> {
+        match status {
+            DONE => Ok(()),
+            number => Err(Error::new(number, place).expect("the library answers with a number of the documents")),
         }
     }
 }
 
 impl fmt::Display for Error {
-    fn fmt(&self, f: &mut fmt::Formatter) -> fmt::Result {
+    fn fmt(&self, f: &mut fmt::Formatter<'_>) -> fmt::Result {
         write!(f, "refused {} {}: {} (place: {})", self.number(), self.place(), self.words(), self.meaning())
     }
 }
 
-impl std::error::Error for Error {}
+impl core::error::Error for Error {}
 
 /// A refused hunt: the refusal, and the number of places tested all the same. It becomes the [`Error`] alone by `?`.
-#[cfg(feature = "hunt")]
-#[derive(Debug, Clone, Copy, PartialEq, Eq)]
+#[derive(Debug, Clone, Copy, PartialEq, Eq, Hash)]
 pub struct HuntRefused {
+    /// The refusal: [`Error::HuntMatch`] or [`Error::HuntNowhere`].
     pub refusal: Error,
+    /// The number of places tested: 0, or as many as have 1,152 bits left from the first bit searched on.
     pub tested: u64,
 }
 
-#[cfg(feature = "hunt")]
 impl From<HuntRefused> for Error {
     fn from(refused: HuntRefused) -> Error {
         refused.refusal
     }
 }
 
-#[cfg(feature = "hunt")]
 impl fmt::Display for HuntRefused {
-    fn fmt(&self, f: &mut fmt::Formatter) -> fmt::Result {
+    fn fmt(&self, f: &mut fmt::Formatter<'_>) -> fmt::Result {
         write!(f, "{}, {} places tested", self.refusal, self.tested)
     }
 }
 
-#[cfg(feature = "hunt")]
-impl std::error::Error for HuntRefused {}
+impl core::error::Error for HuntRefused {
+    fn source(&self) -> Option<&(dyn core::error::Error + 'static)> {
+        Some(&self.refusal)
+    }
+}

@@ -1,23 +1,20 @@
-#![cfg(feature = "stream")]
-use dsr::{pack, unpack};
+use dsr::{pack, unpack, Error, PairNote};
 
 #[test]
 fn a_stream_comes_back() {
-    let indices: Vec<u8> = (0..168u32).map(|i| (i * 37 % 64) as u8).collect();
-    let (mut stream, mut back, mut notes) = ([0; 138], [0; 168], [9; 12]);
-    assert!(pack(&indices, &mut stream));
-    assert!(unpack(&stream, &mut back, &mut notes));
-    assert_eq!((&back[..], notes), (&indices[..], [0; 12]));
+    let indices = std::array::from_fn(|i| (i * 37 % 64) as u8);
+    let mut stream = pack(&indices).unwrap();
+    assert_eq!(unpack(&stream), (indices, [PairNote::Good; 12]));
     stream[137] ^= 0x80;
-    assert!(unpack(&stream, &mut back, &mut notes));
-    assert_eq!(notes, [0, 0, 0, 0, 0, 0, 0, 0, 0, 0, 0, 1]);
+    let (back, notes) = unpack(&stream);
+    assert_eq!((back, &notes[..11], notes[11]), (indices, &[PairNote::Good; 11][..], PairNote::CrcFailed));
 }
 
 /// The stream bits that are set when the first index is the only one that is not zero.
 fn ones_of(index: u8) -> Vec<usize> {
-    let (mut indices, mut stream) = ([0; 168], [0xEE; 138]);
+    let mut indices = [0; 168];
     indices[0] = index;
-    assert!(pack(&indices, &mut stream));
+    let stream = pack(&indices).unwrap();
     (0..1104).filter(|t| stream[t / 8] >> (t % 8) & 1 == 1).collect()
 }
 
@@ -33,12 +30,14 @@ fn the_generator_is_not_turned_round() {
 }
 
 #[test]
-fn wrong_lengths_and_indices_touch_nothing() {
-    let (mut stream, mut indices) = ([0xEE; 138], [0; 168]);
-    assert!(!pack(&indices[..167], &mut stream));
-    indices[161] = 64;
-    assert!(!pack(&indices, &mut stream));
-    assert_eq!(stream, [0xEE; 138]);
-    assert!(!unpack(&stream, &mut indices[..167], &mut [0; 12]));
-    assert!(!unpack(&stream, &mut indices, &mut [0; 11]));
+fn a_wide_index_is_refused_with_its_frame() {
+    for at in 0..168 {
+        let mut indices = [63; 168];
+        indices[at] = 64;
+        let packed = pack(&indices).map(|_| ());
+        let wanted = if at % 7 == 6 { Ok(()) } else { Err(Error::WriteIndexValue { place: at as u64 / 7 + 1 }) };
+        assert_eq!(packed, wanted);
+        indices[167 - 1] = 255;
+        assert_eq!(pack(&indices), Err(Error::WriteIndexValue { place: if at % 7 == 6 { 24 } else { at as u64 / 7 + 1 } }));
+    }
 }

@@ -1,6 +1,6 @@
 //! Compares the library's header code with the independent version. Arguments: the command that runs the header driver.
-use independent::chance::{Chance, SEED};
-use independent::driver::{Call, Driver, LENT};
+use independent::chance::{seed, Chance};
+use independent::driver::{Call, Driver, DONE, HEADER_UNREADABLE};
 use independent::header::{encode, Code};
 
 fn encodings(driver: &mut Driver) {
@@ -12,12 +12,17 @@ fn encodings(driver: &mut Driver) {
     driver.count("every message encoded", 65536);
 }
 
-fn readings(driver: &mut Driver, code: &Code, name: &str, words: &[u32]) {
+fn readings(driver: &mut Driver, chance: &mut Chance, code: &Code, name: &str, words: &[u32]) {
     for part in words.chunks(50_000) {
-        let mut answer = driver.call(Call::kind(b'R').words(part), 12 * part.len());
+        let lent = (chance.word() as u16 as u32, chance.word() as u32);
+        let call = Call::kind(b'R').octet(driver.mode()).word(lent.0).word(lent.1).words(part);
+        let mut answer = driver.call(call, 16 * part.len());
         for &word in part {
-            let got = (answer.word(), answer.word(), answer.word());
-            let want = code.read(word).map_or((0, LENT, LENT), |(message, flips)| (1, message as u32, flips));
+            let got = (answer.word(), answer.word(), answer.word(), answer.word());
+            let want = match code.read(word) {
+                Some((message, flips)) => (DONE, 1, message as u32, flips),
+                None => (HEADER_UNREADABLE, 1, lent.0, lent.1),
+            };
             assert_eq!(got, want, "reading of {word:08x}");
         }
     }
@@ -32,7 +37,7 @@ fn flips_of(count: usize) -> Vec<u32> {
 }
 
 fn main() {
-    let mut chance = Chance::new(SEED);
+    let mut chance = Chance::new(seed());
     let mut driver = Driver::start();
     let code = Code::new();
     encodings(&mut driver);
@@ -40,9 +45,9 @@ fn main() {
         let flips = flips_of(count);
         let messages = (0..codewords).map(|k| if codewords == 65536 { k as u16 } else { chance.word() as u16 });
         let words: Vec<u32> = messages.flat_map(|m| flips.iter().map(move |f| encode(m) ^ f)).collect();
-        readings(&mut driver, &code, &format!("every {count} flipped places of {codewords} codewords"), &words);
+        readings(&mut driver, &mut chance, &code, &format!("every {count} flipped places of {codewords} codewords"), &words);
     }
     let words: Vec<u32> = (0..200_000).map(|_| chance.word() as u32).collect();
-    readings(&mut driver, &code, "random words", &words);
+    readings(&mut driver, &mut chance, &code, "random words", &words);
     driver.end(100_000);
 }

@@ -1,11 +1,11 @@
 //! Compares the library's hunt and hunting reading with the independent version. Arguments: the command that runs the hunt driver.
-use independent::chance::{Chance, SEED};
-use independent::driver::{over, Call, Driver};
+use independent::chance::{seed, Chance};
+use independent::driver::{over, Call, Driver, ANSWER_SHORT};
 use independent::header::{encode, Code};
 use independent::hunting::{bits_of, hunt, octets_of, read_bits, HEADER_BITS, MULTIFRAME_BITS, SYNC_BITS};
 use independent::reading::{MOST, REPORT};
 use independent::stream::{INDICES, PAIRS};
-use independent::utterance::{bad_packet, image, tables, utterance, Part, Tables};
+use independent::utterance::{bad_packet, damage_anywhere, estrange, forbid, image, spoil, tables, unsettle, utterance, Part, Tables};
 use independent::writing::{Refusal, INVERSE, MULTIFRAME, SYNC};
 
 type Bits = Vec<bool>;
@@ -30,13 +30,19 @@ impl Search {
         Call::kind(kind).octet(mode).long(self.from).long(self.least).long(self.before).octets(&self.octets)
     }
 
-    /// The bits before the octets, which the independent version is not given.
-    fn bits_before(&self) -> u64 {
-        8 * self.before
+    /// The bits before the octets, which the independent version is not given if the search begins behind them.
+    fn skipped(&self) -> u64 {
+        if self.from < 8 * self.before { 0 } else { 8 * self.before }
+    }
+
+    /// What the independent version searches.
+    fn searched(&self) -> Vec<u8> {
+        let zeros = if self.skipped() == 0 { self.before } else { 0 };
+        [&vec![0; zeros as usize][..], &self.octets].concat()
     }
 
     fn place(&self, refusal: &Refusal) -> u64 {
-        refusal.place + if [15, 22].contains(&refusal.number) { self.bits_before() } else { 0 }
+        refusal.place + if [15, 22].contains(&refusal.number) { self.skipped() } else { 0 }
     }
 }
 
@@ -133,6 +139,14 @@ fn spread(chance: &mut Chance, parts: &[Part], flips: usize, longest: usize) -> 
     bits
 }
 
+/// As unsettle, but with no header lost: a hunt passes over those.
+fn unsettle_found(chance: &mut Chance, parts: &mut [Part]) {
+    unsettle(chance, parts);
+    if parts.len() > 1 {
+        parts.iter_mut().for_each(|part| part.header = encode(part.header as u16));
+    }
+}
+
 struct Check {
     driver: Driver,
     chance: Chance,
@@ -142,12 +156,12 @@ struct Check {
 impl Check {
     fn hunt(&mut self, name: &str, search: &Search) {
         let lent: [u64; 3] = std::array::from_fn(|_| self.chance.word());
-        let call = search.call(b'H', self.driver.mode()).longs(&lent[..1]).longs(&lent[1..2]).longs(&lent[2..]);
+        let call = search.call(b'H', self.driver.mode()).long(lent[0]).long(lent[1]).long(lent[2]);
         let mut back = self.driver.call(call, 8 + 24);
         let got = (back.word(), back.word(), [back.long(), back.long(), back.long()]);
-        let (answer, tested) = hunt(&self.code, &search.octets, search.from - search.bits_before(), search.least);
+        let (answer, tested) = hunt(&self.code, &search.searched(), search.from - search.skipped(), search.least);
         let want = match answer {
-            Ok(found) => (0, 1, [found + search.bits_before(), tested, lent[2]]),
+            Ok(found) => (0, 1, [found + search.skipped(), tested, lent[2]]),
             Err(refusal) => (refusal.number, 1, [lent[0], tested, search.place(&refusal)]),
         };
         if got != want {
@@ -164,7 +178,7 @@ impl Check {
         let answer: Vec<u64> = (0..lent.answer).map(|_| self.chance.word()).collect();
         let came = Outcome { number: 0, kept: 1, place: self.chance.word(), answer, index, report };
         let call = search.call(b'B', self.driver.mode()).signed(&lent.tables.codebook).signed(&lent.tables.thresholds);
-        let call = call.octets(&came.index).octets(&came.report).longs(&came.answer).longs(&[came.place]);
+        let call = call.octets(&came.index).octets(&came.report).longs(&came.answer).long(came.place);
         let mut back = self.driver.call(call, 16 + 8 * lent.answer + lent.index + lent.report);
         let got = Outcome {
             number: back.word(),
@@ -191,11 +205,11 @@ impl Check {
     /// What the independent version returns and leaves of the memory that came.
     fn expected(&mut self, search: &Search, lent: &Lent, came: Outcome) -> Outcome {
         if lent.answer < ANSWER {
-            return Outcome { number: 99, ..came };
+            return Outcome { number: ANSWER_SHORT, ..came };
         }
         let tables = (&lent.tables.codebook[..], &lent.tables.thresholds[..]);
-        let from = search.from - search.bits_before();
-        match read_bits(&self.code, &search.octets, from, search.least, tables, (lent.index, lent.report)) {
+        let from = search.from - search.skipped();
+        match read_bits(&self.code, &search.searched(), from, search.least, tables, (lent.index, lent.report)) {
             Ok(hunting) => {
                 let (reading, counts) = (hunting.reading, [hunting.outside, hunting.tested]);
                 self.driver.count("of these, multiframes found and read", reading.answer[2] as usize);
@@ -432,7 +446,7 @@ impl Check {
     }
 
     fn random_bits(&mut self) {
-        for round in 0..12_000 {
+        for round in 0..6_000 {
             let n = 130 + self.chance.below(300);
             let octets = self.chance.octets(n);
             let (from, least) = (self.first_bit(&octets), self.chance.pick(&[12, 12, 12, 13, 14, 15, 16]));
@@ -441,7 +455,7 @@ impl Check {
                 self.read_roomy("random bits", &Search::new(&octets, from, 12));
             }
         }
-        for _ in 0..12_000 {
+        for _ in 0..6_000 {
             let least = self.least();
             let mut bits = vec![];
             while bits.len() < 1000 || !self.chance.once_in(60) {
@@ -537,37 +551,93 @@ impl Check {
         }
     }
 
-    /// 255 multiframes of which a late one is lost, out of step, damaged or moved.
-    fn late_differences(&mut self) {
-        for k in 200..MOST {
-            for kind in 0..6 {
-                let mut parts = utterance(&mut self.chance, MOST);
-                match kind {
-                    0 => parts[k].header ^= 0b111 << self.chance.below(30),
-                    1 => parts[k].header ^= 0b11 << self.chance.below(31),
-                    2 => parts[k].other_header(&mut self.chance),
-                    _ => self.damage_pairs(&mut parts[k..k + 1], 3),
+    /// 255 multiframes, of which each by turns is lost, out of step, damaged or moved.
+    fn one_amiss(&mut self) {
+        for k in 0..MOST {
+            let mut parts = utterance(&mut self.chance, MOST);
+            let kind = self.chance.below(6);
+            match kind {
+                0 => parts[k].lose_header(&mut self.chance),
+                1 => parts[k].header ^= 0b11 << self.chance.below(31),
+                2 => parts[k].other_header(&mut self.chance),
+                _ => self.damage_pairs(&mut parts[k..k + 1], 3),
+            }
+            let mut bits = bits_of(&image(&parts));
+            let start = MULTIFRAME_BITS * k;
+            match kind {
+                4 => flip(&mut self.chance, &mut bits[start..][..SYNC_BITS], 3),
+                5 => bits = [&bits[..start], &gap(&mut self.chance, 13), &bits[start..]].concat(),
+                _ => {}
+            }
+            let (octets, least) = (whole(&mut self.chance, &bits), self.least());
+            self.read_roomy("one thing amiss in each of 255 multiframes", &Search::new(&octets, 0, least));
+        }
+    }
+
+    /// Damage, other settings, runs of bad pairs and gaps anywhere in long utterances; and settings settled by two headers anywhere.
+    fn anywhere(&mut self) {
+        for round in 0..80 {
+            let m = if round % 3 == 0 { 20 + self.chance.below(236) } else { MOST };
+            let mut parts = utterance(&mut self.chance, m);
+            if round % 2 == 0 {
+                damage_anywhere(&mut self.chance, &mut parts);
+            } else {
+                let agree = self.chance.places(2, m);
+                estrange(&mut self.chance, &mut parts, &agree);
+            }
+            let (flips, longest) = (self.chance.pick(&[0, 0, 3]), self.chance.pick(&[0, 0, 9, 70]));
+            let bits = spread(&mut self.chance, &parts, flips, longest);
+            let (octets, least) = (whole(&mut self.chance, &bits), self.least());
+            self.read_roomy("damage and settings anywhere in long utterances", &Search::new(&octets, 0, least));
+        }
+    }
+
+    /// Every set of refusals that can apply at once, each with an answer that is too short and with one that is not.
+    fn every_set(&mut self) {
+        for set in 0..3 * 3 * 32 {
+            for turn in 0..4 {
+                let (met, settings) = ([0, 22, 15][set % 3], set / 3 % 3);
+                let has = |fault: usize| set / 9 >> fault & 1 == 1;
+                if met == 15 && turn > 1 {
+                    continue;
                 }
-                let mut bits = bits_of(&image(&parts));
-                let start = MULTIFRAME_BITS * k;
-                match kind {
-                    4 => flip(&mut self.chance, &mut bits[start..][..SYNC_BITS], 3),
-                    5 => bits = [&bits[..start], &gap(&mut self.chance, 13), &bits[start..]].concat(),
+                let m = if met == 15 { MOST + 1 } else { 1 + self.chance.below(4) };
+                let mut parts = utterance(&mut self.chance, m);
+                match settings {
+                    1 => unsettle_found(&mut self.chance, &mut parts),
+                    2 => forbid(&mut self.chance, &mut parts),
                     _ => {}
                 }
-                let (octets, least) = (whole(&mut self.chance, &bits), self.least());
-                self.read_roomy("255 multiframes, one after the 200th another way", &Search::new(&octets, 0, least));
+                if has(0) {
+                    spoil(&mut self.chance, &mut parts);
+                }
+                let octets = if met == 22 { self.chance.octets(143) } else { image(&parts) };
+                let least = if has(1) { self.chance.pick(&[0, 11, 17, 1 << 32 | 12, u64::MAX]) } else { 16 };
+                let lent = self.lend_faulty(m, [has(2), has(3), has(4)], turn % 2 == 1);
+                self.read("every set of refusals at once", &Search::new(&octets, 0, least), &lent);
             }
         }
     }
 
+    /// Tables of another length, short index and report buffers, a short answer: those that are said.
+    fn lend_faulty(&mut self, m: usize, faults: [bool; 3], short_answer: bool) -> Lent {
+        let mut tables = tables(&mut self.chance);
+        if faults[0] {
+            tables.thresholds.resize(self.chance.pick(&[0, 13, 15]), 0);
+        }
+        let index = if faults[1] { self.chance.pick(&[0, INDICES * m.min(MOST) - 1]) } else { INDICES * m };
+        let report = if faults[2] { self.chance.pick(&[0, REPORT * m.min(MOST) - 1]) } else { REPORT * m };
+        let answer = if short_answer { self.chance.below(ANSWER) } else { ANSWER + self.chance.below(3) };
+        Lent { tables, index, report, answer }
+    }
+
     /// Hunts that begin, or end, far from the start.
     fn late_hunts(&mut self) {
-        for _ in 0..20 {
+        for _ in 0..12 {
             let parts = utterance(&mut self.chance, MOST);
             let bits = spread(&mut self.chance, &parts, 3, 30);
             let octets = whole(&mut self.chance, &bits);
-            for _ in 0..30 {
+            for _ in 0..20 {
                 let from = 8 * octets.len() - self.chance.below(5 * MULTIFRAME_BITS);
                 let least = self.least();
                 self.both("first bits in the last of 255 multiframes", &Search::new(&octets, from as u64, least));
@@ -638,12 +708,20 @@ impl Check {
                 let from = 8 * before + self.first_bit(&octets);
                 self.both("bits beyond 2^32 in number", &Search { before, octets, from, least });
             }
+            let octets = image(&utterance(&mut self.chance, MOST + 1));
+            self.read_roomy("a 256th multiframe beyond 2^32 bits", &Search { before, octets, from: 8 * before, least: 16 });
         }
+        let octets = image(&self.parts(3));
+        self.both("more than 2^24 places before a multiframe", &Search { before: (1 << 21) + 5, octets, from: 0, least: 16 });
     }
 }
 
 fn main() {
-    let mut check = Check { driver: Driver::start(), chance: Chance::new(SEED), code: Code::new() };
+    let mut check = Check { driver: Driver::start(), chance: Chance::new(seed()), code: Code::new() };
+    check.every_set();
+    check.anywhere();
+    check.one_amiss();
+    check.wide();
     check.shifts();
     check.sync_flips();
     check.near_matches_before();
@@ -658,10 +736,8 @@ fn main() {
     check.rooms();
     check.mixed();
     check.most();
-    check.late_differences();
     check.late_hunts();
     check.after_the_last();
     check.too_many_comes_first();
-    check.wide();
     check.driver.end(200_000);
 }

@@ -1,11 +1,24 @@
 //! Compares the library's reader with the independent version. Arguments: the command that runs the read driver.
-use independent::chance::{Chance, SEED};
-use independent::driver::{over, Call, Driver, LENT};
+use independent::chance::{seed, Chance};
+use independent::driver::{over, Call, Driver, ANSWER_SHORT};
 use independent::header::{encode, Code};
 use independent::reading::{read, CODEBOOK, REPORT, THRESHOLDS};
 use independent::stream::{packet_of, packets_of, INDICES, PAIRS};
-use independent::utterance::{bad_packet, image, tables, utterance, Part, Tables};
-use independent::writing::{INVERSE, MULTIFRAME};
+use independent::utterance::{bad_packet, damage_anywhere, estrange, forbid, image, spoil, tables, unsettle, utterance, Part, Tables};
+use independent::writing::{INVERSE, MULTIFRAME, SYNC};
+
+const ANSWER: usize = 6;
+
+/// What a reading returns and leaves in the lent memory.
+#[derive(Clone, PartialEq)]
+struct Outcome {
+    number: u32,
+    kept: u32,
+    place: u64,
+    answer: Vec<u64>,
+    index: Vec<u8>,
+    report: Vec<u8>,
+}
 
 struct Check {
     driver: Driver,
@@ -15,33 +28,60 @@ struct Check {
 
 impl Check {
     fn compare(&mut self, name: &str, octets: &[u8], tables: &Tables, rooms: (usize, usize)) {
-        let (index, report) = (self.chance.octets(rooms.0), self.chance.octets(rooms.1));
+        self.compare_answer(name, octets, tables, rooms, ANSWER);
+    }
+
+    /// As above, with an answer of that many numbers.
+    fn compare_answer(&mut self, name: &str, octets: &[u8], tables: &Tables, rooms: (usize, usize), numbers: usize) {
+        let came = self.lend(rooms, numbers);
         let call = Call::kind(b'R').octet(self.driver.mode()).octets(octets).signed(&tables.codebook).signed(&tables.thresholds);
-        let mut back = self.driver.call(call.octets(&index).octets(&report), 8 + 48 + rooms.0 + rooms.1);
-        let (number, kept) = (back.word(), back.word());
-        let answer: [u64; 6] = std::array::from_fn(|_| back.long());
-        let got = (number, kept, answer, back.take(rooms.0).to_vec(), back.take(rooms.1).to_vec());
-        let want = match read(&self.code, octets, &tables.codebook, &tables.thresholds, rooms.0, rooms.1) {
-            Ok(reading) => {
-                self.driver.count_notes(&reading.report);
-                (0, 1, reading.answer, over(&index, &reading.index), over(&report, &reading.report))
-            }
-            Err(refusal) => {
-                let mut answer = [LENT as u64; 6];
-                answer[0] = refusal.place;
-                (refusal.number, 1, answer, index, report)
-            }
+        let call = call.octets(&came.index).octets(&came.report).longs(&came.answer).long(came.place);
+        let mut back = self.driver.call(call, 16 + 8 * numbers + rooms.0 + rooms.1);
+        let got = Outcome {
+            number: back.word(),
+            kept: back.word(),
+            place: back.long(),
+            answer: (0..numbers).map(|_| back.long()).collect(),
+            index: back.take(rooms.0).to_vec(),
+            report: back.take(rooms.1).to_vec(),
         };
+        let want = self.expected(octets, tables, came);
         if got != want {
             let first = |a: &[u8], b: &[u8]| a.iter().zip(b).position(|(x, y)| x != y);
             println!("{name}: octets {octets:02x?}\nthresholds {:?} rooms {rooms:?}", tables.thresholds);
-            println!("library: number {number} kept {kept} answer {answer:?}");
-            println!("independent: number {} kept {} answer {:?}", want.0, want.1, want.2);
-            println!("first other octet of index {:?}, of report {:?}", first(&got.3, &want.3), first(&got.4, &want.4));
+            println!("library: number {} kept {} place {} answer {:?}", got.number, got.kept, got.place, got.answer);
+            println!("independent: number {} kept {} place {} answer {:?}", want.number, want.kept, want.place, want.answer);
+            println!("first other octet of index {:?}, of report {:?}", first(&got.index, &want.index), first(&got.report, &want.report));
             panic!("library and independent version differ");
         }
         self.driver.count(name, 1);
-        self.driver.count(&format!("of these answered with {number:2}"), 1);
+        self.driver.count(&format!("of these answered with {:2}", want.number), 1);
+    }
+
+    /// What is lent: any octets and numbers.
+    fn lend(&mut self, rooms: (usize, usize), numbers: usize) -> Outcome {
+        let (index, report) = (self.chance.octets(rooms.0), self.chance.octets(rooms.1));
+        let answer = (0..numbers).map(|_| self.chance.word()).collect();
+        Outcome { number: 0, kept: 1, place: self.chance.word(), answer, index, report }
+    }
+
+    /// What the independent version returns and leaves of the memory that came.
+    fn expected(&mut self, octets: &[u8], tables: &Tables, came: Outcome) -> Outcome {
+        if came.answer.len() < ANSWER {
+            return Outcome { number: ANSWER_SHORT, ..came };
+        }
+        match read(&self.code, octets, &tables.codebook, &tables.thresholds, came.index.len(), came.report.len()) {
+            Ok(reading) => {
+                self.driver.count_notes(&reading.report);
+                Outcome {
+                    answer: over(&came.answer, &reading.answer),
+                    index: over(&came.index, &reading.index),
+                    report: over(&came.report, &reading.report),
+                    ..came
+                }
+            }
+            Err(refusal) => Outcome { number: refusal.number, place: refusal.place, ..came },
+        }
     }
 
     /// With room to spare for as many multiframes as could be there.
@@ -332,12 +372,146 @@ impl Check {
         }
     }
 
-    /// Octets beyond 32 bits in number; all are zero.
+    /// Damage, other settings and runs of bad pairs anywhere in long utterances, up to the longest.
+    fn anywhere(&mut self) {
+        for round in 0..120 {
+            let m = if round % 3 == 0 { 20 + self.chance.below(236) } else { 255 };
+            let mut parts = utterance(&mut self.chance, m);
+            damage_anywhere(&mut self.chance, &mut parts);
+            let tables = tables(&mut self.chance);
+            self.compare_roomy("damage anywhere in long utterances", &image(&parts), &tables);
+        }
+    }
+
+    /// Long utterances in which each header has settings of its own, or is lost, but for two that agree; or for two and another two.
+    fn far_settings(&mut self) {
+        let ends = [(0, 254), (0, 253), (1, 254), (253, 254), (0, 1), (127, 128)];
+        let any: Vec<(usize, usize)> = (0..60).map(|_| (self.chance.below(254), 254 - self.chance.below(100))).collect();
+        for (a, b) in ends.into_iter().chain(any) {
+            let mut parts = utterance(&mut self.chance, 255);
+            estrange(&mut self.chance, &mut parts, &[a, b]);
+            if self.chance.once_in(2) {
+                let settings = encode(self.chance.pick(&[0u16, 1, 3, 4, 5, 7, 2, 128]) | 8);
+                self.chance.places(2, 255).into_iter().for_each(|k| parts[k].header = settings);
+            }
+            let tables = tables(&mut self.chance);
+            self.compare_roomy("settings settled by two headers anywhere of 255", &image(&parts), &tables);
+        }
+        for k in 0..255 {
+            let mut parts = utterance(&mut self.chance, 255);
+            match k % 4 {
+                0 => parts[k].header ^= 1 << self.chance.below(32),
+                1 => parts[k].lose_header(&mut self.chance),
+                2 => parts[k].other_header(&mut self.chance),
+                _ => parts[k].packets[self.chance.below(PAIRS)] ^= 1 << self.chance.below(92),
+            }
+            let tables = tables(&mut self.chance);
+            self.compare_roomy("one thing amiss in each of 255 multiframes", &image(&parts), &tables);
+        }
+    }
+
+    /// Octets that cutting refuses with the number, or none if it is 0: behind m multiframes, 14 behind none and 15 behind 255.
+    fn cut_off(&mut self, number: u32, parts: &[Part]) -> Vec<u8> {
+        let any = self.chance.below(142);
+        let border = self.chance.below(parts.len() + 1);
+        let inverse = INVERSE.repeat(self.chance.below(3));
+        let begun = [&SYNC[..], &self.chance.octets(any)].concat();
+        let lone = self.chance.pick(&[SYNC[0], INVERSE[0]]);
+        let unknown = self.chance.pick(&[[0, 0x87], [0x87, 0x4D], [0x78, 0xB2], [0xB2, 0x87], [0xFF, 0x78]]);
+        let end = match number {
+            12 => return [&image(&parts[..border])[..], &inverse, &unknown, &image(&parts[border..])].concat(),
+            13 if self.chance.once_in(2) => vec![lone],
+            13 | 15 => begun,
+            _ => vec![],
+        };
+        [&image(parts)[..], &inverse, &end].concat()
+    }
+
+    /// Every set of refusals that can apply at once, each with an answer that is too short and with one that is not.
+    fn every_set(&mut self) {
+        for set in 0..5 * 3 * 16 {
+            for turn in 0..6 {
+                let (cut, settings) = ([0, 12, 13, 14, 15][set % 5], set / 5 % 3);
+                let m = if cut == 15 || turn == 0 && set % 4 == 0 { 255 } else { 1 + self.chance.below(4) };
+                if m == 255 && turn > 1 {
+                    continue;
+                }
+                let has = |fault: usize| set / 15 >> fault & 1 == 1;
+                let mut parts = utterance(&mut self.chance, m);
+                match settings {
+                    1 => unsettle(&mut self.chance, &mut parts),
+                    2 => forbid(&mut self.chance, &mut parts),
+                    _ => {}
+                }
+                if has(0) {
+                    spoil(&mut self.chance, &mut parts);
+                }
+                let octets = self.cut_off(cut, if cut == 14 { &[] } else { &parts });
+                let mut tables = tables(&mut self.chance);
+                if has(1) {
+                    tables.codebook.resize(self.chance.pick(&[0, 1279, 1281]), 0);
+                }
+                let short = |chance: &mut Chance, short, room| if short { chance.pick(&[0, room - 1]) } else { room };
+                let rooms = (short(&mut self.chance, has(2), INDICES * m), short(&mut self.chance, has(3), REPORT * m));
+                let numbers = if turn % 2 == 0 { ANSWER + self.chance.below(5) } else { self.chance.below(ANSWER) };
+                self.compare_answer("every set of refusals at once", &octets, &tables, rooms, numbers);
+            }
+        }
+    }
+
+    /// Places beyond 65,536: as many inverse syncs stand before, or between the first and the second multiframe.
+    fn far_places(&mut self) {
+        let far = INVERSE.repeat(40_000);
+        for number in [0, 12, 13, 14, 15] {
+            for m in [1, 2, 4, 255] {
+                let m = if number == 15 { 255 } else { m };
+                let parts = utterance(&mut self.chance, m);
+                let near = self.cut_off(number, if number == 14 { &[] } else { &parts });
+                let between = [&parts[0].octets()[..], &far, &near].concat();
+                let tables = tables(&mut self.chance);
+                for octets in [[&far[..], &near].concat(), between] {
+                    self.compare("places beyond 65,536", &octets, &tables, (INDICES * 255, REPORT * 255));
+                }
+            }
+        }
+    }
+
+    /// One call with so many inverse syncs before the octets, and with tables and rooms of these lengths, all zeros.
+    fn wide_call(&mut self, before: u64, lengths: [u64; 5], octets: &[u8]) {
+        let mut call = Call::kind(b'L').long(before);
+        for length in lengths {
+            call = call.long(length);
+        }
+        let came = self.chance.word();
+        let mut back = self.driver.call(call.octets(octets).long(came), 8 + 32);
+        let got = (back.word(), back.word(), [back.long(), back.long(), back.long(), back.long()]);
+        let rooms = (lengths[2] as usize, lengths[3] as usize);
+        let right = [CODEBOOK as u64, THRESHOLDS as u64] == lengths[..2];
+        let tables = Tables { codebook: vec![0; if right { CODEBOOK } else { 0 }], thresholds: vec![0; THRESHOLDS] };
+        let want = match read(&self.code, octets, &tables.codebook, &tables.thresholds, rooms.0, rooms.1) {
+            Ok(reading) => (0, 1, [came, reading.answer[2], reading.index[0] as u64, reading.report[0] as u64]),
+            Err(refusal) => {
+                let moved = if (12..=15).contains(&refusal.number) { before } else { 0 };
+                (refusal.number, 1, [refusal.place + moved, 0, 0, 0])
+            }
+        };
+        assert_eq!(got, want, "{before} octets of inverse syncs before, lengths {lengths:?}, octets {octets:02x?}");
+        self.driver.count("places and lengths beyond 32 bits", 1);
+    }
+
     fn wide(&mut self) {
-        for len in [1u64 << 32, (1 << 32) + 144] {
-            let mut back = self.driver.call(Call::kind(b'L').long(len), 8 + 48);
-            assert_eq!((back.word(), back.word(), back.long()), (12, 1, 0), "{len} zero octets");
-            self.driver.count("more than 2^32 octets", 1);
+        let right = [CODEBOOK as u64, THRESHOLDS as u64, 168 * 255, 13 * 255, 6];
+        let parts = utterance(&mut self.chance, 2);
+        for long in 0..5 {
+            let mut lengths = right;
+            lengths[long] += 1 << 32;
+            self.wide_call(0, lengths, &image(&parts));
+        }
+        let most = utterance(&mut self.chance, 255);
+        for number in [0, 12, 13, 14, 15] {
+            let parts = if number == 15 { &most[..] } else { &parts };
+            let octets = self.cut_off(number, if number == 14 { &[] } else { parts });
+            self.wide_call((1 << 32) + 2 * number as u64, right, &octets);
         }
     }
 
@@ -363,8 +537,12 @@ impl Check {
 }
 
 fn main() {
-    let mut check = Check { driver: Driver::start(), chance: Chance::new(SEED), code: Code::new() };
+    let mut check = Check { driver: Driver::start(), chance: Chance::new(seed()), code: Code::new() };
     check.examples();
+    check.every_set();
+    check.anywhere();
+    check.far_settings();
+    check.far_places();
     check.clean();
     check.headers();
     check.lost_headers();

@@ -1,7 +1,7 @@
 //! Compares the library's packing and unpacking of a stream with the independent version. Arguments: the command that runs the
 //! stream driver.
-use independent::chance::{Chance, SEED};
-use independent::driver::{over, Call, Driver};
+use independent::chance::{seed, Chance};
+use independent::driver::{over, Call, Driver, DONE, WRONG_LENGTH};
 use independent::stream::{pack, packets_of, stream_of, unpack, INDICES, PAIRS, STREAM};
 
 fn packing(driver: &mut Driver, chance: &mut Chance, name: &str, indices: &[u8], room: usize) {
@@ -9,8 +9,8 @@ fn packing(driver: &mut Driver, chance: &mut Chance, name: &str, indices: &[u8],
     let mut answer = driver.call(Call::kind(b'P').octet(driver.mode()).octets(indices).octets(&lent), 8 + room);
     let got = (answer.word(), answer.word(), answer.take(room).to_vec());
     let want = match pack(indices, room) {
-        Some(stream) => (1, 1, stream),
-        None => (0, 1, lent),
+        Ok(stream) => (DONE, 1, stream),
+        Err(number) => (number, 1, lent),
     };
     assert_eq!(got, want, "{name}: pack {indices:?}");
     driver.count(name, 1);
@@ -23,12 +23,27 @@ fn unpacking(driver: &mut Driver, chance: &mut Chance, name: &str, stream: &[u8]
     let got = (answer.word(), answer.word(), answer.take(rooms.0).to_vec(), answer.take(rooms.1).to_vec());
     let want = if stream.len() == STREAM && rooms == (INDICES, PAIRS) {
         let (new, found) = unpack(stream);
-        (1, 1, over(&indices, &new), over(&notes, &found))
+        (DONE, 1, over(&indices, &new), over(&notes, &found))
     } else {
-        (0, 1, indices, notes)
+        (WRONG_LENGTH, 1, indices, notes)
     };
     assert_eq!(got, want, "{name}: unpack {stream:?}");
     driver.count(name, 1);
+}
+
+/// Lengths that are right where they are cut to 32 bits or less; all octets are zero.
+fn wide(driver: &mut Driver) {
+    for power in [8, 16, 32] {
+        let cut = |right: usize| (1u64 << power) + right as u64;
+        for (kind, right) in [(b'p', [STREAM, INDICES, 0]), (b'u', [STREAM, INDICES, PAIRS])] {
+            for long in 0..if kind == b'p' { 2 } else { 3 } {
+                let length = |i: usize| if i == long { cut(right[i]) } else { right[i] as u64 };
+                let call = Call::kind(kind).long(length(0)).long(length(1)).long(length(2));
+                assert_eq!(driver.call(call, 4).word(), WRONG_LENGTH, "a length of 2^{power} more than is right");
+                driver.count("lengths beyond 8, 16 and 32 bits", 1);
+            }
+        }
+    }
 }
 
 fn frames(chance: &mut Chance) -> Vec<u8> {
@@ -44,8 +59,10 @@ fn flipped(stream: &[u8], packet: usize, flips: u128) -> Vec<u8> {
 fn wrong_lengths(driver: &mut Driver, chance: &mut Chance) {
     for indices in [0, 1, 7, 167, 168, 169, 175, 336] {
         for room in [0, 1, 137, 138, 139, 144] {
-            let list: Vec<u8> = frames(chance).into_iter().cycle().take(indices).collect();
+            let mut list: Vec<u8> = frames(chance).into_iter().cycle().take(indices).collect();
             packing(driver, chance, "pack: lengths one short, one long and others", &list, room);
+            list.iter_mut().for_each(|x| *x |= 64);
+            packing(driver, chance, "pack: the same with wide indices too", &list, room);
         }
     }
     for len in [0, 1, 137, 138, 139, 276] {
@@ -89,8 +106,9 @@ fn damage(driver: &mut Driver, chance: &mut Chance) {
 }
 
 fn main() {
-    let mut chance = Chance::new(SEED);
+    let mut chance = Chance::new(seed());
     let mut driver = Driver::start();
+    wide(&mut driver);
     wrong_lengths(&mut driver, &mut chance);
     edge_indices(&mut driver, &mut chance);
     damage(&mut driver, &mut chance);

@@ -1,18 +1,19 @@
 //! Compares the library's writer with the independent version. Arguments: the command that runs the write driver.
-use independent::chance::{Chance, SEED};
+use independent::chance::{seed, Chance};
 use independent::driver::{over, Call, Driver};
 use independent::writing::{write, MULTIFRAME};
 
 struct Input {
-    rate: u8,
-    kind: u8,
+    rate: u64,
+    kind: u64,
     indices: Vec<u8>,
     room: usize,
 }
 
 fn compare(driver: &mut Driver, chance: &mut Chance, name: &str, input: &Input) {
     let lent = chance.octets(input.room);
-    let call = Call::kind(b'W').octet(driver.mode()).octet(input.rate).octet(input.kind).octets(&input.indices).octets(&lent);
+    let call = Call::kind(b'W').octet(driver.mode()).long(input.rate).long(input.kind).long(chance.word());
+    let call = call.octets(&input.indices).octets(&lent);
     let mut answer = driver.call(call, 16 + input.room);
     let got = (answer.word(), answer.word(), answer.long(), answer.take(input.room).to_vec());
     let (number, want) = match write(input.rate, input.kind, &input.indices, input.room) {
@@ -42,6 +43,13 @@ fn settings(driver: &mut Driver, chance: &mut Chance) {
             let n = chance.below(3);
             let input = Input { rate, kind, indices: speech(chance, n), room: needed(n) };
             compare(driver, chance, "every rate with types 0, 1, 2, 3, 128, 255", &input);
+        }
+    }
+    let moved = (8..64).flat_map(|power| (0..4).map(move |low| (1u64 << power) + low));
+    for big in moved.chain([u64::MAX, u64::MAX - 1, u64::MAX - 2, u32::MAX as u64, i64::MAX as u64]) {
+        for (rate, kind) in [(big, 0), (big, 1), (0, big), (3, big), (big, big)] {
+            let input = Input { rate, kind, indices: vec![1; 7], room: 144 };
+            compare(driver, chance, "rates and types that are right where they are cut", &input);
         }
     }
 }
@@ -90,6 +98,68 @@ fn edge_frames(driver: &mut Driver, chance: &mut Chance) {
     }
 }
 
+/// A wide index in each frame of the longest utterance, and a zero frame at the end of utterances of every length. There is no room, so
+/// 6 applies too.
+fn far_frames(driver: &mut Driver, chance: &mut Chance) {
+    let mut input = Input { room: 0, ..accepted(chance, 6119) };
+    for f in 0..6119 {
+        let (place, value) = (7 * f + chance.below(6), 64 + chance.below(192) as u8);
+        let was = std::mem::replace(&mut input.indices[place], value);
+        compare(driver, chance, "6,119 frames, a wide index in each", &input);
+        input.indices[place] = was;
+    }
+    for n in (1..=6119usize).rev() {
+        input.indices.truncate(7 * n);
+        let was = input.indices.split_off(7 * (n - 1));
+        input.indices.extend([0; 7]);
+        compare(driver, chance, "utterances of each length, the last frame zero", &input);
+        input.indices.truncate(7 * (n - 1));
+        input.indices.extend(was);
+    }
+    for _ in 0..150 {
+        let n = chance.below(6120);
+        let input = accepted(chance, n);
+        compare(driver, chance, "accepted utterances of any length", &input);
+    }
+}
+
+/// Every set of refusals that apply at once, 1 to 6, in short and in long utterances.
+fn every_set(driver: &mut Driver, chance: &mut Chance) {
+    for set in 0..64 {
+        let has = |number: u32| set >> (number - 1) & 1 == 1;
+        for length in 0..12 {
+            let lengths = [1, 23, 24, 25, 48, 1 + chance.below(100), 1000, 1001, 5000 + chance.below(1000), 6118, 6119, 6119];
+            let n = lengths[length] + if has(3) { 6120 - lengths[length] + chance.pick(&[0, 1, 100, 4000]) } else { 0 };
+            let mut input = accepted(chance, n);
+            if has(1) && chance.once_in(2) {
+                input.rate = chance.pick(&[2, 4, 255, 256, 1 << 32, u64::MAX]);
+            } else if has(1) {
+                input.kind = chance.pick(&[2, 3, 255, 256, 1 << 32, u64::MAX]);
+            }
+            if has(5) {
+                let ends: Vec<usize> = (1..=n).filter(|f| *f == n || f % 24 == 0).collect();
+                let f = chance.pick(&ends);
+                input.indices[7 * (f - 1)..7 * f].fill(0);
+            }
+            if has(4) {
+                let f = chance.below(n);
+                input.indices[7 * f + chance.below(6)] = 64 + chance.below(192) as u8;
+            }
+            if has(2) {
+                let more = 1 + chance.below(6);
+                input.indices.extend(chance.octets(more));
+            }
+            let needed = needed(n);
+            input.room = if has(6) { chance.pick(&[0, 1, needed - 144, needed - 1]) } else { needed };
+            compare(driver, chance, "every set of the six refusals at once", &input);
+        }
+    }
+    for octets in [65_535, 65_536, 65_537, 70_000, 7 * 65_536 + 1, 7 * 65_536, 7 * 70_000, 1_000_000] {
+        let input = Input { rate: 0, kind: 0, indices: vec![1; octets], room: 0 };
+        compare(driver, chance, "more than 65,536 octets and frames", &input);
+    }
+}
+
 /// Several faults at once: the first refusal by number is the answer.
 fn random(driver: &mut Driver, chance: &mut Chance) {
     for _ in 0..30_000 {
@@ -97,8 +167,8 @@ fn random(driver: &mut Driver, chance: &mut Chance) {
         let mut input = accepted(chance, n);
         for _ in 0..chance.below(4) {
             match chance.below(8) {
-                0 => input.rate = chance.word() as u8 % 5,
-                1 => input.kind = chance.word() as u8 % 4,
+                0 => input.rate = chance.word() % 5,
+                1 => input.kind = chance.word() % 4,
                 2 => input.indices.truncate(input.indices.len() - chance.below(input.indices.len() + 1)),
                 3 => input.room = input.room.saturating_sub(chance.below(200)),
                 4 | 5 if n > 0 => {
@@ -127,7 +197,7 @@ fn wide(driver: &mut Driver) {
         (0, big + 10, (0, 144)),
     ] {
         let want = if indices % 7 != 0 { (2, indices) } else { want };
-        let mut answer = driver.call(Call::kind(b'L').octet(0).octet(0).long(indices).long(room), 16 + 144);
+        let mut answer = driver.call(Call::kind(b'L').long(0).long(0).long(indices).long(room), 16 + 144);
         let got = (answer.word(), answer.word(), answer.long());
         assert_eq!(got, (want.0, 1, want.1), "{indices} index octets, room {room}");
         let image = write(0, 0, &[], 144).ok().filter(|_| want.0 == 0).unwrap_or(vec![0; 144]);
@@ -137,10 +207,12 @@ fn wide(driver: &mut Driver) {
 }
 
 fn main() {
-    let mut chance = Chance::new(SEED);
+    let mut chance = Chance::new(seed());
     let mut driver = Driver::start();
     settings(&mut driver, &mut chance);
     lengths(&mut driver, &mut chance);
+    every_set(&mut driver, &mut chance);
+    far_frames(&mut driver, &mut chance);
     edge_frames(&mut driver, &mut chance);
     random(&mut driver, &mut chance);
     wide(&mut driver);

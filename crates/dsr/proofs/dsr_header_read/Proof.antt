@@ -17,12 +17,12 @@ enum-told c = search needs
 returns : tie.Need-returns
 returns c =
     let r = c .before .before .before in
-    subst (headerRead 1 _ _ _ _) (sym (c .before .d .given .1) ∙ r .read .ensures) (refl, refl, refl)
+    subst (headerRead 0 _ _ _ _) (sym (c .before .d .given .1) ∙ r .read .ensures) (refl, refl, refl)
 
 returns-2 : tie.Need-returns-2
 returns-2 c =
     let r = c .before .before in
-    subst (headerRead 0 _ _ _ _) (sym (c .enum-told .given .1) ∙ r .read .ensures) (refl, refl, refl)
+    subst (headerRead 97 _ _ _ _) (sym (c .enum-told .given .1) ∙ r .read .ensures) (refl, refl, refl)
 
 pub dsr-header-read-spec : {M : Type 1} → statement M
 dsr-header-read-spec = tie.close (tie.spec read-requires enum-known-d enum-told returns returns-2)

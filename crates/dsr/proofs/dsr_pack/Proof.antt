@@ -20,29 +20,40 @@ returns-2 c =
 first-wide-requires : tie.Need-first-wide-requires
 first-wide-requires c κs = search needs
 
+enum-known-f : tie.Need-enum-known-f
+enum-known-f c = search needs
+
+writing-number-requires : tie.Need-writing-number-requires
+writing-number-requires c κs = search needs
+
 enum-told : tie.Need-enum-told
 enum-told c = search needs
-
-enum-told-2 : tie.Need-enum-told-2
-enum-told-2 c = search needs
 
 put-stream-requires : tie.Need-put-stream-requires
 put-stream-requires c κs = search needs
 
 returns-3 : tie.Need-returns-3
 returns-3 c =
-    let a = c .before .before .before .before .before .before .before .args in
-    packs-no-wide (a .indices .now) (a .stream .now) (omega (arith, c .before .before .before .before .if1 .left)) (omega (arith, c .before .before .before .if2 .left)) _
-    (sym (c .before .before .first-wide .ensures) ∙ ap foundAs (c .enum-told .given .1))
+    let f = c .before .before in
+    let w = f .before .before in
+    let e2 = w .before in
+    let e1 = e2 .before in
+    let a = e1 .before .before .before .args in
+    packs-no-wide (a .indices .now) (a .stream .now) (omega (arith, e1 .if1 .left)) (omega (arith, e2 .if2 .left)) _ (sym (w .first-wide .ensures) ∙ ap foundAs (f .f .given .1)) _
+    (c .writing-number .ensures)
 
 same-length : tie.Need-same-length
 same-length c = search needs
 
 returns-4 : tie.Need-returns-4
 returns-4 c =
-    let a = c .before .before .before .before .before .before .before .before .before .before .before .args in
-    packs (a .indices .now) (a .stream .now) (omega (arith, c .before .before .before .before .before .before .before .before .if1 .left)) (omega (arith, c .before .before .before .before .before .before .before .if2 .left))
-    (sym (c .before .before .before .before .before .before .first-wide .ensures) ∙ ap foundAs (c .before .before .before .before .enum-told2 .given .1)) _ (c .before .before .put-stream .ensures)
+    let n = c .before .before .before .before in
+    let w = n .before .before in
+    let e2 = w .before in
+    let e1 = e2 .before in
+    let a = e1 .before .before .before .args in
+    packs (a .indices .now) (a .stream .now) (omega (arith, e1 .if1 .left)) (omega (arith, e2 .if2 .left)) (sym (w .first-wide .ensures) ∙ ap foundAs (n .enum-told .given .1)) _
+    (c .before .before .put-stream .ensures)
 
 pub dsr-pack-spec : {M : Type 1} → statement M
 dsr-pack-spec =
@@ -51,8 +62,9 @@ dsr-pack-spec =
     returns
     returns-2
     first-wide-requires
+    enum-known-f
+    writing-number-requires
     enum-told
-    enum-told-2
     put-stream-requires
     returns-3
     same-length

@@ -1,12 +1,15 @@
 -- The reader's answer in numbers, by its two cases. Assumes nothing.
 use native.Mathlib.Omega.{arith}
-use Rattle.dsr.specs.Laws.{returns-no-room, returns-read, returns-refusal}
+use Rattle.dsr.specs.Entries.{answerNumbers}
+use Rattle.dsr.specs.Laws.{returns-no-room, returns-read, returns-refusal, given-as}
 use borrow.Author.Needs.{needs}
 use Rattle.dsr.proofs.dsr_read.Statement.{statement}
 use Rattle.dsr.proofs.dsr_read.Tie as tie
 
 returns : tie.Need-returns
-returns c = returns-no-room (c .before .before .before .before .before .args .answer .now) _ _ _ (c .if1 .taken)
+returns c =
+    let a = c .before .before .before .before .before .args in
+    returns-no-room answerNumbers (a .answer .now) _ _ _ _ (c .if1 .taken)
 
 read-requires : tie.Need-read-requires
 read-requires c κs = search needs
@@ -23,9 +26,6 @@ enum-known-r c = search needs
 reading-place-requires : tie.Need-reading-place-requires
 reading-place-requires c κs = search needs
 
-slice-write-answer : tie.Need-slice-write-answer
-slice-write-answer c = search needs
-
 reading-number-requires : tie.Need-reading-number-requires
 reading-number-requires c κs = search needs
 
@@ -40,9 +40,11 @@ same-length-3 c = search needs
 
 returns-2 : tie.Need-returns-2
 returns-2 c =
-    let s = c .before .before .before .before .before .s in
-    returns-read (c .before .before .before .before .before .before .before .before .before .before .before .before .before .before .before .before .before .before .before .args .answer .now) _ _ _ (omega (arith, c .before .before .before .before .before .before .before .before .before .before .before .before .before .before .if1 .left)) _ (s .given .0 .0) _ _ _ (c .before .before .before .before .before .before .before .before .before .before .before .read .ensures .0) (s .given .1)
-    (c .before .before .put-summary .ensures)
+    let s = c .before .before .before .before .before in
+    let d = s .before .before .before .before .before .before in
+    let e = d .before .before .before in
+    let a = e .before .before .before .before .before .args in
+    returns-read answerNumbers (a .answer .now) _ _ _ _ (omega (arith, e .if1 .left)) _ _ _ _ (given-as (d .read .ensures .0) (s .s .given .1)) (c .before .before .put-summary .ensures)
 
 same-length-4 : tie.Need-same-length-4
 same-length-4 c = search needs
@@ -50,14 +52,13 @@ same-length-4 c = search needs
 same-length-5 : tie.Need-same-length-5
 same-length-5 c = search needs
 
-same-length-6 : tie.Need-same-length-6
-same-length-6 c = search needs
-
 returns-3 : tie.Need-returns-3
 returns-3 c =
-    let r = c .before .before .before .r in
-    returns-refusal (c .before .before .before .before .before .before .before .before .before .before .before .before .before .before .before .before .before .args .answer .now) _ _ _ (omega (arith, c .before .before .before .before .before .before .before .before .before .before .before .before .if1 .left)) _ (r .given .0 .0) _ _ _ _ (c .before .before .before .before .before .before .before .before .before .read .ensures .0) (r .given .1)
-    (c .reading-number .ensures) (c .before .reading-place .ensures)
+    let s = c .before .before .before in
+    let d = s .before .before .before .before .before .before in
+    let e = d .before .before .before in
+    let a = e .before .before .before .before .before .args in
+    returns-refusal answerNumbers (a .answer .now) _ _ _ _ (omega (arith, e .if1 .left)) _ _ _ _ _ _ (given-as (d .read .ensures .0) (s .r .given .1)) (c .reading-number .ensures) (c .before .reading-place .ensures)
 
 pub dsr-read-spec : {M : Type 1} → statement M
 dsr-read-spec =
@@ -69,7 +70,6 @@ dsr-read-spec =
     put-summary-requires
     enum-known-r
     reading-place-requires
-    slice-write-answer
     reading-number-requires
     same-length
     same-length-2
@@ -77,5 +77,4 @@ dsr-read-spec =
     returns-2
     same-length-4
     same-length-5
-    same-length-6
     returns-3)

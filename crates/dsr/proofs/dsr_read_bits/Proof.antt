@@ -1,18 +1,15 @@
 -- The hunting reader's answer in numbers, by its two cases. Assumes nothing.
 use native.Mathlib.Omega.{arith}
-use Rattle.dsr.specs.Bits.{bits-no-room, bits-read, bits-refused}
+use Rattle.dsr.specs.Laws.{returns-no-room, returns-read, returns-refusal}
+use Rattle.dsr.specs.Bits.{countedNumbers, bits-given-as}
 use borrow.Author.Needs.{needs}
 use Rattle.dsr.proofs.dsr_read_bits.Statement.{statement}
 use Rattle.dsr.proofs.dsr_read_bits.Tie as tie
-use Rattle.dsr.proofs.dsr_read_bits.Reads as reads
-use Rattle.dsr.proofs.dsr_read_bits.Lts as lts
-use Rattle.hunting.proofs.read.Reads as read-reads
-use Rattle.dsr.proofs.put_counted.Reads as put-counted-reads
 
 returns : tie.Need-returns
 returns c =
     let a = c .before .before .before .before .before .args in
-    bits-no-room (a .answer .now) _ _ _ _ (c .if1 .taken)
+    returns-no-room countedNumbers (a .answer .now) _ _ _ _ (c .if1 .taken)
 
 read-requires : tie.Need-read-requires
 read-requires c κs = search needs
@@ -47,7 +44,7 @@ returns-2 c =
     let d = s .before .before .before .before .before .before in
     let e = d .before .before .before in
     let a = e .before .before .before .before .before .args in
-    bits-read (a .answer .now) _ _ _ _ (omega (arith, e .if1 .left)) _ (s .c .given .0 .0) _ _ _ (d .read .ensures) (s .c .given .1) (c .before .before .put-counted .ensures)
+    returns-read countedNumbers (a .answer .now) _ _ _ _ (omega (arith, e .if1 .left)) _ _ _ _ (bits-given-as (d .read .ensures) (s .c .given .1)) (c .before .before .put-counted .ensures)
 
 same-length-4 : tie.Need-same-length-4
 same-length-4 c = search needs
@@ -61,8 +58,7 @@ returns-3 c =
     let d = s .before .before .before .before .before .before in
     let e = d .before .before .before in
     let a = e .before .before .before .before .before .args in
-    bits-refused (a .answer .now) _ _ _ _ (omega (arith, e .if1 .left)) _ (s .r .given .0 .0) _ _ _ _ (d .read .ensures) (s .r .given .1) (c .hunting-number .ensures)
-    (c .before .hunting-place .ensures)
+    returns-refusal countedNumbers (a .answer .now) _ _ _ _ (omega (arith, e .if1 .left)) _ _ _ _ _ _ (bits-given-as (d .read .ensures) (s .r .given .1)) (c .hunting-number .ensures) (c .before .hunting-place .ensures)
 
 pub dsr-read-bits-spec : {M : Type 1} → statement M
 dsr-read-bits-spec =

@@ -1,10 +1,37 @@
--- The writer's answer in numbers. Assumes nothing.
-use mathlib.Core.Path.{ap, _∙_}
+-- Settings that are no octets are the writer's refusal 1; of all others the writer's answer in numbers. Assumes nothing.
+use mathlib.Core.Path.{sym, ap, _∙_}
+use native.Mathlib.Omega.{arith}
+use Rattle.lists.specs.Tests.{not-true, not-false}
 use Rattle.writer.specs.Writing.{Outcome}
-use Rattle.dsr.specs.Laws.{written-as}
+use Rattle.dsr.specs.Laws.{fit-octets, unfit-refused, written-as}
 use borrow.Author.Needs.{needs}
 use Rattle.dsr.proofs.dsr_write.Statement.{statement}
 use Rattle.dsr.proofs.dsr_write.Tie as tie
+
+fits-requires : tie.Need-fits-requires
+fits-requires c κs = search needs
+
+writing-place-requires : tie.Need-writing-place-requires
+writing-place-requires c κs = search needs
+
+writing-number-requires : tie.Need-writing-number-requires
+writing-number-requires c κs = search needs
+
+returns : tie.Need-returns
+returns c =
+    let f = c .before .before .before in
+    let a = f .before .before .before .args in
+    unfit-refused (a .rate) (a .kind) (sym (f .fits2 .ensures) ∙ not-true _ (c .before .before .if1 .taken)) (a .indices .now) (a .out .now) _ _ (c .writing-number .ensures) (c .before .writing-place .ensures)
+
+cast-t13 : tie.Need-cast-t13
+cast-t13 c =
+    let a = c .before .before .before .before .args in
+    let e = fit-octets (a .rate) (a .kind) (sym (c .before .fits2 .ensures) ∙ not-false _ (c .if1 .left)) in omega arith
+
+cast-t14 : tie.Need-cast-t14
+cast-t14 c =
+    let a = c .before .before .before .before .args in
+    let e = fit-octets (a .rate) (a .kind) (sym (c .before .fits2 .ensures) ∙ not-false _ (c .if1 .left)) in omega arith
 
 write-requires : tie.Need-write-requires
 write-requires c κs = search needs
@@ -18,11 +45,23 @@ number-of-requires c κs = search needs
 same-length : tie.Need-same-length
 same-length c = search needs
 
-returns : tie.Need-returns
-returns c =
+returns-2 : tie.Need-returns-2
+returns-2 c =
     let e = c .before .before .before .before .write .ensures in
     written-as (c .number-of .ensures ∙ e .1 .0) (ap (λ (o : Outcome). o .output) (e .0)) (c .before .place-of .ensures ∙ e .1 .1 .0)
 
 pub dsr-write-spec : {M : Type 1} → statement M
 dsr-write-spec =
-    tie.close (tie.spec write-requires place-of-requires number-of-requires same-length returns)
+    tie.close
+    (tie.spec
+    fits-requires
+    writing-place-requires
+    writing-number-requires
+    returns
+    cast-t13
+    cast-t14
+    write-requires
+    place-of-requires
+    number-of-requires
+    same-length
+    returns-2)
