@@ -51,9 +51,16 @@ BINDIR := $(PREFIX)/bin
 LIBDIR := $(PREFIX)/lib
 INCLUDEDIR := $(PREFIX)/include
 MANDIR := $(PREFIX)/share/man
+# Where the files go: below DESTDIR, if one is given.
+INTO_BIN = $(DESTDIR)$(BINDIR)
+INTO_LIB = $(DESTDIR)$(LIBDIR)
+INTO_INCLUDE = $(DESTDIR)$(INCLUDEDIR)
+INTO_MAN = $(DESTDIR)$(MANDIR)
 
-.PHONY: help sample test bench lib dsrlist install uninstall clean packages
+.PHONY: help sample test outside bench lib dsrlist install uninstall clean packages
 .SECONDARY:
+# rt and cargo take all processors by themselves, and two runs of rt would write the same files.
+.NOTPARALLEL:
 .DELETE_ON_ERROR:
 
 help: ## this list
@@ -66,6 +73,9 @@ sample: $(DSRLIST) ## proves and builds dsrlist, and lists the shipped sample wi
 test: ## the gate: rt ci over every crate, then every check outside of Rattle
 	@.ci/gate
 
+outside: ## the gate without rt ci: every check outside of Rattle
+	@.ci/gate outside
+
 # All rows are printed before a target that was missed fails the whole.
 bench: $(foreach p,$(PARTS),$(BUILD)/$(LIB)/bench-$(p)) ## the library's times against the literal C version
 	@missed=0; for p in $(PARTS); do \
@@ -75,6 +85,22 @@ bench: $(foreach p,$(PARTS),$(BUILD)/$(LIB)/bench-$(p)) ## the library's times a
 lib: $(ARCHIVE) $(SHARED) ## the library: libdsr.a and libdsr.so in target/lib/ARCH
 
 dsrlist: $(DSRLIST) ## the program dsrlist in target/bin/ARCH
+
+install: lib dsrlist ## library, header, dsr.pc, man pages and dsrlist below PREFIX (/usr/local), in DESTDIR
+	install -d $(INTO_BIN) $(INTO_LIB)/pkgconfig $(INTO_INCLUDE) $(INTO_MAN)/man1 $(INTO_MAN)/man3
+	install -m 755 $(DSRLIST) $(INTO_BIN)/
+	install -m 644 $(ARCHIVE) $(INTO_LIB)/
+	install -m 755 $(SHARED) $(INTO_LIB)/
+	ln -sf $(notdir $(SHARED)) $(INTO_LIB)/$(SONAME)
+	ln -sf $(SONAME) $(INTO_LIB)/libdsr.so
+	install -m 644 c/dsr.h $(INTO_INCLUDE)/
+	sed 's|@PREFIX@|$(PREFIX)|; s|@LIBDIR@|$(LIBDIR)|; s|@INCLUDEDIR@|$(INCLUDEDIR)|; s|@VERSION@|$(VERSION)|' c/dsr.pc.in >$(INTO_LIB)/pkgconfig/dsr.pc
+	install -m 644 man/dsrlist.1 $(INTO_MAN)/man1/
+	install -m 644 man/dsr.3 $(INTO_MAN)/man3/
+
+uninstall: ## removes what make install put there
+	rm -f $(INTO_BIN)/dsrlist $(addprefix $(INTO_LIB)/,libdsr.a libdsr.so $(SONAME) $(notdir $(SHARED)) pkgconfig/dsr.pc) \
+	    $(INTO_INCLUDE)/dsr.h $(INTO_MAN)/man1/dsrlist.1 $(INTO_MAN)/man3/dsr.3
 
 clean: ## removes all that was made
 	rm -rf target rust/dsr/target checks/independent/target
@@ -121,6 +147,13 @@ target/bin/aarch64/dsrlist: target/bin/dsrlist
 	@.ci/packages aarch64
 	@$(TOOLS)gcc $(STATIC) $(@D)/dsrlist.o -o $@
 
+# The writer alone as one object, for a terminal that never reads.
+writer: $(MADE)/dsr_write.o ## the writer alone as one object that wants memset only, target/lib/ARCH/dsr_write.o
+
+$(MADE)/dsr_write.o: $(ARCHIVE)
+	@.ci/packages $(ARCH)
+	@$(TOOLS)ld -r --gc-sections -e dsr_write -u dsr_write $< -o $@
+
 # --- the library, and the literal version in its place
 
 $(BUILD)/library/%: WITH = $(ARCHIVE)
@@ -159,6 +192,9 @@ $(BUILD)/library/fuzz: checks/fuzz/fuzz.c $(LIBRARY_NEEDS)
 $(BUILD)/literal/fuzz: checks/fuzz/fuzz.c $(LITERAL_NEEDS)
 	$(call compile,-O1 $(SANITIZE))
 
+$(BUILD)/library/stack: checks/terminal/stack.c $(LIBRARY_NEEDS)
+	$(call compile,-O2)
+
 # As an archive and as a shared library, for the Rust crate and the Python module.
 $(BUILD)/libliteral.a: $(LITERAL_NEEDS)
 	@mkdir -p $(BUILD)/objects
@@ -170,11 +206,12 @@ $(BUILD)/libliteral.so: $(BUILD)/libliteral.a
 
 # --- the checks
 
-.PHONY: programs independent independent-build wrapper wrapper-literal example crctable sample-check listing readme-c readme-rust crates-named \
-    fuzz drawing drawing-check twin
+.PHONY: programs independent independent-build wrapper wrapper-literal example crctable sample-check listing readme-c readme-rust crates-named installed man-pages versions \
+    fuzz drawing drawing-check twin writer writer-size writer-alone stack
 
 # What more than one check calls.
-programs: $(foreach l,library literal,$(foreach p,$(PARTS),$(BUILD)/$(l)/drive-$(p))) $(BUILD)/literal/sample-list $(BUILD)/libliteral.a
+programs: $(foreach l,library literal,$(foreach p,$(PARTS),$(BUILD)/$(l)/drive-$(p))) $(BUILD)/literal/sample-list $(BUILD)/libliteral.a \
+    $(BUILD)/libliteral.so
 
 # The independent implementation against the library (or, with LIB=literal, the literal version).
 compare-%: $(BUILD)/$(LIB)/drive-% independent-build
@@ -239,6 +276,35 @@ readme-rust: $(README_WITH)
 	cd $(README)/rust && $(README_ENV) $(CARGO) run --quiet --offline >got
 	diff $(README)/rust/got $(README)/rust/output
 
+# What make install puts into a folder of its own: the README's C programs are built against it as a user would.
+installed: lib dsrlist
+	.ci/installed $(BUILD)/installed
+
+# The header's version is everyone's.
+versions:
+	grep -qx 'version = "$(VERSION)"' rust/dsr/Cargo.toml
+	grep -qx '__version__ = "$(VERSION)"' python/dsr.py
+	grep -qx '.define DSR_VERSION_TEXT "$(VERSION)"' c/dsr.h
+
+man-pages:
+	mandoc -Tlint -W warning man/dsrlist.1 man/dsr.3
+
+# Code and tables together. The whole is what a program that calls every function links.
+writer-size: $(MADE)/dsr_write.o $(ARCHIVE) ## octets of code and tables of the writer alone and of the whole library
+	@$(TOOLS)size $(MADE)/dsr_write.o | awk 'NR == 2 { print "the writer alone, $(ARCH): " $$1 " octets" }'
+	@$(TOOLS)size $(ARCHIVE) | awk 'NR == 2 { print "the whole library, $(ARCH): " $$1 " octets" }'
+
+# On a bare machine: it wants memset and nothing else, has no data of its own, and writes what it has to with no C library.
+writer-alone: $(MADE)/dsr_write.o writer-size
+	[ "$$($(TOOLS)nm -u $< | sed 's/ *U //')" = memset ]
+	[ "$$($(TOOLS)size $< | awk 'NR == 2 { print $$2 + $$3 }')" = 0 ]
+	@mkdir -p $(BUILD)/library
+	$(TOOLS)gcc $(WARN) -O2 -ffreestanding -nostdlib -static checks/terminal/freestanding.c $< -o $(BUILD)/library/freestanding
+	$(RUN) $(BUILD)/library/freestanding
+
+stack: $(BUILD)/library/stack ## octets of stack that a writing, a reading and a hunt used, on a painted stack
+	@$(RUN) $<
+
 # docs/DEVELOPING.md has a row for every crate.
 crates-named:
 	@sed -n 's/^\([a-z][a-z0-9_]*\):.*/\1/p' crates.txt | while read -r c; do \
@@ -268,13 +334,31 @@ twin: target/staticlib/libdsr.a
 
 # With each compiler that is there, under more warnings than a caller will have. A dropped status has to be warned of.
 FACE := $(BUILD)/$(LIB)/face
+comma := ,
 FACE_WARN := -Wall -Wextra -Wpedantic -Wconversion -Wsign-conversion -Werror -O2
+FACE_WRAP := $(patsubst %,-Wl$(comma)--wrap=dsr_%,write read hunt read_bits)
 
 .PHONY: c-face
 c-face: $(README_WITH)
 	@mkdir -p $(BUILD)/$(LIB)
 	for cc in gcc clang; do command -v $$cc >/dev/null || continue; \
+	    $$cc -x c++ -std=c++11 -Wold-style-cast -Werror -fsyntax-only c/dsr.h || exit 1; \
 	    $$cc -std=c99 -Wall -Werror -Wno-unused-result -c checks/c/dropped.c -o /dev/null || exit 1; \
 	    [ "$$($$cc -std=c99 -c checks/c/dropped.c -o /dev/null 2>&1 | grep -c 'warning:.*unused.result')" = 4 ] || exit 1; \
 	    for std in 'c -std=c99' 'c++ -std=c++11' 'c++ -std=c++20'; do \
-	        $$cc -x $$std $(FACE_WARN) checks/c/face.c -x none $(README_WITH) -o $(FACE) && $(FACE) || exit 1; done; done
+	        $$cc -x $$std $(FACE_WARN) checks/c/face.c checks/c/not_null.c -x none $(README_WITH) $(FACE_WRAP) -o $(FACE) && \
+	        $(FACE) || exit 1; done; done
+
+# --- the Python module
+
+PYTHON_WITH := $(if $(filter literal,$(LIB)),$(BUILD)/libliteral.so,$(SHARED))
+
+.PHONY: python readme-python
+python: $(PYTHON_WITH)
+	DSR_LIBRARY=$(abspath $<) $(PYTHON) -B python/test_dsr.py
+
+readme-python: $(PYTHON_WITH)
+	@mkdir -p $(README)/python
+	.ci/readme README.md python 1 >$(README)/python/talk.py
+	.ci/readme README.md python 1 next >$(README)/python/output
+	DSR_LIBRARY=$(abspath $<) PYTHONPATH=python $(PYTHON) -B $(README)/python/talk.py | diff - $(README)/python/output

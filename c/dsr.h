@@ -265,6 +265,13 @@ uint32_t dsr_read_bits(const uint8_t *octets, size_t octets_len, uint64_t from, 
 #define DSR_MUST_USE
 #endif
 
+/* DSR_AS_ is a cast that a strict C++ compiler takes too. */
+#ifdef __cplusplus
+#define DSR_AS_(type, number) static_cast<type>(number)
+#else
+#define DSR_AS_(type, number) ((type)(number))
+#endif
+
 /* struct dsr_tables is what a reading judges pairs by. How it is laid out stands above. */
 struct dsr_tables {
     int32_t codebook[DSR_CODEBOOK_NUMBERS];
@@ -379,22 +386,22 @@ DSR_MUST_USE static inline enum dsr_status dsr_write_utterance(uint64_t rate, ui
     uint32_t number = DSR_WRONG_LENGTH;
     if (dsr_lent_(indices, indices_len) && dsr_lent_(out, out_len))
         number = dsr_write(rate, type, indices ? indices : &no_index, indices_len, out ? out : &no_out, out_len, &place);
-    writing->status = (enum dsr_status)number;
+    writing->status = DSR_AS_(enum dsr_status, number);
     writing->place = number == DSR_DONE ? 0 : place;
-    writing->octets = number == DSR_DONE ? (size_t)place : 0;
+    writing->octets = number == DSR_DONE ? DSR_AS_(size_t, place) : 0;
     return writing->status;
 }
 
 /* dsr_fill_ fills a reading. A proved function that refuses leaves the answer as it came, so a refusal shows what stood there before. */
 static inline enum dsr_status dsr_fill_(uint32_t number, uint64_t place, const uint64_t *answer, struct dsr_reading *reading) {
-    reading->status = (enum dsr_status)number;
+    reading->status = DSR_AS_(enum dsr_status, number);
     reading->place = place;
-    reading->rate = (unsigned)answer[DSR_ANSWER_RATE];
-    reading->type = (unsigned)answer[DSR_ANSWER_TYPE];
-    reading->multiframes = (unsigned)answer[DSR_ANSWER_MULTIFRAMES];
-    reading->speech = (unsigned)answer[DSR_ANSWER_SPEECH];
-    reading->bad = (unsigned)answer[DSR_ANSWER_BAD];
-    reading->end = (unsigned)answer[DSR_ANSWER_END];
+    reading->rate = DSR_AS_(unsigned, answer[DSR_ANSWER_RATE]);
+    reading->type = DSR_AS_(unsigned, answer[DSR_ANSWER_TYPE]);
+    reading->multiframes = DSR_AS_(unsigned, answer[DSR_ANSWER_MULTIFRAMES]);
+    reading->speech = DSR_AS_(unsigned, answer[DSR_ANSWER_SPEECH]);
+    reading->bad = DSR_AS_(unsigned, answer[DSR_ANSWER_BAD]);
+    reading->end = DSR_AS_(unsigned, answer[DSR_ANSWER_END]);
     reading->outside = answer[DSR_ANSWER_OUTSIDE];
     reading->tested = answer[DSR_ANSWER_TESTED];
     return reading->status;
@@ -443,7 +450,7 @@ DSR_MUST_USE static inline enum dsr_status dsr_hunt_multiframe(const uint8_t *oc
     hunted->tested = 0;
     if (dsr_lent_(octets, octets_len))
         number = dsr_hunt(octets ? octets : &no_octet, octets_len, from, least, &hunted->found, &hunted->tested, &hunted->place);
-    hunted->status = (enum dsr_status)number;
+    hunted->status = DSR_AS_(enum dsr_status, number);
     return hunted->status;
 }
 

@@ -90,6 +90,7 @@ static void expect_wide_settings_refused(void) {
     for (unsigned bits = 32; bits <= 56; bits += 8) {
         uint64_t number = (uint64_t)1 << bits;
         expect_not_written(&w, dsr_write_utterance(number, 0, said, sizeof said, image, sizeof image, &w), DSR_WRITE_SETTINGS, 0);
+        expect_not_written(&w, dsr_write_utterance(0, number, said, sizeof said, image, sizeof image, &w), DSR_WRITE_SETTINGS, 0);
     }
 }
 

@@ -22,7 +22,7 @@ fn main() {
 /// What keeps the archive from being linked for that architecture, if anything does.
 pub fn trouble(archive: &Path, arch: &str) -> Option<String> {
     let shown = archive.display();
-    let make = format!("run make lib (or make lib ARCH={arch}) in the repository, or name the archive's folder by DSR_LIB_DIR");
+    let make = how_to_make(arch);
     let Ok(octets) = fs::read(archive) else {
         return Some(format!("there is no archive {shown}: {make}"));
     };
@@ -31,6 +31,14 @@ pub fn trouble(archive: &Path, arch: &str) -> Option<String> {
     };
     let (made_for, target) = (name_of(machine), spelt(arch));
     (made_for != target).then(|| format!("this archive is for {made_for} and the target is {target}: {shown}; {make}"))
+}
+
+/// What to do for an archive of that architecture.
+fn how_to_make(arch: &str) -> String {
+    match arch {
+        "x86_64" | "aarch64" => format!("run make lib ARCH={arch} in the repository, or name an archive's folder by DSR_LIB_DIR"),
+        _ => "make lib makes archives for x86-64 and aarch64 only".to_string(),
+    }
 }
 
 /// The ELF machine of the first object of an archive. Other members (the table of symbols, long names) are passed over.

@@ -4,7 +4,6 @@ use Prim.Native.Nat.{ℕ, suc, _+_, _*_, _<_}
 use mathlib.Core.Path.{_≡_, ap, sym, _∙_}
 use mathlib.Core.List.{List}
 use mathlib.Core.Bool.{Bool, true, false}
-use lib.IntN.{ℤ}
 use lib.ListN.{getD, drop}
 use lib.Seq.{getD-take, getD-drop}
 use lib.Dec.{leb}
@@ -15,21 +14,22 @@ use native.Mathlib.Omega.{arith}
 use Rattle.lists.specs.Tests.{when}
 use Rattle.lists.specs.Parts.{part}
 use Rattle.layout.specs.Layout.{frameIndices, codebookNumbers}
+use Rattle.consistency.specs.Tables.{Tables}
 use Rattle.consistency.specs.Consistency.{at, exceeding, entryPlace, risen, flagged, flags, inconsistent, InRange}
 
-module _ (b t : List ℤ) (c i j : ℕ) where
+module _ (t : Tables) (c i j : ℕ) where
   -- the code adds nothing for the first element
-  first-element : risen b t c i j 0 ≡ exceeding (at t (2 * c)) (at b (128 * c + 2 * i)) (at b (128 * c + 2 * j))
+  first-element : risen t c i j 0 ≡ exceeding (at (t .thresholds) (2 * c)) (at (t .codebook) (128 * c + 2 * i)) (at (t .codebook) (128 * c + 2 * j))
   first-element = simp add-zero
 
-  pub flagged-first : {p : Bool} → p ≡ exceeding (at t (2 * c)) (at b (128 * c + 2 * i)) (at b (128 * c + 2 * j)) → p ≡ true → true ≡ flagged b t c i j
+  pub flagged-first : {p : Bool} → p ≡ exceeding (at (t .thresholds) (2 * c)) (at (t .codebook) (128 * c + 2 * i)) (at (t .codebook) (128 * c + 2 * j)) → p ≡ true → true ≡ flagged t c i j
   unfolding flagged
-  flagged-first e h = ap (λ (q : Bool). when q true (risen b t c i j 1)) (sym h ∙ e ∙ sym first-element)
+  flagged-first e h = ap (λ (q : Bool). when q true (risen t c i j 1)) (sym h ∙ e ∙ sym first-element)
 
-  pub flagged-second : {p r : Bool} → p ≡ exceeding (at t (2 * c)) (at b (128 * c + 2 * i)) (at b (128 * c + 2 * j)) → p ≡ false
-      → r ≡ risen b t c i j 1 → r ≡ flagged b t c i j
+  pub flagged-second : {p r : Bool} → p ≡ exceeding (at (t .thresholds) (2 * c)) (at (t .codebook) (128 * c + 2 * i)) (at (t .codebook) (128 * c + 2 * j)) → p ≡ false
+      → r ≡ risen t c i j 1 → r ≡ flagged t c i j
   unfolding flagged
-  flagged-second e h k = k ∙ ap (λ (q : Bool). when q true (risen b t c i j 1)) (sym h ∙ e ∙ sym first-element)
+  flagged-second e h k = k ∙ ap (λ (q : Bool). when q true (risen t c i j 1)) (sym h ∙ e ∙ sym first-element)
 
 -- an index of a frame lies in its codebook
 module _ (index : List ℕ) (first c x : ℕ) (here : x ≡ getD index (first + c) 0) (small : c < frameIndices) where
@@ -44,18 +44,18 @@ module _ (index : List ℕ) (first c x : ℕ) (here : x ≡ getD index (first + 
       ]
 
 -- a turn counts its index pair
-module _ (b t : List ℤ) (f g : List ℕ) (c x y n : ℕ) {r : Bool} (so-far : n ≡ flags b t f g c) (ex : x ≡ getD f c 0) (ey : y ≡ getD g c 0) (er : r ≡ flagged b t c x y) where
-  tested : flagged b t c (getD f c 0) (getD g c 0) ≡ r
-  tested = ap (λ (z : ℕ). flagged b t c (getD f c 0) z) (sym ey) ∙ ap (λ (z : ℕ). flagged b t c z y) (sym ex) ∙ sym er
+module _ (t : Tables) (f g : List ℕ) (c x y n : ℕ) {r : Bool} (so-far : n ≡ flags t f g c) (ex : x ≡ getD f c 0) (ey : y ≡ getD g c 0) (er : r ≡ flagged t c x y) where
+  tested : flagged t c (getD f c 0) (getD g c 0) ≡ r
+  tested = ap (λ (z : ℕ). flagged t c (getD f c 0) z) (sym ey) ∙ ap (λ (z : ℕ). flagged t c z y) (sym ex) ∙ sym er
 
-  pub one-more : r ≡ true → n + 1 ≡ flags b t f g (c + 1)
+  pub one-more : r ≡ true → n + 1 ≡ flags t f g (c + 1)
   unfolding flags
   one-more h = rw (add-one, add-one, tested, h) (ap suc so-far)
 
-  pub no-more : r ≡ false → n ≡ flags b t f g (c + 1)
+  pub no-more : r ≡ false → n ≡ flags t f g (c + 1)
   unfolding flags
   no-more h = rw (add-one, tested, h) so-far
 
-pub judged : (b t : List ℤ) (f g : List ℕ) (n : ℕ) → n ≡ flags b t f g frameIndices → leb 2 n ≡ inconsistent b t f g
+pub judged : (t : Tables) (f g : List ℕ) (n : ℕ) → n ≡ flags t f g frameIndices → leb 2 n ≡ inconsistent t f g
 unfolding inconsistent
-judged b t f g n e = ap (leb 2) e
+judged t f g n e = ap (leb 2) e

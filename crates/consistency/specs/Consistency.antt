@@ -10,6 +10,7 @@ use lib.ListN.{getD}
 use lib.Dec.{leb}
 use Rattle.lists.specs.Tests.{when}
 use Rattle.layout.specs.Layout.{frameIndices}
+use Rattle.consistency.specs.Tables.{Tables}
 
 abbrev pub at : List ℤ → ℕ → ℤ
 at l i = getD l i (pos 0)
@@ -28,23 +29,23 @@ abbrev pub thresholdPlace : ℕ → ℕ → ℕ
 thresholdPlace c element = 2 * c + element
 
 -- one element of index pair c, entry i in the first frame and j in the second
-abbrev pub risen : List ℤ → List ℤ → ℕ → ℕ → ℕ → ℕ → Bool
-risen codebook thresholds c i j element =
-    exceeding (at thresholds (thresholdPlace c element)) (at codebook (entryPlace c i element)) (at codebook (entryPlace c j element))
+abbrev pub risen : Tables → ℕ → ℕ → ℕ → ℕ → Bool
+risen tables c i j element =
+    exceeding (at (tables .thresholds) (thresholdPlace c element)) (at (tables .codebook) (entryPlace c i element)) (at (tables .codebook) (entryPlace c j element))
 
 -- an index pair is flagged if either of its two elements exceeds, and counts once if both do
-unfoldable pub flagged : List ℤ → List ℤ → ℕ → ℕ → ℕ → Bool
-flagged codebook thresholds c i j = when (risen codebook thresholds c i j 0) true (risen codebook thresholds c i j 1)
+unfoldable pub flagged : Tables → ℕ → ℕ → ℕ → Bool
+flagged tables c i j = when (risen tables c i j 0) true (risen tables c i j 1)
 
 -- how many of the first n index pairs of frames f and g are flagged
-unfoldable pub flags : List ℤ → List ℤ → List ℕ → List ℕ → ℕ → ℕ
-flags codebook thresholds f g zero = 0
-flags codebook thresholds f g (suc c) =
-    when (flagged codebook thresholds c (getD f c 0) (getD g c 0)) (suc (flags codebook thresholds f g c)) (flags codebook thresholds f g c)
+unfoldable pub flags : Tables → List ℕ → List ℕ → ℕ → ℕ
+flags tables f g zero = 0
+flags tables f g (suc c) =
+    when (flagged tables c (getD f c 0) (getD g c 0)) (suc (flags tables f g c)) (flags tables f g c)
 
 -- a pair is inconsistent if at least two of its seven index pairs are flagged
-unfoldable pub inconsistent : List ℤ → List ℤ → List ℕ → List ℕ → Bool
-inconsistent codebook thresholds f g = leb 2 (flags codebook thresholds f g frameIndices)
+unfoldable pub inconsistent : Tables → List ℕ → List ℕ → Bool
+inconsistent tables f g = leb 2 (flags tables f g frameIndices)
 
 -- the first six indices of a frame are below 64
 abbrev pub InRange : List ℕ → Type 0

@@ -4,10 +4,11 @@ use Prim.Native.Nat.{ℕ, zero, suc, _+_, _*_, _≤_}
 use mathlib.Core.Path.{_≡_, refl}
 use mathlib.Core.List.{List, []}
 use mathlib.Core.Bool.{Bool, true, false}
-use lib.IntN.{ℤ, pos, negsuc}
+use lib.IntN.{pos, negsuc}
 use lib.ListN.{getD}
 use native.Mathlib.Omega.{arith}
 use Rattle.lists.specs.Tests.{when}
+use Rattle.consistency.specs.Tables.{Tables}
 use Rattle.consistency.specs.Consistency.{exceeding, entryPlace, flagged, flags}
 
 -- the seventh codebook begins at 768
@@ -26,16 +27,16 @@ pub fall-passes : exceeding (pos 0) (pos 6) (pos 1) ≡ false
 fall-passes = refl
 
 -- an index pair adds one or nothing, whichever elements exceed
-pub counts-once : (b t : List ℤ) (f g : List ℕ) (c : ℕ)
-    → flags b t f g (suc c) ≡ when (flagged b t c (getD f c 0) (getD g c 0)) (suc (flags b t f g c)) (flags b t f g c)
+pub counts-once : (t : Tables) (f g : List ℕ) (c : ℕ)
+    → flags t f g (suc c) ≡ when (flagged t c (getD f c 0) (getD g c 0)) (suc (flags t f g c)) (flags t f g c)
 unfolding flags
-counts-once b t f g c = refl
+counts-once t f g c = refl
 
-pub at-most-each : (b t : List ℤ) (f g : List ℕ) (n : ℕ) → flags b t f g n ≤ n
+pub at-most-each : (t : Tables) (f g : List ℕ) (n : ℕ) → flags t f g n ≤ n
 unfolding flags
-at-most-each b t f g zero = omega arith
-at-most-each b t f g (suc c) = one (flagged b t c (getD f c 0) (getD g c 0)) (at-most-each b t f g c)
+at-most-each t f g zero = omega arith
+at-most-each t f g (suc c) = one (flagged t c (getD f c 0) (getD g c 0)) (at-most-each t f g c)
   where
-    one : (q : Bool) → flags b t f g c ≤ c → when q (suc (flags b t f g c)) (flags b t f g c) ≤ suc c
+    one : (q : Bool) → flags t f g c ≤ c → when q (suc (flags t f g c)) (flags t f g c) ≤ suc c
     one true h = omega arith
     one false h = omega arith

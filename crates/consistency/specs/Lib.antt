@@ -1,2 +1,4 @@
+pub mod Tables
+pub mod Lent
 pub mod Consistency
 pub mod Laws

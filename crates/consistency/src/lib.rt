@@ -4,7 +4,9 @@ ghost use mathlib.Core.Path.{_≡_};
 ghost use Prim.Native.Nat.{_+_, _*_, _<_, _≤_};
 ghost use lib.ListN.{length};
 ghost use Rattle.lists.specs.Parts.{part};
-ghost use Rattle.layout.specs.Layout.{frameIndices, codebookNumbers, thresholdNumbers};
+ghost use Rattle.layout.specs.Layout.{frameIndices, codebookNumbers};
+ghost use Rattle.consistency.specs.Tables.{tablesOf, RightTables};
+ghost use Rattle.consistency.specs.Lent.{came, tablesIn};
 ghost use Rattle.consistency.specs.Consistency.{exceeding, at, entryPlace, flagged, inconsistent, InRange};
 
 // Each codebook has room for 64 entries of two numbers; the seventh comes last and goes on.
@@ -31,7 +33,7 @@ pub fn exceeds(threshold: i32, first: i32, second: i32) -> bool
 // The same of the numbers at places of the tables.
 fn exceeds_at(codebook: &[i32], i: usize, j: usize, thresholds: &[i32], k: usize) -> bool
     requires { ⌜ (i < length (now codebook)) × (j < length (now codebook)) × (k < length (now thresholds)) ⌝ }
-    ensures { λ r. ⌜ r ≡ exceeding (at (now (thresholds .entry)) k) (at (now (codebook .entry)) i) (at (now (codebook .entry)) j) ⌝ }
+    ensures { λ r. ⌜ r ≡ exceeding (at (came thresholds) k) (at (came codebook) i) (at (came codebook) j) ⌝ }
 {
     let a = codebook[i];
     let b = codebook[j];
@@ -42,9 +44,9 @@ fn exceeds_at(codebook: &[i32], i: usize, j: usize, thresholds: &[i32], k: usize
 // Whether index pair c, entry i and then entry j, is flagged: either of its elements rises too far.
 // It asks that both entries lie in the codebook, which a frame's indices do.
 fn is_flagged(codebook: &[i32], thresholds: &[i32], c: usize, i: usize, j: usize) -> bool
-    requires { ⌜ (length (now codebook) ≡ codebookNumbers) × (length (now thresholds) ≡ thresholdNumbers) × (c < frameIndices) ⌝ }
+    requires { ⌜ RightTables (tablesOf (now codebook) (now thresholds)) × (c < frameIndices) ⌝ }
     requires { ⌜ (entryPlace c i 1 < codebookNumbers) × (entryPlace c j 1 < codebookNumbers) ⌝ }
-    ensures { λ r. ⌜ r ≡ flagged (now (codebook .entry)) (now (thresholds .entry)) c i j ⌝ }
+    ensures { λ r. ⌜ r ≡ flagged (tablesIn codebook thresholds) c i j ⌝ }
 {
     let a = CODEBOOK_ROOM * c + ELEMENTS * i;
     let b = CODEBOOK_ROOM * c + ELEMENTS * j;
@@ -57,7 +59,7 @@ fn is_flagged(codebook: &[i32], thresholds: &[i32], c: usize, i: usize, j: usize
 
 fn index_at(index: &[u8], i: usize) -> usize
     requires { ⌜ i < length (now index) ⌝ }
-    ensures { λ r. ⌜ r ≡ lib.ListN.getD (now (index .entry)) i 0 ⌝ }
+    ensures { λ r. ⌜ r ≡ lib.ListN.getD (came index) i 0 ⌝ }
 {
     index[i] as usize
 }
@@ -71,10 +73,11 @@ pub fn is_inconsistent(
     first: usize,
     second: usize,
 ) -> bool
-    requires { ⌜ (length (now codebook) ≡ codebookNumbers) × (length (now thresholds) ≡ thresholdNumbers) ⌝ }
+    requires { ⌜ RightTables (tablesOf (now codebook) (now thresholds)) ⌝ }
     requires { ⌜ (first + frameIndices ≤ length (now index)) × (second + frameIndices ≤ length (now index)) ⌝ }
     requires { ⌜ InRange (part first frameIndices (now index)) × InRange (part second frameIndices (now index)) ⌝ }
-    ensures { λ r. ⌜ r ≡ inconsistent (now (codebook .entry)) (now (thresholds .entry)) (part first frameIndices (now (index .entry))) (part second frameIndices (now (index .entry))) ⌝ }
+    ensures { λ r. ⌜ r ≡ inconsistent (tablesIn codebook thresholds)
+        (part first frameIndices (came index)) (part second frameIndices (came index)) ⌝ }
 {
     let mut flags = 0;
     let mut c = 0;

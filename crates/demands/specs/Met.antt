@@ -10,13 +10,14 @@ use native.Mathlib.Omega.{arith}
 use lib.Bits.{bitXor, xor-lt}
 use lib.Count.{ones, onesIn}
 use lib.Dec.{lit<}
-use lib.IntN.{ℤ, pos}
+use lib.IntN.{pos}
 use lib.ListN.{length, take, drop, getD, replicate, length-replicate, length-append}
 use lib.Seq.{take-at, drop-at, drop-append-add}
 use Rattle.polynomials.specs.Light.{ones-in}
 use Rattle.lists.specs.Tests.{true-false}
 use Rattle.lists.specs.Parts.{part, over}
 use Rattle.layout.specs.Layout.{frameIndices, packetBits, multiframePairs, streamOctets, indexOctets, reportOctets, codebookNumbers, thresholdNumbers, firstPair}
+use Rattle.consistency.specs.Tables.{Tables, tablesOf}
 use Rattle.settings.specs.Settings.{settings}
 use Rattle.frames.specs.Frames.{zeroFrame}
 use Rattle.carrier.specs.Carrier.{streamPacket}
@@ -46,11 +47,8 @@ use Rattle.demands.specs.WritesAgain as A
 use Rattle.demands.specs.NamesTheDamage as N
 
 -- ---- tables of zeros, and just enough room
-abbrev pub zeroBook : List ℤ
-zeroBook = replicate codebookNumbers (pos 0)
-
-abbrev pub zeroThresholds : List ℤ
-zeroThresholds = replicate thresholdNumbers (pos 0)
+abbrev pub zeroTables : Tables
+zeroTables = tablesOf (replicate codebookNumbers (pos 0)) (replicate thresholdNumbers (pos 0))
 
 abbrev pub indexFor : ℕ → List ℕ
 indexFor m = replicate (indexOctets * m) 0
@@ -58,7 +56,7 @@ indexFor m = replicate (indexOctets * m) 0
 abbrev pub reportFor : ℕ → List ℕ
 reportFor m = replicate (reportOctets * m) 0
 
-pub lent-zeros : (m : ℕ) → Lent m zeroBook zeroThresholds (indexFor m) (reportFor m)
+pub lent-zeros : (m : ℕ) → Lent m zeroTables (indexFor m) (reportFor m)
 lent-zeros m = record {
   codebook-size = length-replicate codebookNumbers (pos 0);
   thresholds-size = length-replicate thresholdNumbers (pos 0);
@@ -73,25 +71,25 @@ zero-at (suc n) zero = refl
 zero-at (suc n) (suc i) = zero-at n i
 
 module _ (f g : List ℕ) where
-  not-risen : (c i j e : ℕ) → risen zeroBook zeroThresholds c i j e ≡ false
+  not-risen : (c i j e : ℕ) → risen zeroTables c i j e ≡ false
   not-risen c i j e = rw (zero-at thresholdNumbers (2 * c + e), zero-at 1280 (128 * c + 2 * i + e), zero-at 1280 (128 * c + 2 * j + e))
 
-  not-flagged : (c i j : ℕ) → flagged zeroBook zeroThresholds c i j ≡ false
+  not-flagged : (c i j : ℕ) → flagged zeroTables c i j ≡ false
   unfolding flagged
   not-flagged c i j = rw (not-risen c i j 0, not-risen c i j 1)
 
-  no-flags : (c : ℕ) → flags zeroBook zeroThresholds f g c ≡ 0
+  no-flags : (c : ℕ) → flags zeroTables f g c ≡ 0
   unfolding flags
   no-flags zero = refl
   no-flags (suc c) = rw (not-flagged c (getD f c 0) (getD g c 0)) (no-flags c)
 
-  pub zero-consistent : inconsistent zeroBook zeroThresholds f g ≡ false
+  pub zero-consistent : inconsistent zeroTables f g ≡ false
   unfolding inconsistent
   zero-consistent = rw (no-flags frameIndices)
 
 -- ---- READS BACK: every utterance meets its premises
 pub reads-back-met : (u : Utterance)
-    → R.Premises u zeroBook zeroThresholds (replicate (needed (u .indices)) 0) (indexFor (multiframesOf u)) (reportFor (multiframesOf u))
+    → R.Premises u zeroTables (replicate (needed (u .indices)) 0) (indexFor (multiframesOf u)) (reportFor (multiframesOf u))
 reads-back-met u = record { output-room = le-of-eq (sym (length-replicate (needed (u .indices)) 0)); lent = lent-zeros (multiframesOf u) }
 
 -- ---- WRITES AGAIN: every written image meets its premises
@@ -103,13 +101,13 @@ module _ (u : Utterance) where
   output = replicate (needed (u .indices)) 0
 
   abbrev image-read : Outcome
-  image-read = reading (imageOf u) zeroBook zeroThresholds (indexFor m) (reportFor m)
+  image-read = reading (imageOf u) zeroTables (indexFor m) (reportFor m)
 
   index-is : image-read .index ≡ over (indexFor m) 0 (indexOctets * m) (padded u)
-  index-is = ap (λ (o : Outcome). o .index) (reads-image u zeroBook zeroThresholds (indexFor m) (reportFor m) (lent-zeros m))
+  index-is = ap (λ (o : Outcome). o .index) (reads-image u zeroTables (indexFor m) (reportFor m) (lent-zeros m))
 
   report-is : image-read .report ≡ over (reportFor m) 0 (reportOctets * m) (replicate (reportOctets * m) 0)
-  report-is = ap (λ (o : Outcome). o .report) (reads-image u zeroBook zeroThresholds (indexFor m) (reportFor m) (lent-zeros m))
+  report-is = ap (λ (o : Outcome). o .report) (reads-image u zeroTables (indexFor m) (reportFor m) (lent-zeros m))
 
   -- the first n frames of the index buffer are those that were written
   frames-are : take (frameIndices * frameCount (u .indices)) (image-read .index) ≡ u .indices
@@ -119,10 +117,10 @@ module _ (u : Utterance) where
       ap (take (frameIndices * frameCount (u .indices))) (index-is ∙ append-assoc (u .indices) z r)
       ∙ take-at (u .indices) (z ++ r) (frameIndices * frameCount (u .indices)) (whole-frames u)
 
-  pub writes-again-met : A.Premises (imageOf u) zeroBook zeroThresholds (indexFor m) (reportFor m) output (spoken u)
+  pub writes-again-met : A.Premises (imageOf u) zeroTables (indexFor m) (reportFor m) output (spoken u)
   writes-again-met = record {
     small = image-small (u .settings) (u .indices) m;
-    succeeds = ap (λ (o : Outcome). o .answer) (reads-image u zeroBook zeroThresholds (indexFor m) (reportFor m) (lent-zeros m));
+    succeeds = ap (λ (o : Outcome). o .answer) (reads-image u zeroTables (indexFor m) (reportFor m) (lent-zeros m));
     notes-0 = λ i h.
         ap (λ (l : List ℕ). getD l i 0) report-is
         ∙ front-at (reportFor m) (replicate (reportOctets * m) 0) (reportOctets * m) i (subst (λ (k : ℕ). i < k) (sym (length-replicate (reportOctets * m) 0)) h) ∙ no-more (reportOctets * m) i;
@@ -217,7 +215,7 @@ module _ (u : Utterance) where
       }
 
   -- with tables of zeros its third pair is good
-  third-good : BadPair u hurtImage zeroBook zeroThresholds 2 → ⊥
+  third-good : BadPair u hurtImage zeroTables 2 → ⊥
   third-good b =
       ⊎-elim
       (λ t. t (made-packet hurtWord hurtStream (multiframesOf u) 2 (omega arith) (length-hurt 0) ∙ part-on 0 0 (omega arith)
@@ -225,7 +223,7 @@ module _ (u : Utterance) where
       (λ r. true-false (sym (r .0) ∙ zero-consistent (frameAt (u .indices) 4) (frameAt (u .indices) 5))) b
 
   -- ---- NAMES THE DAMAGE: every utterance of two multiframes or more meets its premises
-  pub names-met : 2 ≤ multiframesOf u → N.Premises u hurtImage zeroBook zeroThresholds (indexFor (multiframesOf u)) (reportFor (multiframesOf u))
+  pub names-met : 2 ≤ multiframesOf u → N.Premises u hurtImage zeroTables (indexFor (multiframesOf u)) (reportFor (multiframesOf u))
   names-met two = record { damage = hurts; headers = inl two; pair = 2; within = omega arith; not-bad = third-good; lent = lent-zeros (multiframesOf u) }
 
 -- ---- and there is one: 24 frames of ones, which take two multiframes
@@ -253,5 +251,5 @@ pub frames-24 : frameCount (says24 .indices) ≡ 24
 unfolding says24
 frames-24 = refl
 
-pub names-says24 : N.Premises says24 (hurtImage says24) zeroBook zeroThresholds (indexFor (multiframesOf says24)) (reportFor (multiframesOf says24))
+pub names-says24 : N.Premises says24 (hurtImage says24) zeroTables (indexFor (multiframesOf says24)) (reportFor (multiframesOf says24))
 names-says24 = names-met says24 (le-of-eq (sym two-multiframes))

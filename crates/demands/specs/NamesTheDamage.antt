@@ -12,13 +12,13 @@ use Prim.Native.Nat.{ℕ, _+_, _*_, _/_, _≤_, _<_}
 use native.Mathlib.Decide.{ℕ-discrete}
 use native.Mathlib.Omega.{arith}
 use lib.Dec.{eqb, lit<}
-use lib.IntN.{ℤ}
 use lib.ListN.{length, getD, replicate}
 use lib.Seq.{take-at, take-all}
 use borrow.Author.Tests.{eqb-true}
 use Rattle.lists.specs.Tests.{true-false, not-false}
 use Rattle.lists.specs.Parts.{part, over, part-right}
 use Rattle.layout.specs.Layout.{frameIndices, multiframeFrames, multiframeOctets, indexOctets, reportOctets, pairOf, firstFrame, secondFrame}
+use Rattle.consistency.specs.Tables.{Tables}
 use Rattle.packet.specs.Packet.{frameAt}
 use Rattle.packet.specs.Laws.{length-row, row-inside, row-past}
 use Rattle.cutting.specs.Laws.{every-length}
@@ -42,18 +42,18 @@ use Rattle.demands.specs.Headers.{Settling, enough, settles, note-of-hea
 use Rattle.demands.specs.Received.{BadPair, ByRule, Tells, is-so, not-so, Count, tells-rule, tells-bad, touched-note, note-one, note-two, bad-counted, frames-kept}
 
 -- what a success answer and both buffers have to say of a damaged image s
-pub record Names (u : Utterance) (s : List ℕ) (codebook thresholds : List ℤ) (given : Summary) (index report : List ℕ) : Type 0 where
+pub record Names (u : Utterance) (s : List ℕ) (tables : Tables) (given : Summary) (index report : List ℕ) : Type 0 where
   -- "gives the settings sent and m"
   pub settings : given .settings ≡ u .settings
   pub multiframes : given .multiframes ≡ multiframesOf u
   -- "the note of every damaged pair is 1", and of no other
   pub damaged : (q : ℕ) → q < pairsOf u → (pairNoteIn report q ≡ 1) ↔ Touched (imageOf u) s q
   -- "a pair that is not damaged has a note other than 0 exactly if 01's consistency rule makes it bad"
-  pub others : (q : ℕ) → q < pairsOf u → (Touched (imageOf u) s q → ⊥) → (pairNoteIn report q ≡ 0 → ⊥) ↔ ByRule u s codebook thresholds q
+  pub others : (q : ℕ) → q < pairsOf u → (Touched (imageOf u) s q → ⊥) → (pairNoteIn report q ≡ 0 → ⊥) ↔ ByRule u s tables q
   -- and that note is 2
-  pub ruled : (q : ℕ) → q < pairsOf u → (Touched (imageOf u) s q → ⊥) → ByRule u s codebook thresholds q → pairNoteIn report q ≡ 2
+  pub ruled : (q : ℕ) → q < pairsOf u → (Touched (imageOf u) s q → ⊥) → ByRule u s tables q → pairNoteIn report q ≡ 2
   -- `bad` is the number of these pairs
-  pub counted : Count (BadPair u s codebook thresholds) (pairsOf u) (given .bad)
+  pub counted : Count (BadPair u s tables) (pairsOf u) (given .bad)
   -- "each header note is the number of bits flipped there"
   pub flips : (k : ℕ) → k < multiframesOf u → headerNoteIn report k ≡ headerFlips (imageOf u) s k
   -- "and each frame of the pairs with note 0 stands at its place in the index buffer as it was written"
@@ -63,7 +63,7 @@ pub record Names (u : Utterance) (s : List ℕ) (codebook thresholds : List ℤ)
   pub padding : (k : ℕ) → frameCount (u .indices) ≤ k → k < multiframeFrames * multiframesOf u → pairNoteIn report (pairOf k) ≡ 0
       → part (frameIndices * k) frameIndices index ≡ replicate frameIndices 0
 
-module _ (u : Utterance) (s : List ℕ) (codebook thresholds : List ℤ) (index report : List ℕ) where
+module _ (u : Utterance) (s : List ℕ) (tables : Tables) (index report : List ℕ) where
   pub record Premises : Type 0 where
     -- "every such damage"
     pub damage : Damage (multiframesOf u) (imageOf u) s
@@ -72,9 +72,9 @@ module _ (u : Utterance) (s : List ℕ) (codebook thresholds : List ℤ) (index 
     -- "and one pair not bad"
     pub pair : ℕ
     pub within : pair < pairsOf u
-    pub not-bad : BadPair u s codebook thresholds pair → ⊥  -- neither damaged nor bad by 01's rule
+    pub not-bad : BadPair u s tables pair → ⊥  -- neither damaged nor bad by 01's rule
     -- "with 01's tables and room"
-    pub lent : Lent (multiframesOf u) codebook thresholds index report
+    pub lent : Lent (multiframesOf u) tables index report
 
   -- the same with up to three flips in a header: two headers have at most two, or an only header is untouched
   pub record Wider : Type 0 where
@@ -82,8 +82,8 @@ module _ (u : Utterance) (s : List ℕ) (codebook thresholds : List ℤ) (index 
     pub headers : Settling u s
     pub pair : ℕ
     pub within : pair < pairsOf u
-    pub not-bad : BadPair u s codebook thresholds pair → ⊥
-    pub lent : Lent (multiframesOf u) codebook thresholds index report
+    pub not-bad : BadPair u s tables pair → ⊥
+    pub lent : Lent (multiframesOf u) tables index report
 
   pub wider : Premises → Wider
   wider p = record {
@@ -96,13 +96,13 @@ module _ (u : Utterance) (s : List ℕ) (codebook thresholds : List ℤ) (index 
   }
 
   abbrev pub result : Outcome
-  result = reading s codebook thresholds index report
+  result = reading s tables index report
 
   pub record Named : Type 0 where
     -- "the reader succeeds"
     pub given : Summary
     pub succeeds : result .answer ≡ Read given
-    pub names : Names u s codebook thresholds given (result .index) (result .report)
+    pub names : Names u s tables given (result .index) (result .report)
 
   module _ (p : Wider) where
     abbrev m : ℕ
@@ -112,19 +112,19 @@ module _ (u : Utterance) (s : List ℕ) (codebook thresholds : List ℤ) (index 
     d = p .damage
 
     abbrev ns : List ℕ
-    ns = receivedNotes s (rowOf m) codebook thresholds
+    ns = receivedNotes s (rowOf m) tables
 
     rows : length (rowOf m) ≡ m
     rows = every-length 0 m
 
     notes-size : length ns ≡ pairCount (rowOf m)
-    notes-size = length-notes (received s (rowOf m)) (pairCount (rowOf m)) codebook thresholds
+    notes-size = length-notes (received s (rowOf m)) (pairCount (rowOf m)) tables
 
     -- the good pair's note is 0
     good : Good ns
-    good = by (tells-bad u s d codebook thresholds (p .pair) (p .within))
+    good = by (tells-bad u s d tables (p .pair) (p .within))
       where
-        by : Tells (BadPair u s codebook thresholds (p .pair)) (bad (getD ns (p .pair) 0)) → Good ns
+        by : Tells (BadPair u s tables (p .pair)) (bad (getD ns (p .pair) 0)) → Good ns
         by (is-so x e) = absurd (p .not-bad x)
         by (not-so n e) =
             record {
@@ -152,10 +152,10 @@ module _ (u : Utterance) (s : List ℕ) (codebook thresholds : List ℤ) (index 
         (over report 0 (reportOctets * length (rowOf m)) (reportPart s (rowOf m) ns (sentCommon u)))
     read-is =
         reads-as s m (few-multiframes (u .settings) (u .indices) (is-accepted u .sizes)) size
-        (λ k h. d .syncs k h ∙ image-sync (u .settings) (u .indices) m k h) codebook thresholds index report (sentCommon u) (omega arith) (p .lent) fits-in
+        (λ k h. d .syncs k h ∙ image-sync (u .settings) (u .indices) m k h) tables index report (sentCommon u) (omega arith) (p .lent) fits-in
 
     -- the report's octets are the notes
-    pub pair-note : (q : ℕ) → q < pairsOf u → pairNoteIn (result .report) q ≡ getD (receivedNotes s (rowOf (multiframesOf u)) codebook thresholds) q 0
+    pub pair-note : (q : ℕ) → q < pairsOf u → pairNoteIn (result .report) q ≡ getD (receivedNotes s (rowOf (multiframesOf u)) tables) q 0
     pair-note q h =
         ap (λ (o : Outcome). pairNoteIn (o .report) q) read-is
         ∙ pair-note-is s (rowOf m) ns report (sentCommon u) (reportOctets * length (rowOf m)) notes-size q (omega (arith, rows))
@@ -167,7 +167,7 @@ module _ (u : Utterance) (s : List ℕ) (codebook thresholds : List ℤ) (index 
 
     -- a pair whose note is 0 is not damaged
     not-hit : (q : ℕ) → q < pairsOf u → getD ns q 0 ≡ 0 → Touched (imageOf u) s q → ⊥
-    not-hit q h z t = let e : _≡_ {A = ℕ} 0 1 = sym z ∙ touched-note u s d codebook thresholds q h t in omega arith
+    not-hit q h z t = let e : _≡_ {A = ℕ} 0 1 = sym z ∙ touched-note u s d tables q h t in omega arith
 
     -- its frames, before replacing
     pub frame-in-pair : (q : ℕ) → q < pairsOf u → getD ns q 0 ≡ 0
@@ -189,8 +189,8 @@ module _ (u : Utterance) (s : List ℕ) (codebook thresholds : List ℤ) (index 
         )
 
     -- and behind it
-    pub index-frame : (k : ℕ) → k < multiframeFrames * multiframesOf u → getD (receivedNotes s (rowOf (multiframesOf u)) codebook thresholds) (pairOf k) 0 ≡ 0
-        → part (frameIndices * k) frameIndices (indexPart s (rowOf (multiframesOf u)) (receivedNotes s (rowOf (multiframesOf u)) codebook thresholds)) ≡ frameAt (u .indices) k
+    pub index-frame : (k : ℕ) → k < multiframeFrames * multiframesOf u → getD (receivedNotes s (rowOf (multiframesOf u)) tables) (pairOf k) 0 ≡ 0
+        → part (frameIndices * k) frameIndices (indexPart s (rowOf (multiframesOf u)) (receivedNotes s (rowOf (multiframesOf u)) tables)) ≡ frameAt (u .indices) k
     index-frame k h n =
         let all = receivedFrames s (rowOf m) in
         let b = frame-in-pair (k / 2) (omega arith) n in
@@ -206,10 +206,10 @@ module _ (u : Utterance) (s : List ℕ) (codebook thresholds : List ℤ) (index 
         ∙ front-part index (indexPart s (rowOf m) ns) (indexOctets * length (rowOf m)) (frameIndices * k) frameIndices (omega (arith, length-index s (rowOf m) ns notes-size, rows))
         ∙ index-frame k h (sym (pair-note (pairOf k) (omega arith)) ∙ z)
 
-    rule : (q : ℕ) → q < pairsOf u → (Touched (imageOf u) s q → ⊥) → (pairNoteIn (result .report) q ≡ 0 → ⊥) ↔ ByRule u s codebook thresholds q
-    rule q h n = by (tells-rule u s d codebook thresholds q h n)
+    rule : (q : ℕ) → q < pairsOf u → (Touched (imageOf u) s q → ⊥) → (pairNoteIn (result .report) q ≡ 0 → ⊥) ↔ ByRule u s tables q
+    rule q h n = by (tells-rule u s d tables q h n)
       where
-        by : Tells (ByRule u s codebook thresholds q) (bad (getD ns q 0)) → (pairNoteIn (result .report) q ≡ 0 → ⊥) ↔ ByRule u s codebook thresholds q
+        by : Tells (ByRule u s tables q) (bad (getD ns q 0)) → (pairNoteIn (result .report) q ≡ 0 → ⊥) ↔ ByRule u s tables q
         by (is-so r e) = ((λ z. r), (λ x z. true-false (sym e ∙ ap bad (sym (pair-note q h) ∙ z))))
         by (not-so k e) = (
           (λ z. absurd (z (pair-note q h ∙ eqb-true (getD ns q 0) 0 (not-false (eqb (getD ns q 0) 0) e)))),
@@ -224,12 +224,12 @@ module _ (u : Utterance) (s : List ℕ) (codebook thresholds : List ℤ) (index 
         settings = settings-sent u;
         multiframes = rows;
         damaged = λ q h. (
-          (λ e. note-one u s d codebook thresholds q h (sym (pair-note q h) ∙ e)),
-          (λ t. pair-note q h ∙ touched-note u s d codebook thresholds q h t),
+          (λ e. note-one u s d tables q h (sym (pair-note q h) ∙ e)),
+          (λ t. pair-note q h ∙ touched-note u s d tables q h t),
         );
         others = rule;
-        ruled = λ q h n r. pair-note q h ∙ note-two u s d codebook thresholds q h n r;
-        counted = bad-counted u s d codebook thresholds;
+        ruled = λ q h n r. pair-note q h ∙ note-two u s d tables q h n r;
+        counted = bad-counted u s d tables;
         flips = header-note;
         frames = λ k h z.
             frame-kept k (omega arith) z ∙ row-inside (u .indices) (frameIndices * k) frameIndices (omega (arith, whole-frames u));
@@ -237,10 +237,10 @@ module _ (u : Utterance) (s : List ℕ) (codebook thresholds : List ℤ) (index 
       };
     }
 
-pub names-wider : (u : Utterance) (s : List ℕ) (codebook thresholds : List ℤ) (index report : List ℕ)
-    → Wider u s codebook thresholds index report → Named u s codebook thresholds index report
+pub names-wider : (u : Utterance) (s : List ℕ) (tables : Tables) (index report : List ℕ)
+    → Wider u s tables index report → Named u s tables index report
 names-wider = proof
 
-pub names-the-damage : (u : Utterance) (s : List ℕ) (codebook thresholds : List ℤ) (index report : List ℕ)
-    → Premises u s codebook thresholds index report → Named u s codebook thresholds index report
-names-the-damage u s codebook thresholds index report p = names-wider u s codebook thresholds index report (wider u s codebook thresholds index report p)
+pub names-the-damage : (u : Utterance) (s : List ℕ) (tables : Tables) (index report : List ℕ)
+    → Premises u s tables index report → Named u s tables index report
+names-the-damage u s tables index report p = names-wider u s tables index report (wider u s tables index report p)

@@ -10,7 +10,6 @@ use native.Mathlib.Omega.{arith}
 use lib.Bits.{bitXor, xor-lt, xor-self}
 use lib.Count.{ones, onesIn}
 use lib.Dec.{lit<}
-use lib.IntN.{ℤ}
 use lib.ListN.{length, getD, replicate, take, drop}
 use lib.Seq.{take-append-le}
 use Rattle.cutting.specs.Cutting.{cutting}
@@ -27,6 +26,7 @@ use Rattle.polynomials.specs.Xor.{xor-swap}
 use Rattle.lists.specs.Tests.{true-false}
 use Rattle.lists.specs.Rows.{each, joined, length-joined, joined-part}
 use Rattle.layout.specs.Layout.{frameIndices, multiframeFrames, indexOctets, packetBits, multiframePairs, multiframeOctets, mostMultiframes, streamOctets, firstPair, multiframeOf, sync}
+use Rattle.consistency.specs.Tables.{Tables}
 use Rattle.settings.specs.declared.Settings.{Settings}
 use Rattle.settings.specs.Settings.{settings}
 use Rattle.frames.specs.Frames.{zeroFrame}
@@ -57,14 +57,14 @@ use Rattle.writer.specs.declared.Answer.the-variants.{Written}
 use Rattle.demands.specs.Damage.{Damage, loosened, headerFlips, sentMessage, header-near, differs}
 use Rattle.demands.specs.Damages.{damage-made}
 use Rattle.demands.specs.Instances.{lone, small-lone, says1, past-packet}
-use Rattle.demands.specs.Met.{zeroBook, zeroThresholds, indexFor, reportFor, lent-zeros, hurtWord, hurtStream, hurtImage, hurts}
+use Rattle.demands.specs.Met.{zeroTables, indexFor, reportFor, lent-zeros, hurtWord, hurtStream, hurtImage, hurts}
 use Rattle.demands.specs.Whole.{rowOf, Lent, refuses-16, refuses-20}
 use Rattle.demands.specs.Headers.{enough, settles, touched-unsettles, sentCommon, rate-sent, exp-sent}
 use Rattle.demands.specs.Received.{BadPair, Tells, is-so, not-so, tells-bad}
 
 -- ---- A SINGLE MENDED HEADER UNSETTLES: of one multiframe, a header that is touched at all is refusal 16, and both buffers stay
-module _ (u : Utterance) (s : List ℕ) (d : Damage (multiframesOf u) (imageOf u) s) (codebook thresholds : List ℤ) (index report : List ℕ)
-    (lent : Lent (multiframesOf u) codebook thresholds index report) where
+module _ (u : Utterance) (s : List ℕ) (d : Damage (multiframesOf u) (imageOf u) s) (tables : Tables) (index report : List ℕ)
+    (lent : Lent (multiframesOf u) tables index report) where
   abbrev m : ℕ
   m = multiframesOf u
 
@@ -77,9 +77,9 @@ module _ (u : Utterance) (s : List ℕ) (d : Damage (multiframesOf u) (imageOf u
   syncs : (k : ℕ) → k < m → syncIn s k ≡ sync
   syncs k h = d .syncs k h ∙ image-sync (u .settings) (u .indices) m k h
 
-  pub mended-unsettles : m ≡ 1 → (headerFlips (imageOf u) s 0 ≡ 0 → ⊥) → reading s codebook thresholds index report ≡ outcome (Refused Unsettled) index report
+  pub mended-unsettles : m ≡ 1 → (headerFlips (imageOf u) s 0 ≡ 0 → ⊥) → reading s tables index report ≡ outcome (Refused Unsettled) index report
   mended-unsettles one touched =
-      refuses-16 s m few size syncs codebook thresholds index report (omega arith) lent (touched-unsettles u s (loosened (lit< tt) d .headers) one touched)
+      refuses-16 s m few size syncs tables index report (omega arith) lent (touched-unsettles u s (loosened (lit< tt) d .headers) one touched)
 
   -- ---- ALL PAIRS BAD REFUSES: refusal 20, and both buffers stay
   all-counted : (l : List ℕ) → ((k : ℕ) → k < length l → bad (getD l k 0) ≡ true) → badPairs l ≡ length l
@@ -87,20 +87,20 @@ module _ (u : Utterance) (s : List ℕ) (d : Damage (multiframesOf u) (imageOf u
   all-counted (x ∷ l) h =
       rw (ne-eqb x 0 (λ e. true-false (sym (h 0 (omega arith)) ∙ ap bad e))) (ap suc (all-counted l (λ k j. h (suc k) (omega arith))))
 
-  pub all-bad-refuses : (2 ≤ m) ⊎ (headerFlips (imageOf u) s 0 ≡ 0) → ((q : ℕ) → q < pairsOf u → BadPair u s codebook thresholds q)
-      → reading s codebook thresholds index report ≡ outcome (Refused AllBad) index report
+  pub all-bad-refuses : (2 ≤ m) ⊎ (headerFlips (imageOf u) s 0 ≡ 0) → ((q : ℕ) → q < pairsOf u → BadPair u s tables q)
+      → reading s tables index report ≡ outcome (Refused AllBad) index report
   all-bad-refuses heads every =
-      let ns = receivedNotes s (rowOf m) codebook thresholds in
-      let ln : length ns ≡ pairCount (rowOf m) = length-notes (received s (rowOf m)) (pairCount (rowOf m)) codebook thresholds in
-      refuses-20 s m few size syncs codebook thresholds index report (omega arith) lent (sentCommon u) (settles u s (loosened (lit< tt) d .headers) (enough u s d heads))
+      let ns = receivedNotes s (rowOf m) tables in
+      let ln : length ns ≡ pairCount (rowOf m) = length-notes (received s (rowOf m)) (pairCount (rowOf m)) tables in
+      refuses-20 s m few size syncs tables index report (omega arith) lent (sentCommon u) (settles u s (loosened (lit< tt) d .headers) (enough u s d heads))
       (record { rate = λ e. rate-not-2 u (sym (rate-sent u) ∙ e); exp = exp-sent u })
       (all-counted ns (λ k h. note k (omega (arith, ln, every-length 0 m))) ∙ ln)
     where
-      note : (q : ℕ) → q < pairsOf u → bad (getD (receivedNotes s (rowOf m) codebook thresholds) q 0) ≡ true
-      note q h = by (tells-bad u s d codebook thresholds q h)
+      note : (q : ℕ) → q < pairsOf u → bad (getD (receivedNotes s (rowOf m) tables) q 0) ≡ true
+      note q h = by (tells-bad u s d tables q h)
         where
-          by : Tells (BadPair u s codebook thresholds q) (bad (getD (receivedNotes s (rowOf m) codebook thresholds) q 0))
-              → bad (getD (receivedNotes s (rowOf m) codebook thresholds) q 0) ≡ true
+          by : Tells (BadPair u s tables q) (bad (getD (receivedNotes s (rowOf m) tables) q 0))
+              → bad (getD (receivedNotes s (rowOf m) tables) q 0) ≡ true
           by (is-so x e) = e
           by (not-so n e) = absurd (n (every q h))
 
@@ -144,8 +144,8 @@ module _ (u : Utterance) where
         each = λ q h. inr (subst (Damaged (packetOf (u .indices) q)) (sym (hit-part q)) (one-flip q));
       }
 
-  pub all-bad : (codebook thresholds : List ℤ) (q : ℕ) → q < pairsOf u → BadPair u allHurt codebook thresholds q
-  all-bad codebook thresholds q h =
+  pub all-bad : (tables : Tables) (q : ℕ) → q < pairsOf u → BadPair u allHurt tables q
+  all-bad tables q h =
       inl (λ e. differs (packetOf (u .indices) q) (flip (packetOf (u .indices) q) 0) (one-flip q)
       (sym (made-packet sentWord allHit (multiframesOf u) q h (hit-size (q / multiframePairs)) ∙ hit-part q) ∙ e
       ∙ image-packet (u .settings) (u .indices) (multiframesOf u) q h))
@@ -281,9 +281,9 @@ mended-1 =
     sym (header-near says1 (hurtImage says1) 0 (lit< tt))
     ∙ ap (λ (x : ℕ). flipsTo x (sentMessage says1 0)) (made-word (hurtWord says1) (hurtStream says1) 1 0 (lit< tt) l) ∙ flips-of (sentMessage says1 0) 3 ∙ e
 
-pub unsettled-1 : reading (hurtImage says1) zeroBook zeroThresholds (indexFor 1) (reportFor 1) ≡ outcome (Refused Unsettled) (indexFor 1) (reportFor 1)
+pub unsettled-1 : reading (hurtImage says1) zeroTables (indexFor 1) (reportFor 1) ≡ outcome (Refused Unsettled) (indexFor 1) (reportFor 1)
 unsettled-1 =
-    mended-unsettles says1 (hurtImage says1) (hurts says1) zeroBook zeroThresholds (indexFor 1) (reportFor 1) (lent-zeros 1) refl
+    mended-unsettles says1 (hurtImage says1) (hurts says1) zeroTables (indexFor 1) (reportFor 1) (lent-zeros 1) refl
     (λ e. let z : _≡_ {A = ℕ} 2 0 = sym mended-1 ∙ e in omega arith)
 
 untouched-1 : headerFlips (imageOf says1) (allHurt says1) 0 ≡ 0
@@ -292,27 +292,27 @@ untouched-1 =
     ∙ ap (λ (x : ℕ). flipsTo x (sentMessage says1 0))
     (made-word (sentWord says1) (allHit says1) 1 0 (lit< tt) (codeword-lt (sentMessage says1 0) (message-lt (settings 0 0) 1 0))) ∙ none-wrong says1 0
 
-pub all-bad-1 : reading (allHurt says1) zeroBook zeroThresholds (indexFor 1) (reportFor 1) ≡ outcome (Refused AllBad) (indexFor 1) (reportFor 1)
+pub all-bad-1 : reading (allHurt says1) zeroTables (indexFor 1) (reportFor 1) ≡ outcome (Refused AllBad) (indexFor 1) (reportFor 1)
 all-bad-1 =
-    all-bad-refuses says1 (allHurt says1) (all-hurts says1) zeroBook zeroThresholds (indexFor 1) (reportFor 1) (lent-zeros 1) (inr untouched-1)
-    (all-bad says1 zeroBook zeroThresholds)
+    all-bad-refuses says1 (allHurt says1) (all-hurts says1) zeroTables (indexFor 1) (reportFor 1) (lent-zeros 1) (inr untouched-1)
+    (all-bad says1 zeroTables)
 
 -- ---- WRITES AGAIN NEEDS AN END AND NO INVERSE SYNC: of what was read and is accepted, the writer writes as many multiframes as were read if the
 -- end is 1, so whatever stood between them is gone, and one more if it is 0
-module _ (s : List ℕ) (codebook thresholds : List ℤ) (index report output : List ℕ) (given : Summary)
-    (succeeds : A.result s codebook thresholds index report output given .answer ≡ Read given) (octets : ℕ)
-    (accepts : A.again s codebook thresholds index report output given .answer ≡ Written octets) where
-  w : A.WasRead s codebook thresholds index report output given
-  w = A.was-read s codebook thresholds index report output given succeeds
+module _ (s : List ℕ) (tables : Tables) (index report output : List ℕ) (given : Summary)
+    (succeeds : A.result s tables index report output given .answer ≡ Read given) (octets : ℕ)
+    (accepts : A.again s tables index report output given .answer ≡ Written octets) where
+  w : A.WasRead s tables index report output given
+  w = A.was-read s tables index report output given succeeds
 
   abbrev places : List ℕ
   places = cutting s .places
 
   abbrev all : List ℕ
-  all = indexPart s places (receivedNotes s places codebook thresholds)
+  all = indexPart s places (receivedNotes s places tables)
 
   read-size : length all ≡ frameIndices * (multiframeFrames * length places)
-  read-size = length-index s places (receivedNotes s places codebook thresholds) (length-notes (received s places) (pairCount places) codebook thresholds) ∙ omega arith
+  read-size = length-index s places (receivedNotes s places tables) (length-notes (received s places) (pairCount places) tables) ∙ omega arith
 
   some : 0 < length places
   some = by (length places) (w .reader-accepts .some)
@@ -326,7 +326,7 @@ module _ (s : List ℕ) (codebook thresholds : List ℤ) (index report output : 
   end-is : given .end ≡ endOf (length places) all
   end-is = ap (λ (g : Summary). g .end) (w .given-is)
 
-  frames-are : take (frameIndices * given .speech) (A.result s codebook thresholds index report output given .index) ≡ spoken all (length places) some read-size
+  frames-are : take (frameIndices * given .speech) (A.result s tables index report output given .index) ≡ spoken all (length places) some read-size
   frames-are =
       let n = speechOf (length places) all in
       ap₂ (λ (k : ℕ) (o : Outcome). take (frameIndices * k) (o .index)) (ap (λ (g : Summary). g .speech) (w .given-is)) (w .result-is)

@@ -14,7 +14,6 @@ use native.Mathlib.Omega.{arith}
 use lib.Bits.{xor-self}
 use lib.Count.{ones, ones-le}
 use lib.Dec.{eqb, lit<}
-use lib.IntN.{ℤ}
 use lib.ListN.{length, take, drop, getD, replicate, length-replicate, getD-replicate, length-append, replicate-append-replicate, List·getD-append, List·getD-eq-default}
 use lib.Seq.{take-at, ext-getD, getD-take, getD-drop, getD-append-add}
 use borrow.Author.Tests.{eq-eqb, eqb-true}
@@ -22,6 +21,7 @@ use Rattle.lists.specs.Tests.{true-false, not-false}
 use Rattle.lists.specs.Parts.{part, over, length-part}
 use Rattle.lists.specs.Rows.{joined, same-joined}
 use Rattle.layout.specs.Layout.{frameIndices, multiframeFrames, multiframePairs, indexOctets, reportOctets, firstPair}
+use Rattle.consistency.specs.Tables.{Tables}
 use Rattle.settings.specs.declared.Settings.{Settings}
 use Rattle.frames.specs.Frames.{allZero, zeroFrame, all-zero-at, Nonzero}
 use Rattle.packet.specs.Packet.{frameAt}
@@ -167,41 +167,41 @@ module _ (u : Utterance) where
 
 -- ---- the image as the reader takes it, with no pair damaged: so none is bad, whatever the tables
 module _ (u : Utterance) (s : List ℕ) (d : DamageUpTo 3 (multiframesOf u) (imageOf u) s) (untouched : (q : ℕ) → q < pairsOf u → packetIn s q ≡ packetIn (imageOf u) q)
-    (headers : Settling u s) (codebook thresholds : List ℤ) (index report : List ℕ) (lent : Lent (multiframesOf u) codebook thresholds index report) where
+    (headers : Settling u s) (tables : Tables) (index report : List ℕ) (lent : Lent (multiframesOf u) tables index report) where
   abbrev places : List ℕ
   places = rowOf (multiframesOf u)
 
   abbrev ns : List ℕ
-  ns = receivedNotes s places codebook thresholds
+  ns = receivedNotes s places tables
 
-  never-before : (q : ℕ) → q ≤ pairsOf u → BadBefore u s codebook thresholds q → ⊥
+  never-before : (q : ℕ) → q ≤ pairsOf u → BadBefore u s tables q → ⊥
   unfolding BadBefore
   never-before zero h b = b
   never-before (suc q) h b =
       ⊎-elim (λ t. t (untouched q (omega arith))) (λ r. ⊎-elim (λ x. x .1 (untouched (suc q) (x .0))) (never-before q (omega arith)) (r .1)) b
 
   -- no pair is bad
-  pub never-bad : (q : ℕ) → q < pairsOf u → BadPair u s codebook thresholds q → ⊥
+  pub never-bad : (q : ℕ) → q < pairsOf u → BadPair u s tables q → ⊥
   unfolding BadBefore
   never-bad q h = never-before (suc q) (omega arith)
 
-  premises : N.Wider u s codebook thresholds index report
+  premises : N.Wider u s tables index report
   premises = record { damage = d; headers = headers; pair = 0; within = omega arith; not-bad = never-bad 0 (omega arith); lent = lent }
 
   rows : length places ≡ multiframesOf u
   rows = every-length 0 (multiframesOf u)
 
   notes-size : length ns ≡ pairCount places
-  notes-size = length-notes (received s places) (pairCount places) codebook thresholds
+  notes-size = length-notes (received s places) (pairCount places) tables
 
   -- all pair notes are 0
   pair-notes : (q : ℕ) → q < length ns → getD ns q 0 ≡ 0
-  pair-notes q h = by (tells-bad u s d codebook thresholds q within)
+  pair-notes q h = by (tells-bad u s d tables q within)
     where
       within : q < pairsOf u
       within = omega (arith, notes-size, rows)
 
-      by : Tells (BadPair u s codebook thresholds q) (bad (getD ns q 0)) → getD ns q 0 ≡ 0
+      by : Tells (BadPair u s tables q) (bad (getD ns q 0)) → getD ns q 0 ≡ 0
       by (is-so x e) = absurd (never-bad q within x)
       by (not-so x e) = eqb-true (getD ns q 0) 0 (not-false (eqb (getD ns q 0) 0) e)
 
@@ -229,7 +229,7 @@ module _ (u : Utterance) (s : List ℕ) (d : DamageUpTo 3 (multiframesOf u) (ima
   frame-is : (k : ℕ) → k < multiframeFrames * multiframesOf u → part (frameIndices * k) frameIndices (receivedFrames s places) ≡ frameAt (u .indices) k
   frame-is k h =
       let all = receivedFrames s places in
-      let b = N.frame-in-pair u s codebook thresholds index report premises (k / 2) (omega arith) (pair-notes (k / 2) (omega (arith, notes-size, rows))) in
+      let b = N.frame-in-pair u s tables index report premises (k / 2) (omega arith) (pair-notes (k / 2) (omega (arith, notes-size, rows))) in
       elim (ℕ-discrete (2 * (k / 2)) k) [
         | yes e ↦ subst (λ (j : ℕ). part (frameIndices * j) frameIndices all ≡ frameAt (u .indices) j) e (b .0)
         | no x ↦ let e : 2 * (k / 2) + 1 ≡ k = omega arith in subst (λ (j : ℕ). part (frameIndices * j) frameIndices all ≡ frameAt (u .indices) j) e (b .1)
@@ -263,18 +263,18 @@ module _ (u : Utterance) (s : List ℕ) (d : DamageUpTo 3 (multiframesOf u) (ima
       p
 
   -- HEADERS HURT: with no pair damaged and the settings settled, headers of at most three flips cost nothing but their notes
-  pub reads-undamaged : reading s codebook thresholds index report
+  pub reads-undamaged : reading s tables index report
       ≡ outcome (Read (spoken u)) (over index 0 (indexOctets * multiframesOf u) (padded u)) (over report 0 (reportOctets * multiframesOf u) (mendedReport u s))
   reads-undamaged =
-      N.read-is u s codebook thresholds index report premises
+      N.read-is u s tables index report premises
       ∙ ap₂ (λ (a : Summary) (i : List ℕ). outcome (Read a) i (over report 0 (reportOctets * length places) (reportPart s places ns (sentCommon u)))) answer-is
       (ap₂ (λ (k : ℕ) (l : List ℕ). over index 0 (indexOctets * k) l) rows index-is)
       ∙ ap (outcome (Read (spoken u)) (over index 0 (indexOctets * multiframesOf u) (padded u))) (ap₂ (λ (k : ℕ) (l : List ℕ). over report 0 (reportOctets * k) l) rows report-is)
 
 -- so where no header has more than two flips, two multiframes or an untouched only header are enough
 pub reads-mended : (u : Utterance) (s : List ℕ) → Damage (multiframesOf u) (imageOf u) s → ((q : ℕ) → q < pairsOf u → packetIn s q ≡ packetIn (imageOf u) q)
-    → (2 ≤ multiframesOf u) ⊎ (headerFlips (imageOf u) s 0 ≡ 0) → (codebook thresholds : List ℤ) (index report : List ℕ) → Lent (multiframesOf u) codebook thresholds index report
-    → reading s codebook thresholds index report
+    → (2 ≤ multiframesOf u) ⊎ (headerFlips (imageOf u) s 0 ≡ 0) → (tables : Tables) (index report : List ℕ) → Lent (multiframesOf u) tables index report
+    → reading s tables index report
     ≡ outcome (Read (spoken u)) (over index 0 (indexOctets * multiframesOf u) (padded u)) (over report 0 (reportOctets * multiframesOf u) (mendedReport u s))
 reads-mended u s d untouched headers = reads-undamaged u s (loosened (lit< tt) d) untouched (enough u s d headers)
 
@@ -287,26 +287,26 @@ report-clean u =
     same-joined (λ k. headerFlips (imageOf u) (imageOf u) k ∷ replicate multiframePairs 0) (λ k. replicate reportOctets 0) (multiframesOf u)
     (λ k h. ap (λ (x : ℕ). x ∷ replicate multiframePairs 0) (no-flips (imageOf u) k)) ∙ zero-rows reportOctets (multiframesOf u)
 
-pub reads-image : (u : Utterance) (codebook thresholds : List ℤ) (index report : List ℕ) → Lent (multiframesOf u) codebook thresholds index report
-    → reading (imageOf u) codebook thresholds index report
+pub reads-image : (u : Utterance) (tables : Tables) (index report : List ℕ) → Lent (multiframesOf u) tables index report
+    → reading (imageOf u) tables index report
     ≡ outcome (Read (spoken u)) (over index 0 (indexOctets * multiframesOf u) (padded u)) (over report 0 (reportOctets * multiframesOf u) (replicate (reportOctets * multiframesOf u) 0))
-reads-image u codebook thresholds index report lent =
-    reads-mended u (imageOf u) (unharmed u) (λ q h. refl) (inr (no-flips (imageOf u) 0)) codebook thresholds index report lent
+reads-image u tables index report lent =
+    reads-mended u (imageOf u) (unharmed u) (λ q h. refl) (inr (no-flips (imageOf u) 0)) tables index report lent
     ∙ ap (λ (r : List ℕ). outcome (Read (spoken u)) (over index 0 (indexOctets * multiframesOf u) (padded u)) (over report 0 (reportOctets * multiframesOf u) r)) (report-clean u)
 
 -- ---- the theorem, over what the writer leaves in an output
-module _ (u : Utterance) (codebook thresholds : List ℤ) (output index report : List ℕ) where
+module _ (u : Utterance) (tables : Tables) (output index report : List ℕ) where
   pub record Premises : Type 0 where
     -- "with 01's tables and room"
     pub output-room : needed (u .indices) ≤ length output
-    pub lent : Lent (multiframesOf u) codebook thresholds index report
+    pub lent : Lent (multiframesOf u) tables index report
 
   abbrev pub written : W.Outcome
   written = writing (u .settings) (u .indices) output
 
   -- "reading the written image"
   abbrev pub result : Outcome
-  result = reading (take (needed (u .indices)) (written .output)) codebook thresholds index report
+  result = reading (take (needed (u .indices)) (written .output)) tables index report
 
   pub record Back : Type 0 where
     pub accepted : written .answer ≡ Written (needed (u .indices))
@@ -326,7 +326,7 @@ module _ (u : Utterance) (codebook thresholds : List ℤ) (output index report :
   back : Premises → Back
   back p =
       let e : result ≡ outcome (Read (spoken u)) (over index 0 (indexOctets * multiframesOf u) (padded u)) (over report 0 (reportOctets * multiframesOf u) (replicate (reportOctets * multiframesOf u) 0)) =
-      ap (λ (i : List ℕ). reading i codebook thresholds index report) (image-back (p .output-room)) ∙ reads-image u codebook thresholds index report (p .lent) in
+      ap (λ (i : List ℕ). reading i tables index report) (image-back (p .output-room)) ∙ reads-image u tables index report (p .lent) in
       record {
         accepted = ap (λ (o : W.Outcome). o .answer) (writes u output (p .output-room));
         succeeds = ap (λ (o : Outcome). o .answer) e;
@@ -334,6 +334,6 @@ module _ (u : Utterance) (codebook thresholds : List ℤ) (output index report :
         frames = ap (λ (o : Outcome). o .index) e;
       }
 
-pub reads-back : (u : Utterance) (codebook thresholds : List ℤ) (output index report : List ℕ) → Premises u codebook thresholds output index report
-    → Back u codebook thresholds output index report
+pub reads-back : (u : Utterance) (tables : Tables) (output index report : List ℕ) → Premises u tables output index report
+    → Back u tables output index report
 reads-back = back

@@ -9,12 +9,12 @@ use Prim.Native.Nat.{ℕ, zero, suc, _+_, _*_, _≤_, _<_}
 use native.Mathlib.Decide.{decLt}
 use native.Mathlib.Omega.{arith}
 use lib.Dec.{eqb}
-use lib.IntN.{ℤ}
 use lib.ListN.{length, take, drop, getD, List·getD-eq-default}
 use lib.Seq.{take-at, drop-at}
 use Rattle.lists.specs.Tests.{when, true-false}
 use Rattle.lists.specs.Rows.{each, length-each, each-at}
 use Rattle.layout.specs.Layout.{widths, frameIndices, dataBits, multiframePairs, firstFrame, secondFrame}
+use Rattle.consistency.specs.Tables.{Tables}
 use Rattle.crc.specs.Crc.{right}
 use Rattle.packet.specs.Packet.{apart, frameAt}
 use Rattle.packet.specs.Laws.{length-row, packetOf-back}
@@ -32,10 +32,10 @@ use Rattle.demands.specs.Damage.{DamageUpTo, Touched, Fate, whole, hit, 
 use Rattle.demands.specs.Whole.{rowOf, packet-at}
 
 -- ---- 01's bad pairs, of a damaged image: said of the utterance and the damage alone
-module _ (u : Utterance) (s : List ℕ) (codebook thresholds : List ℤ) where
+module _ (u : Utterance) (s : List ℕ) (tables : Tables) where
   -- pair q as it was written is inconsistent
   abbrev pub Inconsistent : ℕ → Type 0
-  Inconsistent q = inconsistent codebook thresholds (frameAt (u .indices) (firstFrame q)) (frameAt (u .indices) (secondFrame q)) ≡ true
+  Inconsistent q = inconsistent tables (frameAt (u .indices) (firstFrame q)) (frameAt (u .indices) (secondFrame q)) ≡ true
 
   -- the next pair is damaged; the last has none after it
   abbrev pub NextTouched : ℕ → Type 0
@@ -161,36 +161,36 @@ module _ {most : ℕ} (u : Utterance) (s : List ℕ) (d : DamageUpTo most (multi
             ap (apart widths) (packet-at s m q h ∙ e) ∙ packetOf-back (u .indices) q (fits-each-frame u (firstFrame q)) (fits-each-frame u (secondFrame q))
         by (hit t r) = absurd (n t)
 
-    module _ (codebook thresholds : List ℤ) where
-      inconsistent-kept : (Touched (imageOf u) s q → ⊥) → pairInconsistent (received s (rowOf m)) codebook thresholds q
-          ≡ inconsistent codebook thresholds (frameAt (u .indices) (firstFrame q)) (frameAt (u .indices) (secondFrame q))
+    module _ (tables : Tables) where
+      inconsistent-kept : (Touched (imageOf u) s q → ⊥) → pairInconsistent (received s (rowOf m)) tables q
+          ≡ inconsistent tables (frameAt (u .indices) (firstFrame q)) (frameAt (u .indices) (secondFrame q))
       unfolding pairInconsistent
       inconsistent-kept n =
           let f = frameAt (u .indices) (firstFrame q) in
           let g = frameAt (u .indices) (secondFrame q) in
           let lf : length f ≡ frameIndices = length-row (u .indices) (frameIndices * firstFrame q) frameIndices in
-          ap (λ (l : List ℕ). inconsistent codebook thresholds (take frameIndices l) (drop frameIndices l)) (frames-kept n)
-          ∙ ap₂ (inconsistent codebook thresholds) (take-at f g frameIndices lf) (drop-at f g frameIndices lf)
+          ap (λ (l : List ℕ). inconsistent tables (take frameIndices l) (drop frameIndices l)) (frames-kept n)
+          ∙ ap₂ (inconsistent tables) (take-at f g frameIndices lf) (drop-at f g frameIndices lf)
 
-      tells-inconsistent : (Touched (imageOf u) s q → ⊥) → Tells (Inconsistent u s codebook thresholds q) (pairInconsistent (received s (rowOf m)) codebook thresholds q)
-      tells-inconsistent n = by (inconsistent codebook thresholds (frameAt (u .indices) (firstFrame q)) (frameAt (u .indices) (secondFrame q))) refl
+      tells-inconsistent : (Touched (imageOf u) s q → ⊥) → Tells (Inconsistent u s tables q) (pairInconsistent (received s (rowOf m)) tables q)
+      tells-inconsistent n = by (inconsistent tables (frameAt (u .indices) (firstFrame q)) (frameAt (u .indices) (secondFrame q))) refl
         where
-          by : (t : Bool) → inconsistent codebook thresholds (frameAt (u .indices) (firstFrame q)) (frameAt (u .indices) (secondFrame q)) ≡ t
-              → Tells (Inconsistent u s codebook thresholds q) (pairInconsistent (received s (rowOf m)) codebook thresholds q)
+          by : (t : Bool) → inconsistent tables (frameAt (u .indices) (firstFrame q)) (frameAt (u .indices) (secondFrame q)) ≡ t
+              → Tells (Inconsistent u s tables q) (pairInconsistent (received s (rowOf m)) tables q)
           by true e = is-so e (inconsistent-kept n ∙ e)
           by false e = not-so (λ y. true-false (sym y ∙ e)) (inconsistent-kept n ∙ e)
 
-  module _ (codebook thresholds : List ℤ) where
+  module _ (tables : Tables) where
     abbrev fs : List Bool
     fs = each (pairFails (received s (rowOf m))) (pairCount (rowOf m))
 
     abbrev os : List Bool
-    os = each (pairInconsistent (received s (rowOf m)) codebook thresholds) (pairCount (rowOf m))
+    os = each (pairInconsistent (received s (rowOf m)) tables) (pairCount (rowOf m))
 
     abbrev ns : List ℕ
-    ns = receivedNotes s (rowOf m) codebook thresholds
+    ns = receivedNotes s (rowOf m) tables
 
-    tells-next : (q : ℕ) → Tells (NextTouched u s codebook thresholds q) (getD fs (suc q) false)
+    tells-next : (q : ℕ) → Tells (NextTouched u s tables q) (getD fs (suc q) false)
     tells-next q =
         elim (decLt (suc q) (pairsOf u)) [
           | yes h ↦ by h (tells-touched (suc q) h)
@@ -202,19 +202,19 @@ module _ {most : ℕ} (u : Utterance) (s : List ℕ) (d : DamageUpTo most (multi
         at : suc q < pairsOf u → getD fs (suc q) false ≡ pairFails (received s (rowOf m)) (suc q)
         at h = each-at (pairFails (received s (rowOf m))) (pairCount (rowOf m)) (suc q) false (omega (arith, pairs-are))
 
-        by : suc q < pairsOf u → Tells (Touched (imageOf u) s (suc q)) (pairFails (received s (rowOf m)) (suc q)) → Tells (NextTouched u s codebook thresholds q) (getD fs (suc q) false)
+        by : suc q < pairsOf u → Tells (Touched (imageOf u) s (suc q)) (pairFails (received s (rowOf m)) (suc q)) → Tells (NextTouched u s tables q) (getD fs (suc q) false)
         by h (is-so t e) = is-so (h, t) (at h ∙ e)
         by h (not-so n e) = not-so (λ t. n (t .1)) (at h ∙ e)
 
     note-is : (q : ℕ) → q < pairsOf u
-        → getD ns q 0 ≡ noteBy (badBefore false ns q) (pairFails (received s (rowOf m)) q) (pairInconsistent (received s (rowOf m)) codebook thresholds q) (getD fs (suc q) false)
+        → getD ns q 0 ≡ noteBy (badBefore false ns q) (pairFails (received s (rowOf m)) q) (pairInconsistent (received s (rowOf m)) tables q) (getD fs (suc q) false)
     unfolding pairNotes
     note-is q h =
         let n = pairCount (rowOf m) in
         let l : q < n = omega (arith, pairs-are) in
         note-at false fs os q (omega (arith, length-each (pairFails (received s (rowOf m))) n))
         ∙ ap₂ (λ (x y : Bool). noteBy (badBefore false (notes fs os) q) x y (getD fs (suc q) false)) (each-at (pairFails (received s (rowOf m))) n q false l)
-        (each-at (pairInconsistent (received s (rowOf m)) codebook thresholds) n q false l)
+        (each-at (pairInconsistent (received s (rowOf m)) tables) n q false l)
 
     -- the note of a damaged pair is 1
     pub touched-note : (q : ℕ) → q < pairsOf u → Touched (imageOf u) s q → getD ns q 0 ≡ 1
@@ -222,54 +222,54 @@ module _ {most : ℕ} (u : Utterance) (s : List ℕ) (d : DamageUpTo most (multi
       where
         by : Tells (Touched (imageOf u) s q) (pairFails (received s (rowOf m)) q) → getD ns q 0 ≡ 1
         by (is-so x e) =
-            note-is q h ∙ ap (λ (f : Bool). noteBy (badBefore false ns q) f (pairInconsistent (received s (rowOf m)) codebook thresholds q) (getD fs (suc q) false)) e
-            ∙ failed-is-1 (badBefore false ns q) (pairInconsistent (received s (rowOf m)) codebook thresholds q) (getD fs (suc q) false)
+            note-is q h ∙ ap (λ (f : Bool). noteBy (badBefore false ns q) f (pairInconsistent (received s (rowOf m)) tables q) (getD fs (suc q) false)) e
+            ∙ failed-is-1 (badBefore false ns q) (pairInconsistent (received s (rowOf m)) tables q) (getD fs (suc q) false)
         by (not-so n e) = absurd (n t)
 
     -- and of any other tells whether the rule makes it bad
-    rule-note : (q : ℕ) → q < pairsOf u → (Touched (imageOf u) s q → ⊥) → Tells (BadBefore u s codebook thresholds q) (badBefore false ns q)
-        → Tells (ByRule u s codebook thresholds q) (bad (getD ns q 0))
+    rule-note : (q : ℕ) → q < pairsOf u → (Touched (imageOf u) s q → ⊥) → Tells (BadBefore u s tables q) (badBefore false ns q)
+        → Tells (ByRule u s tables q) (bad (getD ns q 0))
     rule-note q h n b = by (tells-touched q h)
       where
-        by : Tells (Touched (imageOf u) s q) (pairFails (received s (rowOf m)) q) → Tells (ByRule u s codebook thresholds q) (bad (getD ns q 0))
+        by : Tells (Touched (imageOf u) s q) (pairFails (received s (rowOf m)) q) → Tells (ByRule u s tables q) (bad (getD ns q 0))
         by (is-so x e) = absurd (n x)
         by (not-so x e) =
-            subst (λ (i : ℕ). Tells (ByRule u s codebook thresholds q) (bad i))
-            (sym (note-is q h ∙ ap (λ (f : Bool). noteBy (badBefore false ns q) f (pairInconsistent (received s (rowOf m)) codebook thresholds q) (getD fs (suc q) false)) e))
-            (ruled (badBefore false ns q) (pairInconsistent (received s (rowOf m)) codebook thresholds q) (getD fs (suc q) false) (BadBefore u s codebook thresholds q) (Inconsistent u s codebook thresholds q)
-            (NextTouched u s codebook thresholds q) b (tells-inconsistent q h codebook thresholds n) (tells-next q))
+            subst (λ (i : ℕ). Tells (ByRule u s tables q) (bad i))
+            (sym (note-is q h ∙ ap (λ (f : Bool). noteBy (badBefore false ns q) f (pairInconsistent (received s (rowOf m)) tables q) (getD fs (suc q) false)) e))
+            (ruled (badBefore false ns q) (pairInconsistent (received s (rowOf m)) tables q) (getD fs (suc q) false) (BadBefore u s tables q) (Inconsistent u s tables q)
+            (NextTouched u s tables q) b (tells-inconsistent q h tables n) (tells-next q))
 
     -- so the notes tell which pairs are bad
-    tells-before : (q : ℕ) → q ≤ pairsOf u → Tells (BadBefore u s codebook thresholds q) (badBefore false ns q)
+    tells-before : (q : ℕ) → q ≤ pairsOf u → Tells (BadBefore u s tables q) (badBefore false ns q)
     unfolding BadBefore
     tells-before zero h = not-so (λ x. x) refl
     tells-before (suc q) h = by (tells-touched q (omega arith)) (tells-before q (omega arith))
       where
-        by : Tells (Touched (imageOf u) s q) (pairFails (received s (rowOf m)) q) → Tells (BadBefore u s codebook thresholds q) (badBefore false ns q)
-            → Tells (BadPair u s codebook thresholds q) (bad (getD ns q 0))
+        by : Tells (Touched (imageOf u) s q) (pairFails (received s (rowOf m)) q) → Tells (BadBefore u s tables q) (badBefore false ns q)
+            → Tells (BadPair u s tables q) (bad (getD ns q 0))
         by (is-so t e) b = is-so (inl t) (ap bad (touched-note q (omega arith) t))
         by (not-so n e) b = from (rule-note q (omega arith) n b)
           where
-            from : Tells (ByRule u s codebook thresholds q) (bad (getD ns q 0)) → Tells (BadPair u s codebook thresholds q) (bad (getD ns q 0))
+            from : Tells (ByRule u s tables q) (bad (getD ns q 0)) → Tells (BadPair u s tables q) (bad (getD ns q 0))
             from (is-so r x) = is-so (inr r) x
             from (not-so k x) = not-so (λ z. ⊎-elim n k z) x
 
-    pub tells-rule : (q : ℕ) → q < pairsOf u → (Touched (imageOf u) s q → ⊥) → Tells (ByRule u s codebook thresholds q) (bad (getD ns q 0))
+    pub tells-rule : (q : ℕ) → q < pairsOf u → (Touched (imageOf u) s q → ⊥) → Tells (ByRule u s tables q) (bad (getD ns q 0))
     tells-rule q h n = rule-note q h n (tells-before q (omega arith))
 
-    pub tells-bad : (q : ℕ) → q < pairsOf u → Tells (BadPair u s codebook thresholds q) (bad (getD ns q 0))
+    pub tells-bad : (q : ℕ) → q < pairsOf u → Tells (BadPair u s tables q) (bad (getD ns q 0))
     unfolding BadBefore
     tells-bad q h = tells-before (suc q) (omega arith)
 
     -- ---- exact notes
     other-note : (q : ℕ) → q < pairsOf u → (Touched (imageOf u) s q → ⊥)
-        → getD ns q 0 ≡ noteBy (badBefore false ns q) false (pairInconsistent (received s (rowOf m)) codebook thresholds q) (getD fs (suc q) false)
+        → getD ns q 0 ≡ noteBy (badBefore false ns q) false (pairInconsistent (received s (rowOf m)) tables q) (getD fs (suc q) false)
     other-note q h n = by (tells-touched q h)
       where
         by : Tells (Touched (imageOf u) s q) (pairFails (received s (rowOf m)) q)
-            → getD ns q 0 ≡ noteBy (badBefore false ns q) false (pairInconsistent (received s (rowOf m)) codebook thresholds q) (getD fs (suc q) false)
+            → getD ns q 0 ≡ noteBy (badBefore false ns q) false (pairInconsistent (received s (rowOf m)) tables q) (getD fs (suc q) false)
         by (is-so t x) = absurd (n t)
-        by (not-so k x) = note-is q h ∙ ap (λ (f : Bool). noteBy (badBefore false ns q) f (pairInconsistent (received s (rowOf m)) codebook thresholds q) (getD fs (suc q) false)) x
+        by (not-so k x) = note-is q h ∙ ap (λ (f : Bool). noteBy (badBefore false ns q) f (pairInconsistent (received s (rowOf m)) tables q) (getD fs (suc q) false)) x
 
     -- the note is 1 of no other pair than a damaged one
     pub note-one : (q : ℕ) → q < pairsOf u → getD ns q 0 ≡ 1 → Touched (imageOf u) s q
@@ -279,20 +279,20 @@ module _ {most : ℕ} (u : Utterance) (s : List ℕ) (d : DamageUpTo most (multi
         by (is-so t x) = t
         by (not-so n x) =
             absurd (⊎-elim (λ z. let y : _≡_ {A = ℕ} 0 1 = sym z ∙ sym (other-note q h n) ∙ e in omega arith) (λ z. let y : _≡_ {A = ℕ} 2 1 = sym z ∙ sym (other-note q h n) ∙ e in omega arith)
-            (zero-or-two (badBefore false ns q) (pairInconsistent (received s (rowOf m)) codebook thresholds q) (getD fs (suc q) false)))
+            (zero-or-two (badBefore false ns q) (pairInconsistent (received s (rowOf m)) tables q) (getD fs (suc q) false)))
 
     -- and an undamaged pair that the rule makes bad has note 2
-    pub note-two : (q : ℕ) → q < pairsOf u → (Touched (imageOf u) s q → ⊥) → ByRule u s codebook thresholds q → getD ns q 0 ≡ 2
+    pub note-two : (q : ℕ) → q < pairsOf u → (Touched (imageOf u) s q → ⊥) → ByRule u s tables q → getD ns q 0 ≡ 2
     note-two q h n r = by (tells-rule q h n)
       where
-        by : Tells (ByRule u s codebook thresholds q) (bad (getD ns q 0)) → getD ns q 0 ≡ 2
+        by : Tells (ByRule u s tables q) (bad (getD ns q 0)) → getD ns q 0 ≡ 2
         by (not-so l y) = absurd (l r)
         by (is-so l y) =
             ⊎-elim (λ z. absurd (true-false (sym y ∙ ap bad (other-note q h n ∙ z)))) (λ z. other-note q h n ∙ z)
-            (zero-or-two (badBefore false ns q) (pairInconsistent (received s (rowOf m)) codebook thresholds q) (getD fs (suc q) false))
+            (zero-or-two (badBefore false ns q) (pairInconsistent (received s (rowOf m)) tables q) (getD fs (suc q) false))
 
     -- the number of bad pairs
-    pub bad-counted : Count (BadPair u s codebook thresholds) (pairsOf u) (badPairs ns)
+    pub bad-counted : Count (BadPair u s tables) (pairsOf u) (badPairs ns)
     bad-counted =
-        subst (λ (n : ℕ). Count (BadPair u s codebook thresholds) n (badPairs ns)) (length-notes (received s (rowOf m)) (pairCount (rowOf m)) codebook thresholds ∙ pairs-are)
-        (count-bad (BadPair u s codebook thresholds) ns (λ q h. tells-bad q (omega (arith, length-notes (received s (rowOf m)) (pairCount (rowOf m)) codebook thresholds, pairs-are))))
+        subst (λ (n : ℕ). Count (BadPair u s tables) n (badPairs ns)) (length-notes (received s (rowOf m)) (pairCount (rowOf m)) tables ∙ pairs-are)
+        (count-bad (BadPair u s tables) ns (λ q h. tells-bad q (omega (arith, length-notes (received s (rowOf m)) (pairCount (rowOf m)) tables, pairs-are))))

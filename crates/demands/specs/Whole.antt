@@ -8,12 +8,12 @@ use Rattle.replacing.specs.Laws.{good-stays, replaced-length, replaced-at}
 use mathlib.Core.List.{List, _∷_}
 use Prim.Native.Nat.{ℕ, suc, _+_, _*_, _/_, _%_, _≤_, _<_}
 use native.Mathlib.Omega.{arith}
-use lib.IntN.{ℤ}
 use lib.ListN.{length, drop, getD, List·getD-append}
 use lib.Seq.{ext-getD, getD-take, getD-drop}
 use Rattle.lists.specs.Parts.{part, over, part-left}
 use Rattle.lists.specs.Rows.{each, same-each}
 use Rattle.layout.specs.Layout.{frameIndices, multiframePairs, multiframeOctets, mostMultiframes, indexOctets, reportOctets, codebookNumbers, thresholdNumbers, pairOf, multiframeOf, firstPair, sync}
+use Rattle.consistency.specs.Tables.{Tables}
 use Rattle.bits.specs.Bits.{bits}
 use Rattle.cutting.specs.Cutting.{Cutting, whole, cutting}
 use Rattle.cutting.specs.Laws.{every, every-length, every-at, whole-image}
@@ -36,9 +36,9 @@ abbrev pub rowOf : ℕ → List ℕ
 rowOf m = every 0 m
 
 -- what 01's tables and room are: any codebook of 1,280 numbers and any 14 thresholds; 168m index octets and 13m report octets
-pub record Lent (m : ℕ) (codebook thresholds : List ℤ) (index report : List ℕ) : Type 0 where
-  pub codebook-size : length codebook ≡ codebookNumbers
-  pub thresholds-size : length thresholds ≡ thresholdNumbers
+pub record Lent (m : ℕ) (tables : Tables) (index report : List ℕ) : Type 0 where
+  pub codebook-size : length (tables .codebook) ≡ codebookNumbers
+  pub thresholds-size : length (tables .thresholds) ≡ thresholdNumbers
   pub index-room : indexOctets * m ≤ length index
   pub report-room : reportOctets * m ≤ length report
 
@@ -75,27 +75,27 @@ module _ (s : List ℕ) (m : ℕ) (few : m ≤ mostMultiframes) (size : length s
       (ap (λ (i : ℕ). getD s i 0) z ∙ in-sync k 0 h (omega arith), in-sync k 1 h (omega arith)))
 
   -- and read
-  pub reads-as : (codebook thresholds : List ℤ) (index report : List ℕ) (c : ℕ) → 0 < m → Lent m codebook thresholds index report
-      → Fitting (length (rowOf m)) (badPairs (receivedNotes s (rowOf m) codebook thresholds)) (pairCount (rowOf m)) (length index) (length report) (settling (readings s (rowOf m))) c
-      → reading s codebook thresholds index report
-      ≡ outcome (Read (summary s (rowOf m) (receivedNotes s (rowOf m) codebook thresholds) c))
-      (over index 0 (indexOctets * length (rowOf m)) (indexPart s (rowOf m) (receivedNotes s (rowOf m) codebook thresholds)))
-      (over report 0 (reportOctets * length (rowOf m)) (reportPart s (rowOf m) (receivedNotes s (rowOf m) codebook thresholds) c))
+  pub reads-as : (tables : Tables) (index report : List ℕ) (c : ℕ) → 0 < m → Lent m tables index report
+      → Fitting (length (rowOf m)) (badPairs (receivedNotes s (rowOf m) tables)) (pairCount (rowOf m)) (length index) (length report) (settling (readings s (rowOf m))) c
+      → reading s tables index report
+      ≡ outcome (Read (summary s (rowOf m) (receivedNotes s (rowOf m) tables) c))
+      (over index 0 (indexOctets * length (rowOf m)) (indexPart s (rowOf m) (receivedNotes s (rowOf m) tables)))
+      (over report 0 (reportOctets * length (rowOf m)) (reportPart s (rowOf m) (receivedNotes s (rowOf m) tables) c))
   unfolding reading
-  reads-as codebook thresholds index report c some lent fit =
+  reads-as tables index report c some lent fit =
       let pl : cutting s .places ≡ rowOf m = ap (λ (w : Cutting). w .places) cut-is in
-      let a : Accepted s codebook thresholds (length index) (length report) c =
+      let a : Accepted s tables (length index) (length report) c =
       record {
         codebook-size = lent .codebook-size;
         thresholds-size = lent .thresholds-size;
         uncut = ap (λ (w : Cutting). w .ending) cut-is;
         some = λ e. omega (arith, ap length pl, every-length 0 m);
         fitting = subst
-            (λ (ps : List ℕ). Fitting (length ps) (badPairs (receivedNotes s ps codebook thresholds)) (pairCount ps) (length index) (length report) (settling (readings s ps)) c)
+            (λ (ps : List ℕ). Fitting (length ps) (badPairs (receivedNotes s ps tables)) (pairCount ps) (length index) (length report) (settling (readings s ps)) c)
             (sym pl) fit;
       } in
-      ap₂ (λ (ps : List ℕ) (v : Verdict). finished s codebook thresholds index report ps v) pl
-      (accepting s codebook thresholds (length index) (length report) c a)
+      ap₂ (λ (ps : List ℕ) (v : Verdict). finished s tables index report ps v) pl
+      (accepting s tables (length index) (length report) c a)
 
 -- ---- the report: 13 octets a multiframe, its header note and then its twelve pair notes
 abbrev pub headerNoteIn : List ℕ → ℕ → ℕ
@@ -144,24 +144,24 @@ nothing-replaced ns l good size =
 
 -- ---- refusals that damage can bring: 16 and 20
 module _ (s : List ℕ) (m : ℕ) (few : m ≤ mostMultiframes) (size : length s ≡ multiframeOctets * m) (syncs : (k : ℕ) → k < m → syncIn s k ≡ sync)
-    (codebook thresholds : List ℤ) (index report : List ℕ) (some : 0 < m) (lent : Lent m codebook thresholds index report) where
+    (tables : Tables) (index report : List ℕ) (some : 0 < m) (lent : Lent m tables index report) where
   -- past 11 to 15 the settings decide
-  settled-next : verdict s codebook thresholds (length index) (length report)
-      ≡ settledVerdict (length (rowOf m)) (badPairs (receivedNotes s (rowOf m) codebook thresholds)) (pairCount (rowOf m)) (length index) (length report) (settling (readings s (rowOf m)))
+  settled-next : verdict s tables (length index) (length report)
+      ≡ settledVerdict (length (rowOf m)) (badPairs (receivedNotes s (rowOf m) tables)) (pairCount (rowOf m)) (length index) (length report) (settling (readings s (rowOf m)))
   unfolding verdict wholeVerdict
   settled-next =
-      rw (eq-eqb (length codebook) codebookNumbers (lent .codebook-size), eq-eqb (length thresholds) thresholdNumbers (lent .thresholds-size))
+      rw (eq-eqb (length (tables .codebook)) codebookNumbers (lent .codebook-size), eq-eqb (length (tables .thresholds)) thresholdNumbers (lent .thresholds-size))
       (subst
-      (λ (w : Cutting). endVerdict s codebook thresholds (length index) (length report) (w .places) (w .ending)
-      ≡ settledVerdict (length (rowOf m)) (badPairs (receivedNotes s (rowOf m) codebook thresholds)) (pairCount (rowOf m)) (length index) (length report) (settling (readings s (rowOf m))))
+      (λ (w : Cutting). endVerdict s tables (length index) (length report) (w .places) (w .ending)
+      ≡ settledVerdict (length (rowOf m)) (badPairs (receivedNotes s (rowOf m) tables)) (pairCount (rowOf m)) (length index) (length report) (settling (readings s (rowOf m))))
       (sym (cut-is s m few size syncs)) (rw (ne-eqb (length (rowOf m)) 0 (λ e. omega (arith, every-length 0 m)))))
 
-  pub refuses-16 : settling (readings s (rowOf m)) ≡ S.Unsettled → reading s codebook thresholds index report ≡ outcome (Refused Unsettled) index report
+  pub refuses-16 : settling (readings s (rowOf m)) ≡ S.Unsettled → reading s tables index report ≡ outcome (Refused Unsettled) index report
   unfolding reading settledVerdict
   refuses-16 e = rw (settled-next, e)
 
-  pub refuses-20 : (c : ℕ) → settling (readings s (rowOf m)) ≡ S.Settled c → Usable c → badPairs (receivedNotes s (rowOf m) codebook thresholds) ≡ pairCount (rowOf m)
-      → reading s codebook thresholds index report ≡ outcome (Refused AllBad) index report
+  pub refuses-20 : (c : ℕ) → settling (readings s (rowOf m)) ≡ S.Settled c → Usable c → badPairs (receivedNotes s (rowOf m) tables) ≡ pairCount (rowOf m)
+      → reading s tables index report ≡ outcome (Refused AllBad) index report
   unfolding reading settledVerdict roomVerdict
   refuses-20 c e u b =
       let k = every-length 0 m in
@@ -174,5 +174,5 @@ module _ (s : List ℕ) (m : ℕ) (few : m ≤ mostMultiframes) (size : length s
         eq-eqb (expOf c) 0 (u .exp),
         le-ltb (length index) (indexOctets * length (rowOf m)) i,
         le-ltb (length report) (reportOctets * length (rowOf m)) r,
-        eq-eqb (badPairs (receivedNotes s (rowOf m) codebook thresholds)) (pairCount (rowOf m)) b,
+        eq-eqb (badPairs (receivedNotes s (rowOf m) tables)) (pairCount (rowOf m)) b,
       )

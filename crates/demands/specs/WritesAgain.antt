@@ -6,13 +6,13 @@ use mathlib.Core.Bool.{Bool, true, false}
 use mathlib.Core.List.{List, [], _∷_}
 use Prim.Native.Nat.{ℕ, zero, suc, _+_, _*_, _/_, _%_, _≤_, _<_}
 use native.Mathlib.Omega.{arith}
-use lib.IntN.{ℤ}
 use lib.ListN.{length, take, drop, getD}
 use lib.Seq.{ext-getD, getD-take, getD-drop, take-append-le}
 use Rattle.lists.specs.Tests.{not-false}
 use Rattle.lists.specs.Parts.{over, length-part}
 use Rattle.lists.specs.Rows.{each, length-each, each-at}
 use Rattle.layout.specs.Layout.{widths, frameIndices, dataBits, packetBits, multiframeFrames, multiframePairs, streamOctets, multiframeOctets, indexOctets, reportOctets, sync, syncFirst, syncSecond}
+use Rattle.consistency.specs.Tables.{Tables}
 use Rattle.bits.specs.Bits.{bits}
 use Rattle.bits.specs.Laws.{length-bits}
 use Rattle.crc.specs.Crc.{Right, right}
@@ -48,9 +48,9 @@ use Rattle.writer.specs.Made.{Small, syncIn, wordIn, streamIn, packetIn}
 use Rattle.demands.specs.Whole.{rowOf, readings-are, packet-at, headerNoteIn, pairNoteIn, header-note-is, pair-note-is, nothing-replaced}
 use Rattle.demands.specs.Noteless.{clean-header, is-image, spoken, multiframes-spoken, speech-lt, packet-spoken}
 
-module _ (s : List ℕ) (codebook thresholds : List ℤ) (index report output : List ℕ) (given : Summary) where
+module _ (s : List ℕ) (tables : Tables) (index report output : List ℕ) (given : Summary) where
   abbrev pub result : Outcome
-  result = reading s codebook thresholds index report
+  result = reading s tables index report
 
   -- "the settings and the first `speech` frames of the index buffer", written
   abbrev pub again : W.Outcome
@@ -82,11 +82,11 @@ module _ (s : List ℕ) (codebook thresholds : List ℤ) (index report output : 
   places = cutting s .places
 
   abbrev ns : List ℕ
-  ns = receivedNotes s places codebook thresholds
+  ns = receivedNotes s places tables
 
   pub record WasRead : Type 0 where
     pub common : ℕ
-    pub reader-accepts : Accepted s codebook thresholds (length index) (length report) common
+    pub reader-accepts : Accepted s tables (length index) (length report) common
     pub result-is : result
         ≡ outcome (Read (summary s places ns common)) (over index 0 (indexOctets * length places) (indexPart s places ns))
         (over report 0 (reportOctets * length places) (reportPart s places ns common))
@@ -99,9 +99,9 @@ module _ (s : List ℕ) (codebook thresholds : List ℤ) (index report output : 
 
   pub was-read : result .answer ≡ Read given → WasRead
   unfolding reading answered
-  was-read e = by (verdict s codebook thresholds (length index) (length report)) refl e
+  was-read e = by (verdict s tables (length index) (length report)) refl e
     where
-      by : (v : Verdict) → verdict s codebook thresholds (length index) (length report) ≡ v → finished s codebook thresholds index report places v .answer ≡ Read given → WasRead
+      by : (v : Verdict) → verdict s tables (length index) (length report) ≡ v → finished s tables index report places v .answer ≡ Read given → WasRead
       by (Refuse r) f e = absurd (refused r e)
         where
           refused : (r : Refusal) → Refused r ≡ Read given → ⊥
@@ -109,8 +109,8 @@ module _ (s : List ℕ) (codebook thresholds : List ℤ) (index report output : 
       by (Accept c) f e =
           record {
             common = c;
-            reader-accepts = accepted s codebook thresholds (length index) (length report) c f;
-            result-is = ap (finished s codebook thresholds index report places) f;
+            reader-accepts = accepted s tables (length index) (length report) c f;
+            result-is = ap (finished s tables index report places) f;
             given-is = sym (ap (answered given) e);
           }
 
@@ -162,7 +162,7 @@ module _ (s : List ℕ) (codebook thresholds : List ℤ) (index report output : 
         at (suc (suc i)) b = absurd (omega arith)
 
     notes-size : length ns ≡ pairCount places
-    notes-size = length-notes (received s places) (pairCount places) codebook thresholds
+    notes-size = length-notes (received s places) (pairCount places) tables
 
     -- its header words
     headers : (k : ℕ) → k < m → wordIn s k ≡ codeword (message (settingsOf c) (k + 1) 0)
@@ -189,7 +189,7 @@ module _ (s : List ℕ) (codebook thresholds : List ℤ) (index report output : 
         fs = each (pairFails (received s places)) (pairCount places)
 
         os : List Bool
-        os = each (pairInconsistent (received s places) codebook thresholds) (pairCount places)
+        os = each (pairInconsistent (received s places) tables) (pairCount places)
 
         by : (t : Bool) → pairFails (received s places) q ≡ t → pairFails (received s places) q ≡ false
         by false e = e
@@ -265,7 +265,7 @@ module _ (s : List ℕ) (codebook thresholds : List ℤ) (index report output : 
               ∙ ap₂ (λ (j : ℕ) (l : List ℕ). over output 0 j l) n (ap (image (settingsOf c) idx) k ∙ octets-are);
         }
 
-pub writes-again : (s : List ℕ) (codebook thresholds : List ℤ) (index report output : List ℕ) (given : Summary)
-    (p : Premises s codebook thresholds index report output given) → Again s codebook thresholds index report output given p
-writes-again s codebook thresholds index report output given p =
-    proof s codebook thresholds index report output given p (was-read s codebook thresholds index report output given (p .succeeds))
+pub writes-again : (s : List ℕ) (tables : Tables) (index report output : List ℕ) (given : Summary)
+    (p : Premises s tables index report output given) → Again s tables index report output given p
+writes-again s tables index report output given p =
+    proof s tables index report output given p (was-read s tables index report output given (p .succeeds))

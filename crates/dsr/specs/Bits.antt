@@ -5,10 +5,10 @@ use mathlib.Core.List.{List, [], _∷_, _++_}
 use Prim.Native.Nat.{ℕ, _≤_, _<_}
 use native.Mathlib.Omega.{arith}
 use lib.Dec.{ltb}
-use lib.IntN.{ℤ}
 use lib.ListN.{length, set, length-set}
 use Rattle.lists.specs.Tests.{by-test}
 use Rattle.lists.specs.Parts.{over, behind, set-over, length-over}
+use Rattle.consistency.specs.Tables.{Tables}
 use Rattle.hunt.specs.Hunt as H
 use Rattle.hunt.specs.declared.Hunted.{Hunted}
 use Rattle.hunt.specs.declared.Hunted.the-variants as HA
@@ -57,9 +57,9 @@ abbrev pub dsrHunt : List ℕ → ℕ → ℕ → ℕ → ℕ → HuntReturned
 dsrHunt octets from least found place = huntReturning found place (H.hunted octets from least)
 
 -- dsr_read_bits: its number, both buffers, the lent numbers and the place
-abbrev pub dsrReadBits : List ℕ → ℕ → ℕ → List ℤ → List ℤ → List ℕ → List ℕ → List ℕ → ℕ → Returned
-dsrReadBits octets from least codebook thresholds index report answer place =
-    returning countedNumbers answer place index report (bitsGiven (huntingReading octets from least codebook thresholds index report))
+abbrev pub dsrReadBits : List ℕ → ℕ → ℕ → Tables → List ℕ → List ℕ → List ℕ → ℕ → Returned
+dsrReadBits octets from least tables index report answer place =
+    returning countedNumbers answer place index report (bitsGiven (huntingReading octets from least tables index report))
 
 -- ---- the entries' ends
 pub hunt-found : (f p q n : ℕ) (h : Hunted) → HA.Found q n ≡ h → huntReturned success q n p ≡ huntReturning f p h
@@ -85,16 +85,16 @@ pub bits-given-as : {x y : Answer} {i r : List ℕ} {o : Outcome} → outcome x 
 bits-given-as {x} {y} {i} {r} {o} e ex = ap (λ (z : Answer). given (bitsTold z) i r) (sym ex) ∙ ap bitsGiven e
 
 -- 12 TO 14 ARE NEVER RETURNED
-module _ (s : List ℕ) (from least : ℕ) (codebook thresholds : List ℤ) (index report a : List ℕ) (p : ℕ) where
+module _ (s : List ℕ) (from least : ℕ) (tables : Tables) (index report a : List ℕ) (p : ℕ) where
   abbrev read : Outcome
-  read = huntingReading s from least codebook thresholds index report
+  read = huntingReading s from least tables index report
 
   abbrev NoCut : ℕ → Type 0
   NoCut n = (n ≡ 12 → ⊥) × (n ≡ 13 → ⊥) × (n ≡ 14 → ⊥)
 
   answered-uncut : (x : Answer) → read .answer ≡ x → NoCut (answered countedNumbers a p (read .index) (read .report) (bitsTold x) .number)
   answered-uncut (Read c) e = (λ e. omega arith, λ e. omega arith, λ e. omega arith)
-  answered-uncut (Refused r) e = never-12-to-14 s from least codebook thresholds index report r e
+  answered-uncut (Refused r) e = never-12-to-14 s from least tables index report r e
 
   pub returned-uncut : NoCut (returning countedNumbers a p index report (bitsGiven read) .number)
   unfolding returning

@@ -3,11 +3,11 @@ use mathlib.Core.Path.{_≡_}
 use mathlib.Core.List.{List, [], _∷_}
 use Prim.Native.Nat.{ℕ}
 use lib.Dec.{eqb, ltb}
-use lib.IntN.{ℤ}
 use lib.ListN.{length}
 use Rattle.lists.specs.Tests.{when}
 use Rattle.lists.specs.Parts.{over}
 use Rattle.layout.specs.Layout.{streamOctets, indexOctets, multiframePairs}
+use Rattle.consistency.specs.Tables.{Tables}
 use Rattle.settings.specs.Settings.{settings}
 use Rattle.bits.specs.Bits.{bits, octets}
 use Rattle.carrier.specs.Carrier.{streamPacket}
@@ -133,6 +133,6 @@ dsrWrite rate kind indices out =
     writeReturned (W.numberOf (writing (settings rate kind) indices out .answer)) (writing (settings rate kind) indices out .output) (W.placeOf (writing (settings rate kind) indices out .answer))
 
 -- dsr_read: its number, both buffers, the lent numbers and the place
-abbrev pub dsrRead : List ℕ → List ℤ → List ℤ → List ℕ → List ℕ → List ℕ → ℕ → Returned
-dsrRead octets codebook thresholds index report answer place =
-    returning answerNumbers answer place index report (givenOf (reading octets codebook thresholds index report))
+abbrev pub dsrRead : List ℕ → Tables → List ℕ → List ℕ → List ℕ → ℕ → Returned
+dsrRead octets tables index report answer place =
+    returning answerNumbers answer place index report (givenOf (reading octets tables index report))

@@ -15,10 +15,12 @@ ghost use mathlib.Core.Path.{_≡_};
 ghost use Prim.Native.Nat.{_≤_};
 ghost use lib.ListN.{length};
 ghost use Rattle.lists.specs.Parts.{over};
+ghost use Rattle.consistency.specs.Lent.{came, left, tablesIn};
 ghost use Rattle.header_code.specs.Code.{codeword};
 ghost use Rattle.header.specs.Reading.{reading};
 ghost use Rattle.dsr.specs.Bits.{huntReturned, dsrHunt, countedNumbers, numbersOf, dsrReadBits};
-ghost use Rattle.dsr.specs.Entries.{answerNumbers, summaryNumbers, writeReturned, dsrWrite, returned, dsrRead, headerRead, packed, packing, unpacked, unpacking};
+ghost use Rattle.dsr.specs.Entries.{answerNumbers, summaryNumbers, writeReturned, dsrWrite, returned, dsrRead};
+ghost use Rattle.dsr.specs.Entries.{headerRead, packed, packing, unpacked, unpacking};
 ghost use Rattle.dsr.specs.Laws.{settingsFit};
 
 // The numbers of a reading's answer, and those of a hunting reading's.
@@ -41,7 +43,7 @@ pub extern "C" fn dsr_header_encode(message: u16) -> u32
 // then both stay.
 #[no_mangle]
 pub extern "C" fn dsr_header_read(word: u32, message: &mut u16, flips: &mut u32) -> u32
-    ensures { λ r. ⌜ headerRead r (now (message .exit)) (now (flips .exit)) (now (message .entry)) (now (flips .entry)) (reading word) ⌝ }
+    ensures { λ r. ⌜ headerRead r (left message) (left flips) (came message) (came flips) (reading word) ⌝ }
 {
     match header::read(word) {
         Header::Codeword(d) => {
@@ -57,7 +59,7 @@ pub extern "C" fn dsr_header_read(word: u32, message: &mut u16, flips: &mut u32)
 // index above 63, and then the stream stays.
 #[no_mangle]
 pub extern "C" fn dsr_pack(indices: &[u8], stream: &mut [u8]) -> u32
-    ensures { λ r. ⌜ packed r (now (stream .exit)) ≡ packing (now (indices .entry)) (now (stream .entry)) ⌝ }
+    ensures { λ r. ⌜ packed r (left stream) ≡ packing (came indices) (came stream) ⌝ }
 {
     if indices.len() != ReadingLayout::INDEX {
         return refusals::WRONG_LENGTH;
@@ -78,7 +80,7 @@ pub extern "C" fn dsr_pack(indices: &[u8], stream: &mut [u8]) -> u32
 // length (house), and then both lent buffers stay.
 #[no_mangle]
 pub extern "C" fn dsr_unpack(stream: &[u8], indices: &mut [u8], notes: &mut [u8]) -> u32
-    ensures { λ r. ⌜ unpacked r (now (indices .exit)) (now (notes .exit)) ≡ unpacking (now (stream .entry)) (now (indices .entry)) (now (notes .entry)) ⌝ }
+    ensures { λ r. ⌜ unpacked r (left indices) (left notes) ≡ unpacking (came stream) (came indices) (came notes) ⌝ }
 {
     if stream.len() != MultiframeLayout::STREAM {
         return refusals::WRONG_LENGTH;
@@ -117,7 +119,7 @@ pub extern "C" fn dsr_write(
     out: &mut [u8],
     place: &mut u64,
 ) -> u32
-    ensures { λ r. ⌜ writeReturned r (now (out .exit)) (now (place .exit)) ≡ dsrWrite rate kind (now (indices .entry)) (now (out .entry)) ⌝ }
+    ensures { λ r. ⌜ writeReturned r (left out) (left place) ≡ dsrWrite rate kind (came indices) (came out) ⌝ }
 {
     if !fits(rate, kind) {
         *place = refusals::writing_place(Writing::WrongSettings) as u64;
@@ -135,7 +137,7 @@ pub extern "C" fn dsr_write(
 // The six numbers of a success, in 01's order. It asks for their room, which dsr_read has tested.
 fn put_summary(s: Summary, answer: &mut [u64])
     requires { ⌜ answerNumbers ≤ length (now answer) ⌝ }
-    ensures { λ _. ⌜ now (answer .exit) ≡ over (now (answer .entry)) 0 answerNumbers (summaryNumbers s) ⌝ }
+    ensures { λ _. ⌜ left answer ≡ over (came answer) 0 answerNumbers (summaryNumbers s) ⌝ }
 {
     answer[0] = s.settings.rate as u64;
     answer[1] = s.settings.kind as u64;
@@ -158,7 +160,8 @@ pub extern "C" fn dsr_read(
     answer: &mut [u64],
     place: &mut u64,
 ) -> u32
-    ensures { λ r. ⌜ returned r (now (index .exit)) (now (report .exit)) (now (answer .exit)) (now (place .exit)) ≡ dsrRead (now (octets .entry)) (now (codebook .entry)) (now (thresholds .entry)) (now (index .entry)) (now (report .entry)) (now (answer .entry)) (now (place .entry)) ⌝ }
+    ensures { λ r. ⌜ returned r (left index) (left report) (left answer) (left place)
+        ≡ dsrRead (came octets) (tablesIn codebook thresholds) (came index) (came report) (came answer) (came place) ⌝ }
 {
     if answer.len() < ANSWER {
         return refusals::NO_ROOM;
@@ -186,7 +189,7 @@ pub extern "C" fn dsr_hunt(
     tested: &mut u64,
     place: &mut u64,
 ) -> u32
-    ensures { λ r. ⌜ huntReturned r (now (found .exit)) (now (tested .exit)) (now (place .exit)) ≡ dsrHunt (now (octets .entry)) from least (now (found .entry)) (now (place .entry)) ⌝ }
+    ensures { λ r. ⌜ huntReturned r (left found) (left tested) (left place) ≡ dsrHunt (came octets) from least (came found) (came place) ⌝ }
 {
     match hunt::hunt(octets, from as usize, least as usize) {
         Hunted::Found {
@@ -209,7 +212,7 @@ pub extern "C" fn dsr_hunt(
 // dsr_read_bits has tested.
 fn put_counted(c: Counted, answer: &mut [u64])
     requires { ⌜ countedNumbers ≤ length (now answer) ⌝ }
-    ensures { λ _. ⌜ now (answer .exit) ≡ over (now (answer .entry)) 0 countedNumbers (numbersOf c) ⌝ }
+    ensures { λ _. ⌜ left answer ≡ over (came answer) 0 countedNumbers (numbersOf c) ⌝ }
 {
     let s = c.summary;
     put_summary(s, answer);
@@ -232,7 +235,8 @@ pub extern "C" fn dsr_read_bits(
     answer: &mut [u64],
     place: &mut u64,
 ) -> u32
-    ensures { λ r. ⌜ returned r (now (index .exit)) (now (report .exit)) (now (answer .exit)) (now (place .exit)) ≡ dsrReadBits (now (octets .entry)) from least (now (codebook .entry)) (now (thresholds .entry)) (now (index .entry)) (now (report .entry)) (now (answer .entry)) (now (place .entry)) ⌝ }
+    ensures { λ r. ⌜ returned r (left index) (left report) (left answer) (left place)
+        ≡ dsrReadBits (came octets) from least (tablesIn codebook thresholds) (came index) (came report) (came answer) (came place) ⌝ }
 {
     if answer.len() < COUNTED {
         return refusals::NO_ROOM;

@@ -13,6 +13,7 @@ use Rattle.reader.specs.declared.Answer.the-variants.{Read, Refused}
 use Rattle.writer.specs.Writing as W
 use Rattle.writer.specs.Writing.{firstFrom, roomAnswer, writing}
 use Rattle.dsr.specs.Entries.{returning, givenOf, dsrWrite, dsrRead}
+use Rattle.consistency.specs.Tables.{tablesOf}
 
 -- 16 kHz, noise robust, 2 multiframes, 30 frames of speech, 4 bad pairs, end
 abbrev pub talk : Outcome
@@ -35,7 +36,7 @@ pub record Table : Type 0 where
   -- no room for six numbers: 99 comes before all, and all stays
   pub five-numbers : returning 6 (replicate 5 90) 8 (5 ∷ []) (6 ∷ []) (givenOf talk) ≡ record { number = 99; index = 5 ∷ []; report = 6 ∷ []; answer = replicate 5 90; place = 8 }
   -- dsr_read itself: no tables are 11
-  pub no-tables : dsrRead (0x87 ∷ []) [] [] (5 ∷ []) (6 ∷ []) seven 8
+  pub no-tables : dsrRead (0x87 ∷ []) (tablesOf [] []) (5 ∷ []) (6 ∷ []) seven 8
       ≡ record { number = 11; index = 5 ∷ []; report = 6 ∷ []; answer = seven; place = 0 }
   -- dsr_write: rate before type, the number returned, the place lent, the output as it came
   pub rate-2 : dsrWrite 2 0 [] (7 ∷ []) ≡ record { number = 1; output = 7 ∷ []; place = 0 }

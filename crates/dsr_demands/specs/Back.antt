@@ -5,10 +5,10 @@ use mathlib.Core.Path.{_≡_, sym, ap, ap₂, _∙_, subst}
 use mathlib.Core.List.{List, _∷_, []}
 use Prim.Native.Nat.{ℕ, _-_, _*_, _≤_, _<_}
 use native.Mathlib.Omega.{arith}
-use lib.IntN.{ℤ}
 use lib.ListN.{length, take, drop, getD, replicate, length-replicate, List·getD-eq-default}
 use Rattle.lists.specs.Parts.{over}
 use Rattle.layout.specs.Layout.{frameIndices, multiframeOctets, indexOctets, reportOctets}
+use Rattle.consistency.specs.Tables.{Tables}
 use Rattle.writer.specs.Writing.{frameCount, multiframesFor}
 use Rattle.writer.specs.Laws.{accepts}
 use Rattle.writer.specs.Made.{Small}
@@ -25,20 +25,20 @@ use Rattle.dsr_demands.specs.Called.{Call, called, took, place-is, outpu
 use Rattle.dsr_demands.specs.Calls.{beyond, write-zero, read-success, read-zero}
 
 -- ---- READS BACK
-module _ (rate kind : ℕ) (indices out : List ℕ) (codebook thresholds : List ℤ) (index report answer : List ℕ) (place : ℕ) where
+module _ (rate kind : ℕ) (indices out : List ℕ) (tables : Tables) (index report answer : List ℕ) (place : ℕ) where
   abbrev pub wrote : WriteReturned
   wrote = dsrWrite rate kind indices out
 
   -- the octets written are read
   abbrev pub back : Returned
-  back = dsrRead (take (wrote .place) (wrote .output)) codebook thresholds index report answer place
+  back = dsrRead (take (wrote .place) (wrote .output)) tables index report answer place
 
   pub record BackPremises : Type 0 where
     -- what a caller lends are octets
     pub small : Small indices
     pub written : wrote .number ≡ 0
     -- 01's tables and room, and room for six numbers
-    pub lent : Lent (multiframesFor (frameCount indices)) codebook thresholds index report
+    pub lent : Lent (multiframesFor (frameCount indices)) tables index report
     pub numbers : answerNumbers ≤ length answer
 
   pub record ReadBack : Type 0 where
@@ -69,15 +69,15 @@ module _ (rate kind : ℕ) (indices out : List ℕ) (codebook thresholds : List 
     abbrev m : ℕ
     m = multiframesFor (frameCount indices)
 
-    b : R.Back u codebook thresholds out index report
-    b = R.reads-back u codebook thresholds out index report (record { output-room = took rate kind indices out call .room; lent = p .lent })
+    b : R.Back u tables out index report
+    b = R.reads-back u tables out index report (record { output-room = took rate kind indices out call .room; lent = p .lent })
 
     -- reading the octets written
     abbrev o : Outcome
-    o = reading (take n (wrote .output)) codebook thresholds index report
+    o = reading (take n (wrote .output)) tables index report
 
-    o-is : R.result u codebook thresholds out index report ≡ o
-    o-is = ap (λ (k : ℕ). reading (take k (wrote .output)) codebook thresholds index report) (sym (place-is rate kind indices out call))
+    o-is : R.result u tables out index report ≡ o
+    o-is = ap (λ (k : ℕ). reading (take k (wrote .output)) tables index report) (sym (place-is rate kind indices out call))
 
     back-is : back ≡ returned 0 (o .index) (o .report) (over answer 0 answerNumbers (summaryNumbers (spoken u))) place
     back-is = read-success answer place index report o (p .numbers) (spoken u) (ap (λ (x : Outcome). x .answer) (sym o-is) ∙ b .succeeds)
@@ -110,14 +110,14 @@ module _ (rate kind : ℕ) (indices out : List ℕ) (codebook thresholds : List 
           ∙ beyond report (replicate (reportOctets * m) 0) (reportOctets * m) (p .lent .report-room) (length-replicate (reportOctets * m) 0);
     }
 
-pub c-reads-back : (rate kind : ℕ) (indices out : List ℕ) (codebook thresholds : List ℤ) (index report answer : List ℕ) (place : ℕ)
-    → BackPremises rate kind indices out codebook thresholds index report answer place → ReadBack rate kind indices out codebook thresholds index report answer place
+pub c-reads-back : (rate kind : ℕ) (indices out : List ℕ) (tables : Tables) (index report answer : List ℕ) (place : ℕ)
+    → BackPremises rate kind indices out tables index report answer place → ReadBack rate kind indices out tables index report answer place
 c-reads-back = proof
 
 -- ---- WRITES AGAIN
-module _ (s : List ℕ) (codebook thresholds : List ℤ) (index report answer : List ℕ) (place : ℕ) (output : List ℕ) where
+module _ (s : List ℕ) (tables : Tables) (index report answer : List ℕ) (place : ℕ) (output : List ℕ) where
   abbrev pub got : Returned
-  got = dsrRead s codebook thresholds index report answer place
+  got = dsrRead s tables index report answer place
 
   -- the settings and the first `speech` frames of the index buffer, written
   abbrev pub again : WriteReturned
@@ -137,24 +137,24 @@ module _ (s : List ℕ) (codebook thresholds : List ℤ) (index report answer : 
     pub same-octets : again .output ≡ over output 0 (length s) s
 
   module _ (p : AgainPremises) where
-    z : (answerNumbers ≤ length answer) × ((g : Summary) × (reading s codebook thresholds index report .answer ≡ Read g))
-    z = read-zero answer place index report (reading s codebook thresholds index report) (p .number)
+    z : (answerNumbers ≤ length answer) × ((g : Summary) × (reading s tables index report .answer ≡ Read g))
+    z = read-zero answer place index report (reading s tables index report) (p .number)
 
     abbrev g : Summary
     g = z .1 .0
 
-    got-is : got ≡ returned 0 (reading s codebook thresholds index report .index) (reading s codebook thresholds index report .report) (over answer 0 answerNumbers (summaryNumbers g)) place
-    got-is = read-success answer place index report (reading s codebook thresholds index report) (z .0) g (z .1 .1)
+    got-is : got ≡ returned 0 (reading s tables index report .index) (reading s tables index report .report) (over answer 0 answerNumbers (summaryNumbers g)) place
+    got-is = read-success answer place index report (reading s tables index report) (z .0) g (z .1 .1)
 
     at : (k : ℕ) → getD (got .answer) k 0 ≡ getD (over answer 0 answerNumbers (summaryNumbers g)) k 0
     at k = ap (λ (x : Returned). getD (x .answer) k 0) got-is
 
-    again-is : again ≡ dsrWrite (g .settings .rate) (g .settings .kind) (take (frameIndices * g .speech) (reading s codebook thresholds index report .index)) output
+    again-is : again ≡ dsrWrite (g .settings .rate) (g .settings .kind) (take (frameIndices * g .speech) (reading s tables index report .index)) output
     again-is =
         ap₂ (λ (a b : ℕ). dsrWrite a b (take (frameIndices * getD (got .answer) 3 0) (got .index)) output) (at 0) (at 1)
         ∙ ap₂ (λ (n : ℕ) (l : List ℕ). dsrWrite (g .settings .rate) (g .settings .kind) (take (frameIndices * n) l) output) (at 3) (ap (λ (x : Returned). x .index) got-is)
 
-    premises : A.Premises s codebook thresholds index report output g
+    premises : A.Premises s tables index report output g
     premises = record {
       small = p .small;
       succeeds = z .1 .1;
@@ -162,14 +162,14 @@ module _ (s : List ℕ) (codebook thresholds : List ℤ) (index report answer : 
           ap (λ (x : Returned). getD (x .report) i 0) (sym got-is) ∙ p .notes-0 i (subst (λ (n : ℕ). i < reportOctets * n) (sym (at 2)) h);
       ended = sym (at 5) ∙ p .ended;
       no-inverses = p .no-inverses ∙ ap (λ (n : ℕ). multiframeOctets * n) (at 2);
-      octets = dsrWrite (g .settings .rate) (g .settings .kind) (take (frameIndices * g .speech) (reading s codebook thresholds index report .index)) output .place;
+      octets = dsrWrite (g .settings .rate) (g .settings .kind) (take (frameIndices * g .speech) (reading s tables index report .index)) output .place;
       accepts =
-          write-zero (g .settings .rate) (g .settings .kind) (take (frameIndices * g .speech) (reading s codebook thresholds index report .index)) output
+          write-zero (g .settings .rate) (g .settings .kind) (take (frameIndices * g .speech) (reading s tables index report .index)) output
           (ap (λ (w : WriteReturned). w .number) (sym again-is) ∙ p .accepts);
     }
 
-    a : A.Again s codebook thresholds index report output g premises
-    a = A.writes-again s codebook thresholds index report output g premises
+    a : A.Again s tables index report output g premises
+    a = A.writes-again s tables index report output g premises
 
     written-again : WrittenAgain
     unfolding premises
@@ -178,6 +178,6 @@ module _ (s : List ℕ) (codebook thresholds : List ℤ) (index report answer : 
       same-octets = ap (λ (w : WriteReturned). w .output) again-is ∙ a .same-octets;
     }
 
-pub c-writes-again : (s : List ℕ) (codebook thresholds : List ℤ) (index report answer : List ℕ) (place : ℕ) (output : List ℕ)
-    → AgainPremises s codebook thresholds index report answer place output → WrittenAgain s codebook thresholds index report answer place output
+pub c-writes-again : (s : List ℕ) (tables : Tables) (index report answer : List ℕ) (place : ℕ) (output : List ℕ)
+    → AgainPremises s tables index report answer place output → WrittenAgain s tables index report answer place output
 c-writes-again = written-again

@@ -5,9 +5,9 @@ use mathlib.Core.Path.{_≡_, sym, ap, _∙_, subst}
 use mathlib.Core.List.{List}
 use mathlib.Core.Logic.{_⊎_, ⊎-elim, inl, inr}
 use Prim.Native.Nat.{ℕ, _*_, _≤_, _<_}
-use lib.IntN.{ℤ}
 use lib.ListN.{length, getD}
 use Rattle.layout.specs.Layout.{reportOctets}
+use Rattle.consistency.specs.Tables.{Tables}
 use Rattle.writer.specs.Made.{syncIn}
 use Rattle.writer.specs.Image.{Utterance, imageOf}
 use Rattle.dsr.specs.Entries.{Returned, dsrRead}
@@ -15,7 +15,7 @@ use Rattle.demands.specs.Damage.{DamageUpTo, headerBits, headerFlips}
 use Rattle.dsr_demands.specs.Called.{Call, octetsOf, countOf, called, octets-are}
 use Rattle.dsr_demands.specs.Named.{Tells, HearsAll, c-names-if-read, c-trusted, c-never-misled}
 
-module _ (rate kind : ℕ) (indices out : List ℕ) (call : Call rate kind indices out) (s : List ℕ) (codebook thresholds : List ℤ) (index report answer : List ℕ) (place : ℕ) where
+module _ (rate kind : ℕ) (indices out : List ℕ) (call : Call rate kind indices out) (s : List ℕ) (tables : Tables) (index report answer : List ℕ) (place : ℕ) where
   abbrev sent : List ℕ
   sent = octetsOf rate kind indices out
 
@@ -23,23 +23,23 @@ module _ (rate kind : ℕ) (indices out : List ℕ) (call : Call rate kind indic
   u = called rate kind indices out call
 
   abbrev c : Returned
-  c = dsrRead s codebook thresholds index report answer place
+  c = dsrRead s tables index report answer place
 
   e : octetsOf rate kind indices out ≡ imageOf (called rate kind indices out call)
   e = octets-are rate kind indices out call
 
   -- NAMES THE DAMAGE: at most three flips in each header, demand 3's damage to packets, and dsr_read answers 0
   pub c-link-names : DamageUpTo 3 (countOf indices) (octetsOf rate kind indices out) s → c .number ≡ 0
-      → Tells (called rate kind indices out call) s codebook thresholds (c .number) (c .answer) (c .index) (c .report)
-  c-link-names d = c-names-if-read u s codebook thresholds index report answer place (subst (λ (l : List ℕ). DamageUpTo 3 (countOf indices) l s) e d)
+      → Tells (called rate kind indices out call) s tables (c .number) (c .answer) (c .index) (c .report)
+  c-link-names d = c-names-if-read u s tables index report answer place (subst (λ (l : List ℕ). DamageUpTo 3 (countOf indices) l s) e d)
 
   -- A LIST WITHOUT A WARNING: any damage to headers but for one, which has at most five flips, demand 3's damage to packets; dsr_read answers 0, and
   -- every note is 0. Then the octets are those written, and all of it is heard
   pub c-link-trusted : DamageUpTo headerBits (countOf indices) (octetsOf rate kind indices out) s → (k : ℕ) → k < countOf indices
       → headerFlips (octetsOf rate kind indices out) s k ≤ 5 → c .number ≡ 0 → ((i : ℕ) → i < reportOctets * getD (c .answer) 2 0 → getD (c .report) i 0 ≡ 0)
-      → (s ≡ octetsOf rate kind indices out) × HearsAll (called rate kind indices out call) s codebook thresholds index report answer place
+      → (s ≡ octetsOf rate kind indices out) × HearsAll (called rate kind indices out call) s tables index report answer place
   c-link-trusted d k h five zero clean =
-      let t = c-trusted u s codebook thresholds index report answer place
+      let t = c-trusted u s tables index report answer place
       (record {
         damage = subst (λ (l : List ℕ). DamageUpTo headerBits (countOf indices) l s) e d;
         header = k;
@@ -59,7 +59,7 @@ module _ (rate kind : ℕ) (indices out : List ℕ) (call : Call rate kind indic
   pub c-link-never-misled : Spared → c .number ≡ 0
       → (getD (c .answer) 0 0 ≡ rate) × ((getD (c .answer) 1 0 ≡ kind) × (getD (c .answer) 2 0 ≡ countOf indices))
   c-link-never-misled p =
-      c-never-misled u s codebook thresholds index report answer place
+      c-never-misled u s tables index report answer place
       (record {
         size = p .size ∙ ap length e;
         syncs = λ k h. p .syncs k h ∙ ap (λ (l : List ℕ). syncIn l k) e;

@@ -21,7 +21,7 @@ use Rattle.dsr.specs.Entries.{answerNumbers, summaryNumbers, Returned, returned
 use Rattle.dsr.specs.Bits.{dsrReadBits}
 use Rattle.demands.specs.Damage.{DamageUpTo, headerBits, loosened, headerFlips}
 use Rattle.demands.specs.Instances.{says1, says2, hurt1, equal-images}
-use Rattle.demands.specs.Met.{zeroBook, zeroThresholds, indexFor, reportFor, lent-zeros, writes-again-met, says24, hurtImage, names-says24}
+use Rattle.demands.specs.Met.{zeroTables, indexFor, reportFor, lent-zeros, writes-again-met, says24, hurtImage, names-says24}
 use Rattle.demands.specs.ReadsBack.{spoken}
 use Rattle.hunting_demands.specs.Aired.{aired, aired-on-air, names-aired-24}
 use Rattle.hunting_demands.specs.Radio.{together}
@@ -50,19 +50,19 @@ module _ (u : Utterance) where
   call-met = record { small = u .small; written = ap (λ (o : W.Outcome). W.numberOf (o .answer)) wrote-is }
 
   -- READS BACK: every utterance
-  pub back-met : BackPremises (u .settings .rate) (u .settings .kind) (u .indices) roomFor zeroBook zeroThresholds (indexFor (multiframesOf u)) (reportFor (multiframesOf u)) six 0
+  pub back-met : BackPremises (u .settings .rate) (u .settings .kind) (u .indices) roomFor zeroTables (indexFor (multiframesOf u)) (reportFor (multiframesOf u)) six 0
   back-met = record { small = u .small; written = call-met .written; lent = lent-zeros (multiframesOf u); numbers = lit≤ tt }
 
   -- WRITES AGAIN: every image
-  pub again-met : AgainPremises (imageOf u) zeroBook zeroThresholds (indexFor (multiframesOf u)) (reportFor (multiframesOf u)) six 0 roomFor
+  pub again-met : AgainPremises (imageOf u) zeroTables (indexFor (multiframesOf u)) (reportFor (multiframesOf u)) six 0 roomFor
   again-met =
       let a = writes-again-met u in
       let i = indexFor (multiframesOf u) in
       let r = reportFor (multiframesOf u) in
-      let o = reading (imageOf u) zeroBook zeroThresholds i r in
-      let e : dsrRead (imageOf u) zeroBook zeroThresholds i r six 0 ≡ returned 0 (o .index) (o .report) (over six 0 answerNumbers (summaryNumbers (spoken u))) 0 =
+      let o = reading (imageOf u) zeroTables i r in
+      let e : dsrRead (imageOf u) zeroTables i r six 0 ≡ returned 0 (o .index) (o .report) (over six 0 answerNumbers (summaryNumbers (spoken u))) 0 =
       read-success six 0 i r o (lit≤ tt) (spoken u) (a .succeeds) in
-      let f : (k : ℕ) → getD (dsrRead (imageOf u) zeroBook zeroThresholds i r six 0 .answer) k 0 ≡ getD (over six 0 answerNumbers (summaryNumbers (spoken u))) k 0 =
+      let f : (k : ℕ) → getD (dsrRead (imageOf u) zeroTables i r six 0 .answer) k 0 ≡ getD (over six 0 answerNumbers (summaryNumbers (spoken u))) k 0 =
       λ k. ap (λ (x : Returned). getD (x .answer) k 0) e in
       record {
         small = a .small;
@@ -71,7 +71,7 @@ module _ (u : Utterance) where
         ended = f 5;
         no-inverses = a .no-inverses ∙ ap (λ (n : ℕ). multiframeOctets * n) (sym (f 2));
         accepts =
-            ap₂ (λ (x y : ℕ). dsrWrite x y (take (frameIndices * getD (dsrRead (imageOf u) zeroBook zeroThresholds i r six 0 .answer) 3 0) (dsrRead (imageOf u) zeroBook zeroThresholds i r six 0 .index)) roomFor .number) (f 0) (f 1)
+            ap₂ (λ (x y : ℕ). dsrWrite x y (take (frameIndices * getD (dsrRead (imageOf u) zeroTables i r six 0 .answer) 3 0) (dsrRead (imageOf u) zeroTables i r six 0 .index)) roomFor .number) (f 0) (f 1)
             ∙ ap₂ (λ (n : ℕ) (l : List ℕ). dsrWrite (u .settings .rate) (u .settings .kind) (take (frameIndices * n) l) roomFor .number) (f 3) (ap (λ (x : Returned). x .index) e)
             ∙ ap W.numberOf (a .accepts);
       }
@@ -82,21 +82,21 @@ module _ (u : Utterance) where
       ∙ take-at (imageOf u) (drop (0 + needed (u .indices)) roomFor) (needed (u .indices)) (length-image (u .settings) (u .indices) (multiframesOf u))
 
 -- NAMES THE DAMAGE: two multiframes with two flips in each header, a burst and two flips at distance 14 in packets of each, at dsr_read
-pub named-24 : Tells says24 (hurtImage says24) zeroBook zeroThresholds
-    (dsrRead (hurtImage says24) zeroBook zeroThresholds (indexFor (multiframesOf says24)) (reportFor (multiframesOf says24)) six 0 .number)
-    (dsrRead (hurtImage says24) zeroBook zeroThresholds (indexFor (multiframesOf says24)) (reportFor (multiframesOf says24)) six 0 .answer)
-    (dsrRead (hurtImage says24) zeroBook zeroThresholds (indexFor (multiframesOf says24)) (reportFor (multiframesOf says24)) six 0 .index)
-    (dsrRead (hurtImage says24) zeroBook zeroThresholds (indexFor (multiframesOf says24)) (reportFor (multiframesOf says24)) six 0 .report)
-named-24 = c-names-the-damage says24 (hurtImage says24) zeroBook zeroThresholds (indexFor (multiframesOf says24)) (reportFor (multiframesOf says24)) six 0 names-says24 (lit≤ tt) .0
+pub named-24 : Tells says24 (hurtImage says24) zeroTables
+    (dsrRead (hurtImage says24) zeroTables (indexFor (multiframesOf says24)) (reportFor (multiframesOf says24)) six 0 .number)
+    (dsrRead (hurtImage says24) zeroTables (indexFor (multiframesOf says24)) (reportFor (multiframesOf says24)) six 0 .answer)
+    (dsrRead (hurtImage says24) zeroTables (indexFor (multiframesOf says24)) (reportFor (multiframesOf says24)) six 0 .index)
+    (dsrRead (hurtImage says24) zeroTables (indexFor (multiframesOf says24)) (reportFor (multiframesOf says24)) six 0 .report)
+named-24 = c-names-the-damage says24 (hurtImage says24) zeroTables (indexFor (multiframesOf says24)) (reportFor (multiframesOf says24)) six 0 names-says24 (lit≤ tt) .0
 
 -- and at dsr_read_bits, at bit 3, with four flips in each sync besides
-pub aired-24 : Tells says24 (together says24 (aired says24) 3) zeroBook zeroThresholds
-    (dsrReadBits (aired says24) 0 fewestMatches zeroBook zeroThresholds (indexFor (multiframesOf says24)) (reportFor (multiframesOf says24)) eight 0 .number)
-    (dsrReadBits (aired says24) 0 fewestMatches zeroBook zeroThresholds (indexFor (multiframesOf says24)) (reportFor (multiframesOf says24)) eight 0 .answer)
-    (dsrReadBits (aired says24) 0 fewestMatches zeroBook zeroThresholds (indexFor (multiframesOf says24)) (reportFor (multiframesOf says24)) eight 0 .index)
-    (dsrReadBits (aired says24) 0 fewestMatches zeroBook zeroThresholds (indexFor (multiframesOf says24)) (reportFor (multiframesOf says24)) eight 0 .report)
+pub aired-24 : Tells says24 (together says24 (aired says24) 3) zeroTables
+    (dsrReadBits (aired says24) 0 fewestMatches zeroTables (indexFor (multiframesOf says24)) (reportFor (multiframesOf says24)) eight 0 .number)
+    (dsrReadBits (aired says24) 0 fewestMatches zeroTables (indexFor (multiframesOf says24)) (reportFor (multiframesOf says24)) eight 0 .answer)
+    (dsrReadBits (aired says24) 0 fewestMatches zeroTables (indexFor (multiframesOf says24)) (reportFor (multiframesOf says24)) eight 0 .index)
+    (dsrReadBits (aired says24) 0 fewestMatches zeroTables (indexFor (multiframesOf says24)) (reportFor (multiframesOf says24)) eight 0 .report)
 aired-24 =
-    c-names-on-air says24 (aired says24) 0 3 fewestMatches zeroBook zeroThresholds (indexFor (multiframesOf says24)) (reportFor (multiframesOf says24)) eight 0 (aired-on-air says24)
+    c-names-on-air says24 (aired says24) 0 3 fewestMatches zeroTables (indexFor (multiframesOf says24)) (reportFor (multiframesOf says24)) eight 0 (aired-on-air says24)
     names-aired-24 (lit≤ tt) .0
 
 -- TOLD APART: two calls with different frames, and octets that both outputs can be damaged into

@@ -6,12 +6,12 @@ use mathlib.Core.List.{List, [], _∷_}
 use mathlib.Core.Logic.{_↔_}
 use Prim.Native.Nat.{ℕ, _+_, _-_, _*_, _/_, _%_, _≤_, _<_}
 use native.Mathlib.Omega.{arith}
-use lib.IntN.{ℤ}
 use lib.ListN.{length, drop, getD, replicate, List·getD-eq-default}
 use lib.Seq.{getD-take, getD-drop}
 use Rattle.lists.specs.Parts.{part, over}
 use Rattle.lists.specs.Rows.{length-joined, joined-part}
 use Rattle.layout.specs.Layout.{frameIndices, pairFrames, multiframePairs, multiframeFrames, indexOctets, reportOctets}
+use Rattle.consistency.specs.Tables.{Tables}
 use Rattle.settings.specs.declared.Settings.{Settings}
 use Rattle.cutting.specs.Cutting.{cutting}
 use Rattle.carrier.specs.Carrier.{received, pairCount}
@@ -47,17 +47,17 @@ abbrev pub frameNoteAt : List ℕ → ℕ → ℕ
 frameNoteAt report f = pairNoteAt report (f / multiframeFrames) (f / pairFrames % multiframePairs)
 
 -- ---- what a caller is told of a damaged image s of an utterance
-pub record Tells (u : Utterance) (s : List ℕ) (codebook thresholds : List ℤ) (number : ℕ) (answer index report : List ℕ) : Type 0 where
+pub record Tells (u : Utterance) (s : List ℕ) (tables : Tables) (number : ℕ) (answer index report : List ℕ) : Type 0 where
   pub success : number ≡ 0
   pub rate : getD answer 0 0 ≡ u .settings .rate
   pub kind : getD answer 1 0 ≡ u .settings .kind
   pub multiframes : getD answer 2 0 ≡ multiframesOf u
-  pub bad : Count (BadPair u s codebook thresholds) (pairsOf u) (getD answer 4 0)
+  pub bad : Count (BadPair u s tables) (pairsOf u) (getD answer 4 0)
   pub damaged : (k j : ℕ) → k < multiframesOf u → j < multiframePairs → (pairNoteAt report k j ≡ 1) ↔ Touched (imageOf u) s (multiframePairs * k + j)
   pub others : (k j : ℕ) → k < multiframesOf u → j < multiframePairs → (Touched (imageOf u) s (multiframePairs * k + j) → ⊥)
-      → (pairNoteAt report k j ≡ 0 → ⊥) ↔ ByRule u s codebook thresholds (multiframePairs * k + j)
+      → (pairNoteAt report k j ≡ 0 → ⊥) ↔ ByRule u s tables (multiframePairs * k + j)
   pub ruled : (k j : ℕ) → k < multiframesOf u → j < multiframePairs → (Touched (imageOf u) s (multiframePairs * k + j) → ⊥)
-      → ByRule u s codebook thresholds (multiframePairs * k + j) → pairNoteAt report k j ≡ 2
+      → ByRule u s tables (multiframePairs * k + j) → pairNoteAt report k j ≡ 2
   pub flips : (k : ℕ) → k < multiframesOf u → headerNoteAt report k ≡ headerFlips (imageOf u) s k
   pub frames : (f i : ℕ) → f < frameCount (u .indices) → i < frameIndices → frameNoteAt report f ≡ 0 → getD index (frameIndices * f + i) 0 ≡ getD (u .indices) (frameIndices * f + i) 0
   pub padding : (f i : ℕ) → frameCount (u .indices) ≤ f → f < multiframeFrames * multiframesOf u → i < frameIndices → frameNoteAt report f ≡ 0 → getD index (frameIndices * f + i) 0 ≡ 0
@@ -67,7 +67,7 @@ frame-octet : (l r : List ℕ) (f i : ℕ) → i < frameIndices → part (frameI
 frame-octet l r f i h e = sym (getD-take frameIndices (drop (frameIndices * f) l) i 0 h ∙ getD-drop (frameIndices * f) l i 0) ∙ ap (λ (x : List ℕ). getD x i 0) e
 
 -- every clause of N.Names, where the six numbers stand in the answer
-module _ (u : Utterance) (s : List ℕ) (codebook thresholds : List ℤ) (g : Summary) (answer index report : List ℕ) (n : N.Names u s codebook thresholds g index report) where
+module _ (u : Utterance) (s : List ℕ) (tables : Tables) (g : Summary) (answer index report : List ℕ) (n : N.Names u s tables g index report) where
   there : (k j : ℕ) → j < multiframePairs → pairNoteIn report (multiframePairs * k + j) ≡ pairNoteAt report k j
   there k j h =
       let d : reportOctets * ((multiframePairs * k + j) / multiframePairs) + 1 + (multiframePairs * k + j) % multiframePairs ≡ reportOctets * k + 1 + j = omega arith in
@@ -77,13 +77,13 @@ module _ (u : Utterance) (s : List ℕ) (codebook thresholds : List ℤ) (g : Su
   frame-there f = let d : reportOctets * (f / 2 / multiframePairs) + 1 + f / 2 % multiframePairs ≡ reportOctets * (f / multiframeFrames) + 1 + f / 2 % multiframePairs = omega arith in ap (λ (i : ℕ). getD report i 0) d
 
   pub tells : (number : ℕ) → number ≡ 0 → getD answer 0 0 ≡ g .settings .rate → getD answer 1 0 ≡ g .settings .kind → getD answer 2 0 ≡ g .multiframes → getD answer 4 0 ≡ g .bad
-      → Tells u s codebook thresholds number answer index report
+      → Tells u s tables number answer index report
   tells number zero a b c d = record {
     success = zero;
     rate = a ∙ ap (λ (x : Settings). x .rate) (n .settings);
     kind = b ∙ ap (λ (x : Settings). x .kind) (n .settings);
     multiframes = c ∙ n .multiframes;
-    bad = subst (Count (BadPair u s codebook thresholds) (pairsOf u)) (sym d) (n .counted);
+    bad = subst (Count (BadPair u s tables) (pairsOf u)) (sym d) (n .counted);
     damaged = λ k j h l.
         let x = n .damaged (multiframePairs * k + j) (omega arith) in ((λ e. x .0 (there k j l ∙ e)), (λ t. sym (there k j l) ∙ x .1 t));
     others = λ k j h l t.
@@ -96,30 +96,30 @@ module _ (u : Utterance) (s : List ℕ) (codebook thresholds : List ℤ) (g : Su
   }
 
 -- octets beyond both parts of a reading are as they came
-pub beyond-both : (s : List ℕ) (codebook thresholds : List ℤ) (index report : List ℕ) (g : Summary) → reading s codebook thresholds index report .answer ≡ Read g
-    → (drop (indexOctets * g .multiframes) (reading s codebook thresholds index report .index) ≡ drop (indexOctets * g .multiframes) index)
-    × (drop (reportOctets * g .multiframes) (reading s codebook thresholds index report .report) ≡ drop (reportOctets * g .multiframes) report)
-beyond-both s codebook thresholds index report g e =
-    let w = A.was-read s codebook thresholds index report [] g e in
+pub beyond-both : (s : List ℕ) (tables : Tables) (index report : List ℕ) (g : Summary) → reading s tables index report .answer ≡ Read g
+    → (drop (indexOctets * g .multiframes) (reading s tables index report .index) ≡ drop (indexOctets * g .multiframes) index)
+    × (drop (reportOctets * g .multiframes) (reading s tables index report .report) ≡ drop (reportOctets * g .multiframes) report)
+beyond-both s tables index report g e =
+    let w = A.was-read s tables index report [] g e in
     let places = cutting s .places in
-    let ns = receivedNotes s places codebook thresholds in
+    let ns = receivedNotes s places tables in
     let count : length places ≡ g .multiframes = sym (ap (λ (x : Summary). x .multiframes) (w .given-is)) in
-    let size = length-notes (received s places) (pairCount places) codebook thresholds in (
-      subst (λ (n : ℕ). drop (indexOctets * n) (reading s codebook thresholds index report .index) ≡ drop (indexOctets * n) index) count
+    let size = length-notes (received s places) (pairCount places) tables in (
+      subst (λ (n : ℕ). drop (indexOctets * n) (reading s tables index report .index) ≡ drop (indexOctets * n) index) count
           (ap (λ (x : Outcome). drop (indexOctets * length places) (x .index)) (w .result-is)
           ∙ beyond index (indexPart s places ns) (indexOctets * length places) (w .reader-accepts .fitting .roomy .index-room) (length-index s places ns size)),
-      subst (λ (n : ℕ). drop (reportOctets * n) (reading s codebook thresholds index report .report) ≡ drop (reportOctets * n) report) count
+      subst (λ (n : ℕ). drop (reportOctets * n) (reading s tables index report .report) ≡ drop (reportOctets * n) report) count
           (ap (λ (x : Outcome). drop (reportOctets * length places) (x .report)) (w .result-is)
           ∙ beyond report (reportPart s places ns (w .common)) (reportOctets * length places) (w .reader-accepts .fitting .roomy .report-room) (length-report s places ns (w .common) size)),
     )
 
 -- ---- dsr_read
-module _ (s : List ℕ) (codebook thresholds : List ℤ) (index report answer : List ℕ) (place : ℕ) where
+module _ (s : List ℕ) (tables : Tables) (index report answer : List ℕ) (place : ℕ) where
   abbrev pub got : Returned
-  got = dsrRead s codebook thresholds index report answer place
+  got = dsrRead s tables index report answer place
 
   abbrev o : Outcome
-  o = reading s codebook thresholds index report
+  o = reading s tables index report
 
   -- octets beyond both parts, numbers beyond the six and the place are as they came
   pub record Stays : Type 0 where
@@ -129,16 +129,16 @@ module _ (s : List ℕ) (codebook thresholds : List ℤ) (index report answer : 
     pub place-stays : got .place ≡ place
 
   module _ (room : answerNumbers ≤ length answer) (g : Summary) (e : o .answer ≡ Read g) where
-    pub got-is : dsrRead s codebook thresholds index report answer place
-        ≡ returned 0 (reading s codebook thresholds index report .index) (reading s codebook thresholds index report .report) (over answer 0 answerNumbers (summaryNumbers g)) place
+    pub got-is : dsrRead s tables index report answer place
+        ≡ returned 0 (reading s tables index report .index) (reading s tables index report .report) (over answer 0 answerNumbers (summaryNumbers g)) place
     got-is = read-success answer place index report o room g e
 
-    pub at : (k : ℕ) → getD (dsrRead s codebook thresholds index report answer place .answer) k 0 ≡ getD (over answer 0 answerNumbers (summaryNumbers g)) k 0
+    pub at : (k : ℕ) → getD (dsrRead s tables index report answer place .answer) k 0 ≡ getD (over answer 0 answerNumbers (summaryNumbers g)) k 0
     at k = ap (λ (x : Returned). getD (x .answer) k 0) got-is
 
     pub stays : Stays
     stays =
-        let b = beyond-both s codebook thresholds index report g e in
+        let b = beyond-both s tables index report g e in
         record {
           index-beyond = subst (λ (n : ℕ). drop (indexOctets * n) (got .index) ≡ drop (indexOctets * n) index) (sym (at 2))
               (ap (λ (x : Returned). drop (indexOctets * g .multiframes) (x .index)) got-is ∙ b .0);
@@ -149,34 +149,34 @@ module _ (s : List ℕ) (codebook thresholds : List ℤ) (index report answer : 
         }
 
 -- NAMES THE DAMAGE at dsr_read
-module _ (u : Utterance) (s : List ℕ) (codebook thresholds : List ℤ) (index report answer : List ℕ) (place : ℕ) where
+module _ (u : Utterance) (s : List ℕ) (tables : Tables) (index report answer : List ℕ) (place : ℕ) where
   abbrev c : Returned
-  c = dsrRead s codebook thresholds index report answer place
+  c = dsrRead s tables index report answer place
 
-  named : N.Named u s codebook thresholds index report → answerNumbers ≤ length answer
-      → Tells u s codebook thresholds (c .number) (c .answer) (c .index) (c .report) × Stays s codebook thresholds index report answer place
+  named : N.Named u s tables index report → answerNumbers ≤ length answer
+      → Tells u s tables (c .number) (c .answer) (c .index) (c .report) × Stays s tables index report answer place
   named n room =
-      let e = got-is s codebook thresholds index report answer place room (n .given) (n .succeeds) in
-      let f = at s codebook thresholds index report answer place room (n .given) (n .succeeds) in (
-        tells u s codebook thresholds (n .given) (c .answer) (c .index) (c .report)
-            (subst (λ (x : Returned). N.Names u s codebook thresholds (n .given) (x .index) (x .report)) (sym e) (n .names)) (c .number) (ap (λ (x : Returned). x .number) e) (f 0) (f 1) (f 2) (f 4),
-        stays s codebook thresholds index report answer place room (n .given) (n .succeeds),
+      let e = got-is s tables index report answer place room (n .given) (n .succeeds) in
+      let f = at s tables index report answer place room (n .given) (n .succeeds) in (
+        tells u s tables (n .given) (c .answer) (c .index) (c .report)
+            (subst (λ (x : Returned). N.Names u s tables (n .given) (x .index) (x .report)) (sym e) (n .names)) (c .number) (ap (λ (x : Returned). x .number) e) (f 0) (f 1) (f 2) (f 4),
+        stays s tables index report answer place room (n .given) (n .succeeds),
       )
 
-  pub c-names-wider : N.Wider u s codebook thresholds index report → answerNumbers ≤ length answer
-      → Tells u s codebook thresholds (c .number) (c .answer) (c .index) (c .report) × Stays s codebook thresholds index report answer place
-  c-names-wider p = named (N.names-wider u s codebook thresholds index report p)
+  pub c-names-wider : N.Wider u s tables index report → answerNumbers ≤ length answer
+      → Tells u s tables (c .number) (c .answer) (c .index) (c .report) × Stays s tables index report answer place
+  c-names-wider p = named (N.names-wider u s tables index report p)
 
-  pub c-names-the-damage : N.Premises u s codebook thresholds index report → answerNumbers ≤ length answer
-      → Tells u s codebook thresholds (c .number) (c .answer) (c .index) (c .report) × Stays s codebook thresholds index report answer place
-  c-names-the-damage p = named (N.names-the-damage u s codebook thresholds index report p)
+  pub c-names-the-damage : N.Premises u s tables index report → answerNumbers ≤ length answer
+      → Tells u s tables (c .number) (c .answer) (c .index) (c .report) × Stays s tables index report answer place
+  c-names-the-damage p = named (N.names-the-damage u s tables index report p)
 
   -- NEVER MISLED at dsr_read: if it answers 0, rate, type and multiframes are those sent
   pub c-never-misled : M.Premises u s → c .number ≡ 0 → (getD (c .answer) 0 0 ≡ u .settings .rate) × ((getD (c .answer) 1 0 ≡ u .settings .kind) × (getD (c .answer) 2 0 ≡ multiframesOf u))
   c-never-misled p zero =
-      let z = read-zero answer place index report (reading s codebook thresholds index report) zero in
-      let f = at s codebook thresholds index report answer place (z .0) (z .1 .0) (z .1 .1) in
-      let m = M.never-misled u s p codebook thresholds index report (z .1 .0) (z .1 .1) in
+      let z = read-zero answer place index report (reading s tables index report) zero in
+      let f = at s tables index report answer place (z .0) (z .1 .0) (z .1 .1) in
+      let m = M.never-misled u s p tables index report (z .1 .0) (z .1 .1) in
       (f 0 ∙ ap (λ (x : Settings). x .rate) (m .settings), (f 1 ∙ ap (λ (x : Settings). x .kind) (m .settings), f 2 ∙ m .multiframes))
 
   -- what a caller hears of all of an utterance: its six numbers, every frame octet for octet and zeros after them
@@ -186,9 +186,9 @@ module _ (u : Utterance) (s : List ℕ) (codebook thresholds : List ℤ) (index 
     pub frames : (i : ℕ) → i < length (u .indices) → getD (c .index) i 0 ≡ getD (u .indices) i 0
     pub padding : (i : ℕ) → length (u .indices) ≤ i → i < indexOctets * multiframesOf u → getD (c .index) i 0 ≡ 0
 
-  hears : (r : List ℕ) → answerNumbers ≤ length answer → reading s codebook thresholds index report ≡ outcome (Read (spoken u)) (over index 0 (indexOctets * multiframesOf u) (padded u)) r → HearsAll
+  hears : (r : List ℕ) → answerNumbers ≤ length answer → reading s tables index report ≡ outcome (Read (spoken u)) (over index 0 (indexOctets * multiframesOf u) (padded u)) r → HearsAll
   hears r room e =
-      let q = got-is s codebook thresholds index report answer place room (spoken u) (ap (λ (x : Outcome). x .answer) e) in
+      let q = got-is s tables index report answer place room (spoken u) (ap (λ (x : Outcome). x .answer) e) in
       let octet : (i : ℕ) → i < indexOctets * multiframesOf u → getD (c .index) i 0 ≡ getD (u .indices) i 0 =
       λ i h. ap (λ (x : Returned). getD (x .index) i 0) q ∙ ap (λ (x : Outcome). getD (x .index) i 0) e
       ∙ front-at index (padded u) (indexOctets * multiframesOf u) i (omega (arith, length-padded u)) ∙ padded-at u i in
@@ -202,38 +202,38 @@ module _ (u : Utterance) (s : List ℕ) (codebook thresholds : List ℤ) (index 
   -- A LIST WITHOUT A WARNING CAN BE TRUSTED at dsr_read: 0 and all notes 0, and the octets are the image, and all of it is heard
   pub c-trusted : T.Premises u s → c .number ≡ 0 → ((i : ℕ) → i < reportOctets * getD (c .answer) 2 0 → getD (c .report) i 0 ≡ 0) → (s ≡ imageOf u) × HearsAll
   c-trusted p zero clean =
-      let z = read-zero answer place index report (reading s codebook thresholds index report) zero in
+      let z = read-zero answer place index report (reading s tables index report) zero in
       let g = z .1 .0 in
-      let q = got-is s codebook thresholds index report answer place (z .0) g (z .1 .1) in
-      let w = T.trusted-by-one u s p codebook thresholds index report g
+      let q = got-is s tables index report answer place (z .0) g (z .1 .1) in
+      let w = T.trusted-by-one u s p tables index report g
       (record {
         succeeds = z .1 .1;
         notes-0 = λ i h.
             ap (λ (x : Returned). getD (x .report) i 0) (sym q)
-            ∙ clean i (subst (λ (n : ℕ). i < reportOctets * n) (sym (at s codebook thresholds index report answer place (z .0) g (z .1 .1) 2)) h);
+            ∙ clean i (subst (λ (n : ℕ). i < reportOctets * n) (sym (at s tables index report answer place (z .0) g (z .1 .1) 2)) h);
       }) in
-      let e : reading s codebook thresholds index report
-      ≡ outcome (Read (spoken u)) (over index 0 (indexOctets * multiframesOf u) (padded u)) (reading s codebook thresholds index report .report) =
-      parts (reading s codebook thresholds index report) (z .1 .1 ∙ ap Read (w .sent)) (w .frames) in
-      (w .image, hears (reading s codebook thresholds index report .report) (z .0) e)
+      let e : reading s tables index report
+      ≡ outcome (Read (spoken u)) (over index 0 (indexOctets * multiframesOf u) (padded u)) (reading s tables index report .report) =
+      parts (reading s tables index report) (z .1 .1 ∙ ap Read (w .sent)) (w .frames) in
+      (w .image, hears (reading s tables index report .report) (z .0) e)
     where
       parts : (x : Outcome) {b : Answer} {i : List ℕ} → x .answer ≡ b → x .index ≡ i → x ≡ outcome b i (x .report)
       parts x e f = ap₂ (λ (a : Answer) (j : List ℕ). outcome a j (x .report)) e f
 
   -- IF IT IS READ: at most three flips in each header and demand 3's damage to packets; 0 tells all of it
-  pub c-names-if-read : DamageUpTo 3 (multiframesOf u) (imageOf u) s → c .number ≡ 0 → Tells u s codebook thresholds (c .number) (c .answer) (c .index) (c .report)
+  pub c-names-if-read : DamageUpTo 3 (multiframesOf u) (imageOf u) s → c .number ≡ 0 → Tells u s tables (c .number) (c .answer) (c .index) (c .report)
   c-names-if-read d zero =
-      let z = read-zero answer place index report (reading s codebook thresholds index report) zero in
-      named (record { given = z .1 .0; succeeds = z .1 .1; names = I.names-if-read u s d codebook thresholds index report (z .1 .0) (z .1 .1) }) (z .0) .0
+      let z = read-zero answer place index report (reading s tables index report) zero in
+      named (record { given = z .1 .0; succeeds = z .1 .1; names = I.names-if-read u s d tables index report (z .1 .0) (z .1 .1) }) (z .0) .0
 
   -- NO PAIR NAMED at dsr_read: all of it is heard, and each header note is the number of flips, three for a lost one
   pub c-heard-whole : DamageUpTo 3 (multiframesOf u) (imageOf u) s → c .number ≡ 0
       → ((k j : ℕ) → k < multiframesOf u → j < multiframePairs → pairNoteAt (c .report) k j ≡ 0)
       → HearsAll × ((k : ℕ) → k < multiframesOf u → headerNoteAt (c .report) k ≡ headerFlips (imageOf u) s k)
   c-heard-whole d zero none =
-      let z = read-zero answer place index report (reading s codebook thresholds index report) zero in
-      let q = got-is s codebook thresholds index report answer place (z .0) (z .1 .0) (z .1 .1) in
-      let e = I.heard-if-read u s d codebook thresholds index report (z .1 .0) (z .1 .1) (λ i h.
+      let z = read-zero answer place index report (reading s tables index report) zero in
+      let q = got-is s tables index report answer place (z .0) (z .1 .0) (z .1 .1) in
+      let e = I.heard-if-read u s d tables index report (z .1 .0) (z .1 .1) (λ i h.
       ap (λ (x : Returned). pairNoteIn (x .report) i) (sym q) ∙ none (i / multiframePairs) (i % multiframePairs) (omega arith) (omega arith)) in (
         hears (over report 0 (reportOctets * multiframesOf u) (mendedReport u s)) (z .0) e,
         (λ k h. ap (λ (x : Returned). headerNoteAt (x .report) k) q ∙ ap (λ (x : Outcome). headerNoteAt (x .report) k) e ∙ header-octet k h),
@@ -255,17 +255,17 @@ module _ (u : Utterance) (s : List ℕ) (codebook thresholds : List ℤ) (index 
   pub c-last-heard : DamageUpTo 3 (multiframesOf u) (imageOf u) s → c .number ≡ 0
       → ((j : ℕ) → j < multiframePairs → pairNoteAt (c .report) (multiframesOf u - 1) j ≡ 0) → (getD (c .answer) 3 0 ≡ frameCount (u .indices)) × (getD (c .answer) 5 0 ≡ 1)
   c-last-heard d zero none =
-      let z = read-zero answer place index report (reading s codebook thresholds index report) zero in
-      let q = got-is s codebook thresholds index report answer place (z .0) (z .1 .0) (z .1 .1) in
-      let f = at s codebook thresholds index report answer place (z .0) (z .1 .0) (z .1 .1) in
-      let l = I.last-if-read u s d codebook thresholds index report (z .1 .0) (z .1 .1) (λ i b h.
+      let z = read-zero answer place index report (reading s tables index report) zero in
+      let q = got-is s tables index report answer place (z .0) (z .1 .0) (z .1 .1) in
+      let f = at s tables index report answer place (z .0) (z .1 .0) (z .1 .1) in
+      let l = I.last-if-read u s d tables index report (z .1 .0) (z .1 .1) (λ i b h.
       let k : i / multiframePairs ≡ multiframesOf u - 1 = omega arith in
       ap (λ (x : Returned). pairNoteIn (x .report) i) (sym q) ∙ ap (λ (x : ℕ). pairNoteAt (c .report) x (i % multiframePairs)) k ∙ none (i % multiframePairs) (omega arith)) in
       (f 3 ∙ l .0, f 5 ∙ l .1)
 
 -- WHAT STAYS of any input that dsr_read answers with 0
-pub c-stays : (s : List ℕ) (codebook thresholds : List ℤ) (index report answer : List ℕ) (place : ℕ) → dsrRead s codebook thresholds index report answer place .number ≡ 0
-    → Stays s codebook thresholds index report answer place
-c-stays s codebook thresholds index report answer place zero =
-    let z = read-zero answer place index report (reading s codebook thresholds index report) zero in
-    stays s codebook thresholds index report answer place (z .0) (z .1 .0) (z .1 .1)
+pub c-stays : (s : List ℕ) (tables : Tables) (index report answer : List ℕ) (place : ℕ) → dsrRead s tables index report answer place .number ≡ 0
+    → Stays s tables index report answer place
+c-stays s tables index report answer place zero =
+    let z = read-zero answer place index report (reading s tables index report) zero in
+    stays s tables index report answer place (z .0) (z .1 .0) (z .1 .1)

@@ -10,7 +10,6 @@ use Prim.Native.Nat.{ℕ, suc, _+_, _*_, _≤_, _<_}
 use native.Mathlib.Decide.{decLt}
 use native.Mathlib.Omega.{arith}
 use lib.Dec.{lit≤}
-use lib.IntN.{ℤ}
 use lib.ListN.{length, getD, List·getD-eq-default, drop, replicate}
 use lib.Seq.{getD-take, getD-drop}
 use Rattle.hunting_demands.specs.HuntsBack.{receivedFlips}
@@ -18,6 +17,7 @@ use Rattle.writer.specs.Made.{packetIn}
 use Rattle.lists.specs.Rows.{joined, length-joined, joined-part}
 use Rattle.lists.specs.Parts.{over}
 use Rattle.layout.specs.Layout.{indexOctets, reportOctets, multiframePairs}
+use Rattle.consistency.specs.Tables.{Tables}
 use Rattle.settings.specs.declared.Settings.{Settings}
 use Rattle.bits.specs.Bits.{bits}
 use Rattle.reader.specs.Reading as R
@@ -45,12 +45,12 @@ use Rattle.hunting_demands.specs.Radio as Radio
 use Rattle.dsr_demands.specs.Calls.{bits-success, bits-zero, beyond}
 use Rattle.dsr_demands.specs.Named.{Tells, tells, headerNoteAt, pairNoteAt, beyond-both}
 
-module _ (u : Utterance) (s : List ℕ) (from at least : ℕ) (codebook thresholds : List ℤ) (index report answer : List ℕ) (place : ℕ) where
+module _ (u : Utterance) (s : List ℕ) (from at least : ℕ) (tables : Tables) (index report answer : List ℕ) (place : ℕ) where
   abbrev c : Returned
-  c = dsrReadBits s from least codebook thresholds index report answer place
+  c = dsrReadBits s from least tables index report answer place
 
   abbrev o : G.Outcome
-  o = huntingReading s from least codebook thresholds index report
+  o = huntingReading s from least tables index report
 
   -- the bits outside, the places tested, and the place as it came
   pub record Counts : Type 0 where
@@ -67,14 +67,14 @@ module _ (u : Utterance) (s : List ℕ) (from at least : ℕ) (codebook threshol
   stood a = record { packets = packet-there u s from at least a; headers = flips-there u s from at least a }
 
   -- NAMES THE DAMAGE at dsr_read_bits
-  pub c-names-on-air : (a : OnAir u s from at least) → Radio.Premises u s from at least a codebook thresholds index report → countedNumbers ≤ length answer
-      → Tells u (together u s at) codebook thresholds (c .number) (c .answer) (c .index) (c .report) × (Stood × Counts)
+  pub c-names-on-air : (a : OnAir u s from at least) → Radio.Premises u s from at least a tables index report → countedNumbers ≤ length answer
+      → Tells u (together u s at) tables (c .number) (c .answer) (c .index) (c .report) × (Stood × Counts)
   c-names-on-air a p room =
-      let n = Radio.names-on-air u s from at least a codebook thresholds index report p in
+      let n = Radio.names-on-air u s from at least a tables index report p in
       let e = bits-success answer place index report o room (n .given) (n .succeeds) in
       let f : (k : ℕ) → getD (c .answer) k 0 ≡ getD (over answer 0 countedNumbers (numbersOf (n .given))) k 0 = λ k. ap (λ (x : Returned). getD (x .answer) k 0) e in (
-        tells u (together u s at) codebook thresholds (n .given .summary) (c .answer) (c .index) (c .report)
-            (subst (λ (x : Returned). N.Names u (together u s at) codebook thresholds (n .given .summary) (x .index) (x .report)) (sym e) (n .names)) (c .number)
+        tells u (together u s at) tables (n .given .summary) (c .answer) (c .index) (c .report)
+            (subst (λ (x : Returned). N.Names u (together u s at) tables (n .given .summary) (x .index) (x .report)) (sym e) (n .names)) (c .number)
             (ap (λ (x : Returned). x .number) e) (f 0) (f 1) (f 2) (f 4),
         (stood (a .caught), record { outside = f 6 ∙ n .outside; tested = f 7 ∙ n .tested; place-stays = ap (λ (x : Returned). x .place) e }),
       )
@@ -111,11 +111,11 @@ module _ (u : Utterance) (s : List ℕ) (from at least : ℕ) (codebook threshol
       }
 
   -- READING BACK at dsr_read_bits: each header note is the number of flips there, and no pair has one
-  pub c-hunts-back : B.Premises u s from at least codebook thresholds index report → countedNumbers ≤ length answer
+  pub c-hunts-back : B.Premises u s from at least tables index report → countedNumbers ≤ length answer
       → HearsAll × (((k : ℕ) → k < multiframesOf u → headerNoteAt (c .report) k ≡ receivedFlips u s at k)
       × (((k j : ℕ) → k < multiframesOf u → j < multiframePairs → pairNoteAt (c .report) k j ≡ 0) × Counts))
   c-hunts-back p room =
-      let q = B.hunts-back u s from at least codebook thresholds index report p in
+      let q = B.hunts-back u s from at least tables index report p in
       let g : Counted = record { summary = spoken u; outside = outsideOf (bits s) from (multiframesOf u); tested = testedInRow (bits s) from at (multiframesOf u) } in
       let r : o .answer ≡ Read g = ap (λ (x : G.Outcome). x .answer) q in
       let e = bits-success answer place index report o room g r in (
@@ -158,10 +158,10 @@ module _ (u : Utterance) (s : List ℕ) (from at least : ℕ) (codebook threshol
       let z = bits-zero answer place index report o zero in
       let g = z .1 .0 in
       let e = bits-success answer place index report o (z .0) g (z .1 .1) in
-      let y : R.reading (together u s at) codebook thresholds index report ≡ R.outcome (RA.Read (g .summary)) (o .index) (o .report) =
-      ap (λ (ps : List ℕ). R.reading (G.imageOf s ps) codebook thresholds index report) (sym (found-on-air u s from at least (a .caught)))
-      ∙ F.success s from least codebook thresholds index report g (z .1 .1) .as-01-says in
-      let w = T.trusted u (together u s at) (on-air u s from at least a) codebook thresholds index report (g .summary)
+      let y : R.reading (together u s at) tables index report ≡ R.outcome (RA.Read (g .summary)) (o .index) (o .report) =
+      ap (λ (ps : List ℕ). R.reading (G.imageOf s ps) tables index report) (sym (found-on-air u s from at least (a .caught)))
+      ∙ F.success s from least tables index report g (z .1 .1) .as-01-says in
+      let w = T.trusted u (together u s at) (on-air u s from at least a) tables index report (g .summary)
       (record {
         succeeds = ap (λ (x : R.Outcome). x .answer) y;
         notes-0 = λ i h.
@@ -178,10 +178,10 @@ module _ (u : Utterance) (s : List ℕ) (from at least : ℕ) (codebook threshol
       let z = bits-zero answer place index report o zero in
       let g = z .1 .0 in
       let e = bits-success answer place index report o (z .0) g (z .1 .1) in
-      let y : R.reading (together u s at) codebook thresholds index report ≡ R.outcome (RA.Read (g .summary)) (o .index) (o .report) =
-      ap (λ (ps : List ℕ). R.reading (G.imageOf s ps) codebook thresholds index report) (sym (found-on-air u s from at least a))
-      ∙ F.success s from least codebook thresholds index report g (z .1 .1) .as-01-says in
-      let w = M.never-misled u (together u s at) premises codebook thresholds index report (g .summary) (ap (λ (x : R.Outcome). x .answer) y) in
+      let y : R.reading (together u s at) tables index report ≡ R.outcome (RA.Read (g .summary)) (o .index) (o .report) =
+      ap (λ (ps : List ℕ). R.reading (G.imageOf s ps) tables index report) (sym (found-on-air u s from at least a))
+      ∙ F.success s from least tables index report g (z .1 .1) .as-01-says in
+      let w = M.never-misled u (together u s at) premises tables index report (g .summary) (ap (λ (x : R.Outcome). x .answer) y) in
       let f : (k : ℕ) → getD (c .answer) k 0 ≡ getD (over answer 0 countedNumbers (numbersOf g)) k 0 = λ k. ap (λ (x : Returned). getD (x .answer) k 0) e in
       (f 0 ∙ ap (λ (x : Settings). x .rate) (w .settings), (f 1 ∙ ap (λ (x : Settings). x .kind) (w .settings), f 2 ∙ w .multiframes))
     where
@@ -199,9 +199,9 @@ module _ (u : Utterance) (s : List ℕ) (from at least : ℕ) (codebook threshol
       }
 
 -- WHAT STAYS of any input that dsr_read_bits answers with 0: octets beyond both parts, numbers beyond the eight, and the place
-module _ (s : List ℕ) (from least : ℕ) (codebook thresholds : List ℤ) (index report answer : List ℕ) (place : ℕ) where
+module _ (s : List ℕ) (from least : ℕ) (tables : Tables) (index report answer : List ℕ) (place : ℕ) where
   abbrev gives : Returned
-  gives = dsrReadBits s from least codebook thresholds index report answer place
+  gives = dsrReadBits s from least tables index report answer place
 
   pub record BitsStay : Type 0 where
     pub index-beyond : drop (indexOctets * getD (gives .answer) 2 0) (gives .index) ≡ drop (indexOctets * getD (gives .answer) 2 0) index
@@ -209,20 +209,20 @@ module _ (s : List ℕ) (from least : ℕ) (codebook thresholds : List ℤ) (ind
     pub answer-beyond : drop countedNumbers (gives .answer) ≡ drop countedNumbers answer
     pub place-stays : gives .place ≡ place
 
-pub c-bits-stay : (s : List ℕ) (from least : ℕ) (codebook thresholds : List ℤ) (index report answer : List ℕ) (place : ℕ)
-    → dsrReadBits s from least codebook thresholds index report answer place .number ≡ 0 → BitsStay s from least codebook thresholds index report answer place
-c-bits-stay s from least codebook thresholds index report answer place zero =
-    let o = huntingReading s from least codebook thresholds index report in
+pub c-bits-stay : (s : List ℕ) (from least : ℕ) (tables : Tables) (index report answer : List ℕ) (place : ℕ)
+    → dsrReadBits s from least tables index report answer place .number ≡ 0 → BitsStay s from least tables index report answer place
+c-bits-stay s from least tables index report answer place zero =
+    let o = huntingReading s from least tables index report in
     let z = bits-zero answer place index report o zero in
     let g = z .1 .0 in
     let e = bits-success answer place index report o (z .0) g (z .1 .1) in
-    let y = F.success s from least codebook thresholds index report g (z .1 .1) .as-01-says in
-    let b = beyond-both (G.imageOf s (G.all s from least codebook thresholds index report .places)) codebook thresholds index report (g .summary) (ap (λ (x : R.Outcome). x .answer) y) in
-    let m : getD (dsrReadBits s from least codebook thresholds index report answer place .answer) 2 0 ≡ g .summary .multiframes = ap (λ (x : Returned). getD (x .answer) 2 0) e in
+    let y = F.success s from least tables index report g (z .1 .1) .as-01-says in
+    let b = beyond-both (G.imageOf s (G.all s from least tables index report .places)) tables index report (g .summary) (ap (λ (x : R.Outcome). x .answer) y) in
+    let m : getD (dsrReadBits s from least tables index report answer place .answer) 2 0 ≡ g .summary .multiframes = ap (λ (x : Returned). getD (x .answer) 2 0) e in
     record {
-      index-beyond = subst (λ (n : ℕ). drop (indexOctets * n) (dsrReadBits s from least codebook thresholds index report answer place .index) ≡ drop (indexOctets * n) index) (sym m)
+      index-beyond = subst (λ (n : ℕ). drop (indexOctets * n) (dsrReadBits s from least tables index report answer place .index) ≡ drop (indexOctets * n) index) (sym m)
           (ap (λ (x : Returned). drop (indexOctets * g .summary .multiframes) (x .index)) e ∙ sym (ap (λ (x : R.Outcome). drop (indexOctets * g .summary .multiframes) (x .index)) y) ∙ b .0);
-      report-beyond = subst (λ (n : ℕ). drop (reportOctets * n) (dsrReadBits s from least codebook thresholds index report answer place .report) ≡ drop (reportOctets * n) report) (sym m)
+      report-beyond = subst (λ (n : ℕ). drop (reportOctets * n) (dsrReadBits s from least tables index report answer place .report) ≡ drop (reportOctets * n) report) (sym m)
           (ap (λ (x : Returned). drop (reportOctets * g .summary .multiframes) (x .report)) e ∙ sym (ap (λ (x : R.Outcome). drop (reportOctets * g .summary .multiframes) (x .report)) y) ∙ b .1);
       answer-beyond = ap (λ (x : Returned). drop countedNumbers (x .answer)) e ∙ beyond answer (numbersOf g) countedNumbers (z .0) refl;
       place-stays = ap (λ (x : Returned). x .place) e;

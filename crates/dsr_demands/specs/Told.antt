@@ -21,7 +21,7 @@ use Rattle.dsr.specs.Entries.{answerNumbers, Returned, dsrRead}
 use Rattle.dsr.specs.Bits.{dsrReadBits}
 use Rattle.demands.specs.Damage.{loosened, headerFlips, DamageUpTo}
 use Rattle.demands.specs.Damages.{unharmed}
-use Rattle.demands.specs.Met.{zeroBook, zeroThresholds, indexFor, reportFor, lent-zeros, says24}
+use Rattle.demands.specs.Met.{zeroTables, indexFor, reportFor, lent-zeros, says24}
 use Rattle.demands.specs.NamesTheDamage as N
 use Rattle.demands.specs.ReadsBack.{spoken}
 use Rattle.promises.specs.Flipped.{flipped, butOne, rateBits}
@@ -41,9 +41,9 @@ use Rattle.dsr_demands.specs.Cut.{c-cut-off}
 use Rattle.dsr_demands.specs.Met.{six, eight, roomFor, call-met}
 
 -- a reading with tables of zeros and just enough room that succeeds is answered with 0
-answers-0 : (s : List ℕ) (m : ℕ) (g : Summary) → reading s zeroBook zeroThresholds (indexFor m) (reportFor m) .answer ≡ Read g
-    → dsrRead s zeroBook zeroThresholds (indexFor m) (reportFor m) six 0 .number ≡ 0
-answers-0 s m g e = ap (λ (x : Returned). x .number) (read-success six 0 (indexFor m) (reportFor m) (reading s zeroBook zeroThresholds (indexFor m) (reportFor m)) (lit≤ tt) g e)
+answers-0 : (s : List ℕ) (m : ℕ) (g : Summary) → reading s zeroTables (indexFor m) (reportFor m) .answer ≡ Read g
+    → dsrRead s zeroTables (indexFor m) (reportFor m) six 0 .number ≡ 0
+answers-0 s m g e = ap (λ (x : Returned). x .number) (read-success six 0 (indexFor m) (reportFor m) (reading s zeroTables (indexFor m) (reportFor m)) (lit≤ tt) g e)
 
 abbrev index48 : List ℕ
 index48 = indexFor (multiframesOf P.says48)
@@ -53,15 +53,15 @@ report48 = reportFor (multiframesOf P.says48)
 
 -- NEVER MISLED: the incident. Three multiframes at 8 kHz, the second header is that of 11 kHz, and a packet is any 92 bits: the rate is 0
 pub incident-told : (p : List Bool) → length p ≡ packetBits
-    → (dsrRead (flipped P.says48 (P.inSecond rateBits 3) (butOne P.says48 0 p)) zeroBook zeroThresholds index48 report48 six 0 .number ≡ 0)
-    × (getD (dsrRead (flipped P.says48 (P.inSecond rateBits 3) (butOne P.says48 0 p)) zeroBook zeroThresholds index48 report48 six 0 .answer) 0 0 ≡ 0)
+    → (dsrRead (flipped P.says48 (P.inSecond rateBits 3) (butOne P.says48 0 p)) zeroTables index48 report48 six 0 .number ≡ 0)
+    × (getD (dsrRead (flipped P.says48 (P.inSecond rateBits 3) (butOne P.says48 0 p)) zeroTables index48 report48 six 0 .answer) 0 0 ≡ 0)
 incident-told p size =
     let h = P.incident-48 p size in
     let s = flipped P.says48 (P.inSecond rateBits 3) (butOne P.says48 0 p) in
     let three : multiframesOf P.says48 ≡ 3 = P.three-multiframes in
     let zero = answers-0 s (multiframesOf P.says48) (h .given) (h .succeeds) in (
       zero,
-      c-never-misled P.says48 s zeroBook zeroThresholds index48 report48 six 0 (P.misled-met P.says48 rateBits 3 (lit< tt) (lit< tt) (butOne P.says48 0 p) le-of-two (omega arith)) zero .0
+      c-never-misled P.says48 s zeroTables index48 report48 six 0 (P.misled-met P.says48 rateBits 3 (lit< tt) (lit< tt) (butOne P.says48 0 p) le-of-two (omega arith)) zero .0
           ∙ P.rate-48,
     )
   where
@@ -70,12 +70,12 @@ incident-told p size =
 
 -- TRUSTED: every image is answered with 0 and all notes 0, so it is heard whole
 pub trusted-told : (u : Utterance)
-    → (imageOf u ≡ imageOf u) × HearsAll u (imageOf u) zeroBook zeroThresholds (indexFor (multiframesOf u)) (reportFor (multiframesOf u)) six 0
+    → (imageOf u ≡ imageOf u) × HearsAll u (imageOf u) zeroTables (indexFor (multiframesOf u)) (reportFor (multiframesOf u)) six 0
 trusted-told u =
     let m = multiframesOf u in
-    let w = P.without-warning u zeroBook zeroThresholds (indexFor m) (reportFor m) (lent-zeros m) in
-    let e = got-is (imageOf u) zeroBook zeroThresholds (indexFor m) (reportFor m) six 0 (lit≤ tt) (spoken u) (w .succeeds) in
-    c-trusted u (imageOf u) zeroBook zeroThresholds (indexFor m) (reportFor m) six 0
+    let w = P.without-warning u zeroTables (indexFor m) (reportFor m) (lent-zeros m) in
+    let e = got-is (imageOf u) zeroTables (indexFor m) (reportFor m) six 0 (lit≤ tt) (spoken u) (w .succeeds) in
+    c-trusted u (imageOf u) zeroTables (indexFor m) (reportFor m) six 0
     (record {
       damage = loosened (lit≤ tt) (unharmed u);
       header = 0;
@@ -86,48 +86,48 @@ trusted-told u =
     (λ i h. ap (λ (x : Returned). getD (x .report) i 0) e ∙ w .notes-0 i (subst (λ (n : ℕ). i < reportOctets * n) (ap (λ (x : Returned). getD (x .answer) 2 0) e) h))
 
 -- HEARD WHOLE: three multiframes, headers with two, three and one flips; the second is lost, and its note is 3
-pub heard-told : HearsAll P.says48 (P.lostOne P.says48) zeroBook zeroThresholds index48 report48 six 0
-    × ((k : ℕ) → k < multiframesOf P.says48 → headerNoteAt (dsrRead (P.lostOne P.says48) zeroBook zeroThresholds index48 report48 six 0 .report) k ≡ headerFlips (imageOf P.says48) (P.lostOne P.says48) k)
+pub heard-told : HearsAll P.says48 (P.lostOne P.says48) zeroTables index48 report48 six 0
+    × ((k : ℕ) → k < multiframesOf P.says48 → headerNoteAt (dsrRead (P.lostOne P.says48) zeroTables index48 report48 six 0 .report) k ≡ headerFlips (imageOf P.says48) (P.lostOne P.says48) k)
 heard-told =
     let s = P.lostOne P.says48 in
     let three : multiframesOf P.says48 ≡ 3 = P.three-multiframes in
-    let w = P.heard-met P.says48 (omega arith) zeroBook zeroThresholds index48 report48 (lent-zeros (multiframesOf P.says48)) in
-    let e = got-is s zeroBook zeroThresholds index48 report48 six 0 (lit≤ tt) (spoken P.says48) (P.heard-48 .succeeds) in
-    c-heard-whole P.says48 s zeroBook zeroThresholds index48 report48 six 0 (w .damage) (ap (λ (x : Returned). x .number) e) (λ k j h l.
+    let w = P.heard-met P.says48 (omega arith) zeroTables index48 report48 (lent-zeros (multiframesOf P.says48)) in
+    let e = got-is s zeroTables index48 report48 six 0 (lit≤ tt) (spoken P.says48) (P.heard-48 .succeeds) in
+    c-heard-whole P.says48 s zeroTables index48 report48 six 0 (w .damage) (ap (λ (x : Returned). x .number) e) (λ k j h l.
     let z : reportOctets * ((multiframePairs * k + j) / multiframePairs) + 1 + (multiframePairs * k + j) % multiframePairs ≡ reportOctets * k + 1 + j = omega arith in
-    ap (λ (x : Returned). getD (x .report) (reportOctets * k + 1 + j) 0) e ∙ ap (λ (i : ℕ). getD (reading s zeroBook zeroThresholds index48 report48 .report) i 0) (sym z)
-    ∙ P.none-named P.says48 (omega arith) zeroBook zeroThresholds index48 report48 (lent-zeros (multiframesOf P.says48)) (multiframePairs * k + j) (omega arith))
+    ap (λ (x : Returned). getD (x .report) (reportOctets * k + 1 + j) 0) e ∙ ap (λ (i : ℕ). getD (reading s zeroTables index48 report48 .report) i 0) (sym z)
+    ∙ P.none-named P.says48 (omega arith) zeroTables index48 report48 (lent-zeros (multiframesOf P.says48)) (multiframePairs * k + j) (omega arith))
 
 -- CUT OFF: the first of two multiframes alone is answered with 0 and end 0
-pub cut-told : dsrRead (take (multiframeOctets * 1) (imageOf ones24)) zeroBook zeroThresholds (indexFor 1) (reportFor 1) six 0 .answer ≡ over six 0 answerNumbers (0 ∷ 0 ∷ 1 ∷ 24 ∷ 0 ∷ 0 ∷ [])
-cut-told = c-cut-off zeroBook zeroThresholds (indexFor 1) (reportFor 1) six 0 ones24 1 (omega arith) (answers-0 (take (multiframeOctets * 1) (imageOf ones24)) 1 _ first-of-24)
+pub cut-told : dsrRead (take (multiframeOctets * 1) (imageOf ones24)) zeroTables (indexFor 1) (reportFor 1) six 0 .answer ≡ over six 0 answerNumbers (0 ∷ 0 ∷ 1 ∷ 24 ∷ 0 ∷ 0 ∷ [])
+cut-told = c-cut-off zeroTables (indexFor 1) (reportFor 1) six 0 ones24 1 (omega arith) (answers-0 (take (multiframeOctets * 1) (imageOf ones24)) 1 _ first-of-24)
 
 -- ON AIR: two multiframes at bit 3 with four flips in each sync, two in each header, and damaged packets: the settings are those sent
-pub air-told : (dsrReadBits (aired says24) 0 fewestMatches zeroBook zeroThresholds (indexFor (multiframesOf says24)) (reportFor (multiframesOf says24)) eight 0 .number ≡ 0)
-    × (getD (dsrReadBits (aired says24) 0 fewestMatches zeroBook zeroThresholds (indexFor (multiframesOf says24)) (reportFor (multiframesOf says24)) eight 0 .answer) 0 0 ≡ says24 .settings .rate)
+pub air-told : (dsrReadBits (aired says24) 0 fewestMatches zeroTables (indexFor (multiframesOf says24)) (reportFor (multiframesOf says24)) eight 0 .number ≡ 0)
+    × (getD (dsrReadBits (aired says24) 0 fewestMatches zeroTables (indexFor (multiframesOf says24)) (reportFor (multiframesOf says24)) eight 0 .answer) 0 0 ≡ says24 .settings .rate)
 air-told =
     let i = indexFor (multiframesOf says24) in
     let r = reportFor (multiframesOf says24) in
-    let n = O.c-names-on-air says24 (aired says24) 0 3 fewestMatches zeroBook zeroThresholds i r eight 0 (aired-on-air says24) names-aired-24 (lit≤ tt) .0 in
-    (n .success, O.c-never-misled-on-air says24 (aired says24) 0 3 fewestMatches zeroBook zeroThresholds i r eight 0 (aired-on-air says24 .caught) (n .success) .0)
+    let n = O.c-names-on-air says24 (aired says24) 0 3 fewestMatches zeroTables i r eight 0 (aired-on-air says24) names-aired-24 (lit≤ tt) .0 in
+    (n .success, O.c-never-misled-on-air says24 (aired says24) 0 3 fewestMatches zeroTables i r eight 0 (aired-on-air says24 .caught) (n .success) .0)
 
 -- and every image, shifted by three bits, is read back
-pub air-back : (u : Utterance) → O.HearsAll u (HM.shiftedOctets u) 0 3 fewestMatches zeroBook zeroThresholds (indexFor (multiframesOf u)) (reportFor (multiframesOf u)) eight 0
+pub air-back : (u : Utterance) → O.HearsAll u (HM.shiftedOctets u) 0 3 fewestMatches zeroTables (indexFor (multiframesOf u)) (reportFor (multiframesOf u)) eight 0
 air-back u =
     let m = multiframesOf u in
     let c = shifted-carried u (HM.shiftedOctets u) 0 fewestMatches HM.threeZeros HM.fiveZeros (HM.shifted-met u fewestMatches (lit≤ tt)) (lit≤ tt) in
-    O.c-hunts-back u (HM.shiftedOctets u) 0 3 fewestMatches zeroBook zeroThresholds (indexFor m) (reportFor m) eight 0
+    O.c-hunts-back u (HM.shiftedOctets u) 0 3 fewestMatches zeroTables (indexFor m) (reportFor m) eight 0
     (record { carried = c; low = lit≤ tt; settled = inr (no-flips u (HM.shiftedOctets u) 0 fewestMatches HM.threeZeros HM.fiveZeros (HM.shifted-met u fewestMatches (lit≤ tt)) 0 (omega arith)); lent = lent-zeros m }) (lit≤ tt) .0
 
 -- IF IT IS READ: three multiframes, the second header lost, two packets damaged: the notes are told
-pub read-told : Tells P.says48 (P.allHurt P.says48) zeroBook zeroThresholds
-    (dsrRead (P.allHurt P.says48) zeroBook zeroThresholds index48 report48 six 0 .number) (dsrRead (P.allHurt P.says48) zeroBook zeroThresholds index48 report48 six 0 .answer)
-    (dsrRead (P.allHurt P.says48) zeroBook zeroThresholds index48 report48 six 0 .index) (dsrRead (P.allHurt P.says48) zeroBook zeroThresholds index48 report48 six 0 .report)
+pub read-told : Tells P.says48 (P.allHurt P.says48) zeroTables
+    (dsrRead (P.allHurt P.says48) zeroTables index48 report48 six 0 .number) (dsrRead (P.allHurt P.says48) zeroTables index48 report48 six 0 .answer)
+    (dsrRead (P.allHurt P.says48) zeroTables index48 report48 six 0 .index) (dsrRead (P.allHurt P.says48) zeroTables index48 report48 six 0 .report)
 read-told =
     let three : multiframesOf P.says48 ≡ 3 = P.three-multiframes in
     let w = P.wider-met P.says48 (omega arith) in
-    let n = N.names-wider P.says48 (P.allHurt P.says48) zeroBook zeroThresholds index48 report48 w in
-    c-names-if-read P.says48 (P.allHurt P.says48) zeroBook zeroThresholds index48 report48 six 0 (w .damage) (answers-0 (P.allHurt P.says48) (multiframesOf P.says48) (n .given) (n .succeeds))
+    let n = N.names-wider P.says48 (P.allHurt P.says48) zeroTables index48 report48 w in
+    c-names-if-read P.says48 (P.allHurt P.says48) zeroTables index48 report48 six 0 (w .damage) (answers-0 (P.allHurt P.says48) (multiframesOf P.says48) (n .given) (n .succeeds))
 
 -- FROM CALL TO CALL: every utterance that dsr_write wrote, undamaged, is answered by dsr_read with 0 and told
 module _ (u : Utterance) where
@@ -137,16 +137,16 @@ module _ (u : Utterance) where
   sent-is : octetsOf (u .settings .rate) (u .settings .kind) (u .indices) (roomFor u) ≡ imageOf u
   sent-is = octets-are (u .settings .rate) (u .settings .kind) (u .indices) (roomFor u) (call-met u)
 
-  zero : dsrRead sent zeroBook zeroThresholds (indexFor (multiframesOf u)) (reportFor (multiframesOf u)) six 0 .number ≡ 0
+  zero : dsrRead sent zeroTables (indexFor (multiframesOf u)) (reportFor (multiframesOf u)) six 0 .number ≡ 0
   zero =
-      ap (λ (l : List ℕ). dsrRead l zeroBook zeroThresholds (indexFor (multiframesOf u)) (reportFor (multiframesOf u)) six 0 .number) sent-is
-      ∙ answers-0 (imageOf u) (multiframesOf u) (spoken u) (P.without-warning u zeroBook zeroThresholds (indexFor (multiframesOf u)) (reportFor (multiframesOf u)) (lent-zeros (multiframesOf u)) .succeeds)
+      ap (λ (l : List ℕ). dsrRead l zeroTables (indexFor (multiframesOf u)) (reportFor (multiframesOf u)) six 0 .number) sent-is
+      ∙ answers-0 (imageOf u) (multiframesOf u) (spoken u) (P.without-warning u zeroTables (indexFor (multiframesOf u)) (reportFor (multiframesOf u)) (lent-zeros (multiframesOf u)) .succeeds)
 
-  pub link-told : Tells (called (u .settings .rate) (u .settings .kind) (u .indices) (roomFor u) (call-met u)) sent zeroBook zeroThresholds
-      (dsrRead sent zeroBook zeroThresholds (indexFor (multiframesOf u)) (reportFor (multiframesOf u)) six 0 .number)
-      (dsrRead sent zeroBook zeroThresholds (indexFor (multiframesOf u)) (reportFor (multiframesOf u)) six 0 .answer)
-      (dsrRead sent zeroBook zeroThresholds (indexFor (multiframesOf u)) (reportFor (multiframesOf u)) six 0 .index)
-      (dsrRead sent zeroBook zeroThresholds (indexFor (multiframesOf u)) (reportFor (multiframesOf u)) six 0 .report)
+  pub link-told : Tells (called (u .settings .rate) (u .settings .kind) (u .indices) (roomFor u) (call-met u)) sent zeroTables
+      (dsrRead sent zeroTables (indexFor (multiframesOf u)) (reportFor (multiframesOf u)) six 0 .number)
+      (dsrRead sent zeroTables (indexFor (multiframesOf u)) (reportFor (multiframesOf u)) six 0 .answer)
+      (dsrRead sent zeroTables (indexFor (multiframesOf u)) (reportFor (multiframesOf u)) six 0 .index)
+      (dsrRead sent zeroTables (indexFor (multiframesOf u)) (reportFor (multiframesOf u)) six 0 .report)
   link-told =
-      c-link-names (u .settings .rate) (u .settings .kind) (u .indices) (roomFor u) (call-met u) sent zeroBook zeroThresholds (indexFor (multiframesOf u)) (reportFor (multiframesOf u)) six 0
+      c-link-names (u .settings .rate) (u .settings .kind) (u .indices) (roomFor u) (call-met u) sent zeroTables (indexFor (multiframesOf u)) (reportFor (multiframesOf u)) six 0
       (subst (λ (l : List ℕ). DamageUpTo 3 (countOf (u .indices)) l l) (sym sent-is) (loosened (lit≤ tt) (unharmed u))) zero

@@ -5,10 +5,10 @@ use mathlib.Core.Path.{_≡_, refl, sym, ap, ap₂, _∙_, subst}
 use mathlib.Core.Bool.{true, false}
 use mathlib.Core.List.{List, [], _∷_}
 use native.Mathlib.Omega.{arith}
-use lib.IntN.{ℤ}
 use lib.ListN.{length, take}
 use borrow.Author.Tests.{eq-eqb, ne-eqb}
 use Rattle.layout.specs.Layout.{multiframeOctets, mostMultiframes, codebookNumbers, thresholdNumbers}
+use Rattle.consistency.specs.Tables.{Tables}
 use Rattle.bits.specs.Bits.{bits}
 use Rattle.hunt.specs.Hunt.{multiframeBits, inRange, searched}
 use Rattle.reader.specs.Reading as R
@@ -54,17 +54,17 @@ module _ (s : List ℕ) (from least : ℕ) where
       positive : (k : ℕ) → (k ≡ 0 → ⊥) → 0 < k
       positive k h = omega arith
 
-  module _ (codebook thresholds : List ℤ) (index report : List ℕ) where
+  module _ (tables : Tables) (index report : List ℕ) where
     abbrev by-ending : List ℕ → ℕ → Ending → Outcome
-    by-ending ps n e = readingBy s from least codebook thresholds index report ps n e
+    by-ending ps n e = readingBy s from least tables index report ps n e
 
     gone-on : (ps : List ℕ) (n : ℕ) (e : Ending) → found .places ≡ ps → found .tested ≡ n → found .ending ≡ e
-        → by-ending ps n e ≡ readingFound s from least codebook thresholds index report
+        → by-ending ps n e ≡ readingFound s from least tables index report
     unfolding readingFound
     gone-on ps n e ep en ee = rw (ep, en, ee)
 
     -- ---- the reading of what is found
-    pub ends-many : (p : ℕ) → G.TooMany p ≡ answered found → outcome (Refused (TooMany p)) index report ≡ readingFound s from least codebook thresholds index report
+    pub ends-many : (p : ℕ) → G.TooMany p ≡ answered found → outcome (Refused (TooMany p)) index report ≡ readingFound s from least tables index report
     ends-many p e = from-list (found .places) ∙ gone-on (found .places) (found .tested) (tooMany p) refl refl (answered-many found p e)
       where
         from-list : (ps : List ℕ) → outcome (Refused (TooMany p)) index report ≡ by-ending ps (found .tested) (tooMany p)
@@ -72,7 +72,7 @@ module _ (s : List ℕ) (from least : ℕ) where
         from-list (q ∷ ps) = refl
 
     module _ (m n : ℕ) (e : G.Whole m n ≡ answered found) where
-      pub ends-nowhere : m ≡ 0 → outcome (Refused (Nowhere from n)) index report ≡ readingFound s from least codebook thresholds index report
+      pub ends-nowhere : m ≡ 0 → outcome (Refused (Nowhere from n)) index report ≡ readingFound s from least tables index report
       ends-nowhere z =
           let w = answered-whole found m n e in
           none (found .places) (sym (w .1) ∙ z) ∙ gone-on (found .places) n whole refl (sym (w .2)) (w .0)
@@ -82,35 +82,35 @@ module _ (s : List ℕ) (from least : ℕ) where
           none (p ∷ ps) h = absurd (omega arith)
 
       pub ends-read : (image : List ℕ) (b : ℕ) (o : Outcome) → (m ≡ 0 → ⊥) → Laid s found image → b ≡ outsideOf (bits s) from m
-          → o ≡ counted (R.reading (take (multiframeOctets * m) image) codebook thresholds index report) b n
-          → o ≡ readingFound s from least codebook thresholds index report
+          → o ≡ counted (R.reading (take (multiframeOctets * m) image) tables index report) b n
+          → o ≡ readingFound s from least tables index report
       ends-read image b o z laid eb eo =
           let w = answered-whole found m n e in
           let front : take (multiframeOctets * m) image ≡ imageOf s (found .places) =
           ap (λ (k : ℕ). take (multiframeOctets * k) image) (w .1) ∙ subst (λ (x : Ending). LaidBy s (found .places) x image) (w .0) laid in
-          eo ∙ ap₂ (λ (x : List ℕ) (k : ℕ). counted (R.reading x codebook thresholds index report) k n) front (eb ∙ ap (outsideOf (bits s) from) (w .1))
+          eo ∙ ap₂ (λ (x : List ℕ) (k : ℕ). counted (R.reading x tables index report) k n) front (eb ∙ ap (outsideOf (bits s) from) (w .1))
           ∙ some (found .places) (λ y. z (w .1 ∙ y)) ∙ gone-on (found .places) n whole refl (sym (w .2)) (w .0)
         where
           some : (ps : List ℕ) → (length ps ≡ 0 → ⊥)
-              → counted (R.reading (imageOf s ps) codebook thresholds index report) (outsideOf (bits s) from (length ps)) n ≡ by-ending ps n whole
+              → counted (R.reading (imageOf s ps) tables index report) (outsideOf (bits s) from (length ps)) n ≡ by-ending ps n whole
           some [] h = absurd (h refl)
           some (p ∷ ps) h = refl
 
     -- ---- the first tests
-    pub wrong-codebook : (length codebook ≡ codebookNumbers → ⊥) → outcome (Refused (Octets WrongTables)) index report ≡ huntingReading s from least codebook thresholds index report
+    pub wrong-codebook : (length (tables .codebook) ≡ codebookNumbers → ⊥) → outcome (Refused (Octets WrongTables)) index report ≡ huntingReading s from least tables index report
     unfolding huntingReading
-    wrong-codebook h = rw (ne-eqb (length codebook) codebookNumbers h)
+    wrong-codebook h = rw (ne-eqb (length (tables .codebook)) codebookNumbers h)
 
-    module _ (sc : length codebook ≡ codebookNumbers) where
-      pub wrong-thresholds : (length thresholds ≡ thresholdNumbers → ⊥) → outcome (Refused (Octets WrongTables)) index report ≡ huntingReading s from least codebook thresholds index report
+    module _ (sc : length (tables .codebook) ≡ codebookNumbers) where
+      pub wrong-thresholds : (length (tables .thresholds) ≡ thresholdNumbers → ⊥) → outcome (Refused (Octets WrongTables)) index report ≡ huntingReading s from least tables index report
       unfolding huntingReading
-      wrong-thresholds h = rw (eq-eqb (length codebook) codebookNumbers sc, ne-eqb (length thresholds) thresholdNumbers h)
+      wrong-thresholds h = rw (eq-eqb (length (tables .codebook)) codebookNumbers sc, ne-eqb (length (tables .thresholds)) thresholdNumbers h)
 
-      module _ (st : length thresholds ≡ thresholdNumbers) where
-        pub out-of-range : inRange least ≡ false → outcome (Refused (MatchRange least)) index report ≡ huntingReading s from least codebook thresholds index report
+      module _ (st : length (tables .thresholds) ≡ thresholdNumbers) where
+        pub out-of-range : inRange least ≡ false → outcome (Refused (MatchRange least)) index report ≡ huntingReading s from least tables index report
         unfolding huntingReading
-        out-of-range e = rw (eq-eqb (length codebook) codebookNumbers sc, eq-eqb (length thresholds) thresholdNumbers st, e)
+        out-of-range e = rw (eq-eqb (length (tables .codebook)) codebookNumbers sc, eq-eqb (length (tables .thresholds)) thresholdNumbers st, e)
 
-        pub in-range : inRange least ≡ true → (o : Outcome) → o ≡ readingFound s from least codebook thresholds index report → o ≡ huntingReading s from least codebook thresholds index report
+        pub in-range : inRange least ≡ true → (o : Outcome) → o ≡ readingFound s from least tables index report → o ≡ huntingReading s from least tables index report
         unfolding huntingReading
-        in-range e o eo = rw (eq-eqb (length codebook) codebookNumbers sc, eq-eqb (length thresholds) thresholdNumbers st, e) eo
+        in-range e o eo = rw (eq-eqb (length (tables .codebook)) codebookNumbers sc, eq-eqb (length (tables .thresholds)) thresholdNumbers st, e) eo

@@ -7,6 +7,7 @@ use native.Mathlib.Omega.{arith}
 use lib.IntN.{ℤ, pos}
 use lib.ListN.{length, replicate}
 use Rattle.bits.specs.Bits.{bits, fields}
+use Rattle.consistency.specs.Tables.{tablesOf}
 use Rattle.bits.specs.Laws.{length-bits}
 use Rattle.hunt.specs.Hunt.{inRange, found, misses}
 use Rattle.hunt.specs.Laws.{searched-all}
@@ -40,10 +41,10 @@ pub record Table : Type 0 where
   pub number-22 : huntingNumber (Nowhere 5 9) ≡ 22
   pub place-22 : huntingPlace (Nowhere 5 9) ≡ 5
   -- "11 still comes first", then 21, then 22: nothing received, searched from bit 5 on
-  pub first-11 : huntingReading [] 5 17 book [] [] [] ≡ outcome (Refused (Octets RR.WrongTables)) [] []
-  pub first-11-too : huntingReading [] 5 17 [] limits [] [] ≡ outcome (Refused (Octets RR.WrongTables)) [] []
-  pub then-21 : huntingReading [] 5 17 book limits [] [] ≡ outcome (Refused (MatchRange 17)) [] []
-  pub then-22 : huntingReading [] 5 16 book limits [] [] ≡ outcome (Refused (Nowhere 5 0)) [] []
+  pub first-11 : huntingReading [] 5 17 (tablesOf book []) [] [] ≡ outcome (Refused (Octets RR.WrongTables)) [] []
+  pub first-11-too : huntingReading [] 5 17 (tablesOf [] limits) [] [] ≡ outcome (Refused (Octets RR.WrongTables)) [] []
+  pub then-21 : huntingReading [] 5 17 (tablesOf book limits) [] [] ≡ outcome (Refused (MatchRange 17)) [] []
+  pub then-22 : huntingReading [] 5 16 (tablesOf book limits) [] [] ≡ outcome (Refused (Nowhere 5 0)) [] []
   -- of 145 octets searched from bit 3 on, with one multiframe found, five bits are outside
   pub five-outside : (s : List ℕ) → length s ≡ 145 → outsideOf (bits s) 3 1 ≡ 5
 

@@ -5,11 +5,11 @@ use mathlib.Core.Path.{_≡_}
 use mathlib.Core.List.{List, [], _∷_, _++_}
 use mathlib.Core.Bool.{Bool}
 use lib.ListN.{length, take}
-use lib.IntN.{ℤ}
 use lib.Dec.{eqb}
 use Rattle.lists.specs.Tests.{when}
 use Rattle.lists.specs.Parts.{part}
 use Rattle.layout.specs.Layout.{syncOctets, multiframeOctets, mostMultiframes, codebookNumbers, thresholdNumbers, syncFirst, syncSecond}
+use Rattle.consistency.specs.Tables.{Tables}
 use Rattle.bits.specs.Bits.{bits, octets}
 use Rattle.hunt.specs.Hunt.{syncBits, multiframeBits, inRange, searched, huntedFrom}
 use Rattle.hunt.specs.declared.Hunted.{Hunted}
@@ -106,7 +106,7 @@ withCounts (RA.Refused r) n t = Refused (Octets r)
 abbrev pub counted : R.Outcome → ℕ → ℕ → Outcome
 counted o n t = outcome (withCounts (o .answer) n t) (o .index) (o .report)
 
-module _ (s : List ℕ) (from least : ℕ) (codebook thresholds : List ℤ) (index report : List ℕ) where
+module _ (s : List ℕ) (from least : ℕ) (tables : Tables) (index report : List ℕ) where
   abbrev pub refuse : Refusal → Outcome
   refuse r = outcome (Refused r) index report
 
@@ -114,7 +114,7 @@ module _ (s : List ℕ) (from least : ℕ) (codebook thresholds : List ℤ) (ind
   abbrev pub readingBy : List ℕ → ℕ → Ending → Outcome
   readingBy [] n whole = refuse (Nowhere from n)
   readingBy (p ∷ ps) n whole =
-      counted (R.reading (imageOf s (p ∷ ps)) codebook thresholds index report) (outsideOf (bits s) from (length (p ∷ ps))) n
+      counted (R.reading (imageOf s (p ∷ ps)) tables index report) (outsideOf (bits s) from (length (p ∷ ps))) n
   readingBy ps n (tooMany p) = refuse (TooMany p)
 
   abbrev pub all : Gathering
@@ -126,6 +126,6 @@ module _ (s : List ℕ) (from least : ℕ) (codebook thresholds : List ℤ) (ind
   -- 11 comes first, then 21
   unfoldable pub huntingReading : Outcome
   huntingReading =
-      when (eqb (length codebook) codebookNumbers)
-      (when (eqb (length thresholds) thresholdNumbers) (when (inRange least) readingFound (refuse (MatchRange least))) (refuse (Octets WrongTables)))
+      when (eqb (length (tables .codebook)) codebookNumbers)
+      (when (eqb (length (tables .thresholds)) thresholdNumbers) (when (inRange least) readingFound (refuse (MatchRange least))) (refuse (Octets WrongTables)))
       (refuse (Octets WrongTables))

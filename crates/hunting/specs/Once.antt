@@ -8,11 +8,11 @@ use mathlib.Core.Bool.{Bool, true, false}
 use native.Mathlib.Decide.{decLt}
 use native.Mathlib.Omega.{arith}
 use lib.Dec.{eqb}
-use lib.IntN.{ℤ}
 use lib.ListN.{length}
 use borrow.Author.Tests.{eq-eqb, eqb-true}
 use Rattle.lists.specs.Tests.{true-false}
 use Rattle.layout.specs.Layout.{mostMultiframes, codebookNumbers, thresholdNumbers}
+use Rattle.consistency.specs.Tables.{Tables, RightTables}
 use Rattle.bits.specs.Bits.{bits}
 use Rattle.hunt.specs.Hunt.{multiframeBits, inRange, searched, passes}
 use Rattle.refusals.specs.declared.Reading.the-variants as RR
@@ -86,20 +86,20 @@ module _ (l : List Bool) (least : ℕ) where
       same (no h) (yes i) = absurd (true-false (sym (b .matches) ∙ a .first q (b .behind) i))
       same (no h) (no i) = omega arith
 
-module _ (s : List ℕ) (from least : ℕ) (codebook thresholds : List ℤ) (index report : List ℕ) where
+module _ (s : List ℕ) (from least : ℕ) (tables : Tables) (index report : List ℕ) where
   abbrev result : Outcome
-  result = huntingReading s from least codebook thresholds index report
+  result = huntingReading s from least tables index report
 
   abbrev found : List ℕ
   found = gathering (bits s) least mostMultiframes from .places
 
   -- A SUCCESS SAYS ALL: the multiframes found are the only list that stands apart and takes what passes, and two answers of which the laws hold
   -- have the same count, bits outside and places tested
-  pub success-places : (c : Counted) → Success s from least codebook thresholds index report c
+  pub success-places : (c : Counted) → Success s from least tables index report c
       → (ps : List ℕ) → Apart (bits s) least from ps → Takes (bits s) least from ps → found ≡ ps
   success-places c w ps a f = places-once (bits s) least from found ps (w .stand-apart) (w .all-taken) a f
 
-  pub success-once : (c d : Counted) → Success s from least codebook thresholds index report c → Success s from least codebook thresholds index report d
+  pub success-once : (c d : Counted) → Success s from least tables index report c → Success s from least tables index report d
       → (c .summary .multiframes ≡ d .summary .multiframes) × (c .outside ≡ d .outside) × (c .tested ≡ d .tested)
   success-once c d v w = (
     v .count ∙ sym (w .count),
@@ -108,16 +108,16 @@ module _ (s : List ℕ) (from least : ℕ) (codebook thresholds : List ℤ) (ind
   )
 
   -- 11 COMES FIRST, whatever T is and whatever was received
-  pub tables-first : ((length codebook ≡ codebookNumbers) × (length thresholds ≡ thresholdNumbers) → ⊥) → result ≡ outcome (Refused (Octets RR.WrongTables)) index report
+  pub tables-first : (RightTables tables → ⊥) → result ≡ outcome (Refused (Octets RR.WrongTables)) index report
   unfolding huntingReading
-  tables-first n = by (eqb (length codebook) codebookNumbers) (eqb (length thresholds) thresholdNumbers) refl refl
+  tables-first n = by (eqb (length (tables .codebook)) codebookNumbers) (eqb (length (tables .thresholds)) thresholdNumbers) refl refl
     where
-      by : (a b : Bool) → eqb (length codebook) codebookNumbers ≡ a → eqb (length thresholds) thresholdNumbers ≡ b → result ≡ outcome (Refused (Octets RR.WrongTables)) index report
+      by : (a b : Bool) → eqb (length (tables .codebook)) codebookNumbers ≡ a → eqb (length (tables .thresholds)) thresholdNumbers ≡ b → result ≡ outcome (Refused (Octets RR.WrongTables)) index report
       by false b ea eb = rw ea
       by true false ea eb = rw (ea, eb)
-      by true true ea eb = absurd (n (eqb-true (length codebook) codebookNumbers ea, eqb-true (length thresholds) thresholdNumbers eb))
+      by true true ea eb = absurd (n (eqb-true (length (tables .codebook)) codebookNumbers ea, eqb-true (length (tables .thresholds)) thresholdNumbers eb))
 
   -- THEN 21, whatever was received
-  pub range-next : length codebook ≡ codebookNumbers → length thresholds ≡ thresholdNumbers → inRange least ≡ false → result ≡ outcome (Refused (MatchRange least)) index report
+  pub range-next : length (tables .codebook) ≡ codebookNumbers → length (tables .thresholds) ≡ thresholdNumbers → inRange least ≡ false → result ≡ outcome (Refused (MatchRange least)) index report
   unfolding huntingReading
-  range-next sc st e = rw (eq-eqb (length codebook) codebookNumbers sc, eq-eqb (length thresholds) thresholdNumbers st, e)
+  range-next sc st e = rw (eq-eqb (length (tables .codebook)) codebookNumbers sc, eq-eqb (length (tables .thresholds)) thresholdNumbers st, e)

@@ -8,12 +8,12 @@ use mathlib.Core.List.{List, [], _∷_, _++_}
 use mathlib.Core.Bool.{Bool, true, false}
 use native.Mathlib.Omega.{arith}
 use lib.Dec.{eqb, ltb}
-use lib.IntN.{ℤ}
 use lib.ListN.{length, getD}
 use lib.Seq.{getD-append-add}
 use borrow.Author.Tests.{eq-eqb, ne-eqb, eqb-true, eqb-false}
 use Rattle.lists.specs.Tests.{by-test, true-false}
 use Rattle.layout.specs.Layout.{multiframeOctets, mostMultiframes, indexOctets, reportOctets, codebookNumbers, thresholdNumbers, syncFirst, syncSecond}
+use Rattle.consistency.specs.Tables.{Tables, RightTables}
 use Rattle.bits.specs.Bits.{bits}
 use Rattle.cutting.specs.Cutting.{Cutting, cutting, whole as uncut}
 use Rattle.cutting.specs.Laws.{every, every-length, whole-image}
@@ -87,8 +87,8 @@ late-settled m bad pairs index report (S.Settled c) =
     by-test LateVerdict (ltb index (indexOctets * m)) (λ e. tt) (λ e.
     by-test LateVerdict (ltb report (reportOctets * m)) (λ e. tt) (λ e. by-test LateVerdict (eqb bad pairs) (λ e. tt) (λ e. tt)))) (λ e. tt))
 
-module _ (s ps : List ℕ) (some : 0 < length ps) (few : length ps ≤ mostMultiframes) (codebook thresholds : List ℤ) (index report : List ℕ)
-    (sc : length codebook ≡ codebookNumbers) (st : length thresholds ≡ thresholdNumbers) where
+module _ (s ps : List ℕ) (some : 0 < length ps) (few : length ps ≤ mostMultiframes) (tables : Tables) (index report : List ℕ)
+    (sc : length (tables .codebook) ≡ codebookNumbers) (st : length (tables .thresholds) ≡ thresholdNumbers) where
   abbrev image : List ℕ
   image = imageOf s ps
 
@@ -96,34 +96,34 @@ module _ (s ps : List ℕ) (some : 0 < length ps) (few : length ps ≤ mostMulti
   rows = every 0 (length ps)
 
   -- it is decided by its multiframes alone
-  decided : R.reading image codebook thresholds index report
-      ≡ R.finished image codebook thresholds index report rows (wholeVerdict image codebook thresholds (length index) (length report) rows)
+  decided : R.reading image tables index report
+      ≡ R.finished image tables index report rows (wholeVerdict image tables (length index) (length report) rows)
   unfolding R.reading R.verdict
   decided =
-      rw (eq-eqb (length codebook) codebookNumbers sc, eq-eqb (length thresholds) thresholdNumbers st)
-      (ap (λ (w : Cutting). R.finished image codebook thresholds index report (w .places) (R.endVerdict image codebook thresholds (length index) (length report) (w .places) (w .ending)))
+      rw (eq-eqb (length (tables .codebook)) codebookNumbers sc, eq-eqb (length (tables .thresholds)) thresholdNumbers st)
+      (ap (λ (w : Cutting). R.finished image tables index report (w .places) (R.endVerdict image tables (length index) (length report) (w .places) (w .ending)))
       (image-cut s ps few))
 
-  late-whole : LateVerdict (wholeVerdict image codebook thresholds (length index) (length report) rows)
+  late-whole : LateVerdict (wholeVerdict image tables (length index) (length report) rows)
   unfolding wholeVerdict
   late-whole =
       rw (ne-eqb (length rows) 0 (λ e. omega (arith, every-length 0 (length ps)))) (late-settled (length rows) _ _ (length index) (length report) _)
 
-  pub image-late : (r : OctetRefusal) → R.reading image codebook thresholds index report .answer ≡ RA.Refused r → Late r
-  image-late r e = by (wholeVerdict image codebook thresholds (length index) (length report) rows) late-whole (sym (ap (λ (o : R.Outcome). o .answer) decided) ∙ e)
+  pub image-late : (r : OctetRefusal) → R.reading image tables index report .answer ≡ RA.Refused r → Late r
+  image-late r e = by (wholeVerdict image tables (length index) (length report) rows) late-whole (sym (ap (λ (o : R.Outcome). o .answer) decided) ∙ e)
     where
-      by : (v : Verdict) → LateVerdict v → R.finished image codebook thresholds index report rows v .answer ≡ RA.Refused r → Late r
+      by : (v : Verdict) → LateVerdict v → R.finished image tables index report rows v .answer ≡ RA.Refused r → Late r
       by (Refuse q) l f = let z : q ≡ r = cc in subst Late z l
       by (Accept c) l f = let z : _≡_ {A = ℕ} 0 1 = cc in absurd (omega arith)
 
   -- and its success answers as many multiframes as were put together
-  pub image-count : (g : Summary) → R.reading image codebook thresholds index report .answer ≡ RA.Read g → g .multiframes ≡ length ps
-  image-count g e = by (wholeVerdict image codebook thresholds (length index) (length report) rows) (sym (ap (λ (o : R.Outcome). o .answer) decided) ∙ e)
+  pub image-count : (g : Summary) → R.reading image tables index report .answer ≡ RA.Read g → g .multiframes ≡ length ps
+  image-count g e = by (wholeVerdict image tables (length index) (length report) rows) (sym (ap (λ (o : R.Outcome). o .answer) decided) ∙ e)
     where
-      by : (v : Verdict) → R.finished image codebook thresholds index report rows v .answer ≡ RA.Read g → g .multiframes ≡ length ps
+      by : (v : Verdict) → R.finished image tables index report rows v .answer ≡ RA.Read g → g .multiframes ≡ length ps
       by (Refuse q) f = let z : _≡_ {A = ℕ} 0 1 = cc in absurd (omega arith)
       by (Accept c) f =
-          let x = R.summary image rows (R.receivedNotes image rows codebook thresholds) c in
+          let x = R.summary image rows (R.receivedNotes image rows tables) c in
           let z : x ≡ g = cc in
           sym (ap (λ (y : Summary). y .multiframes) z) ∙ every-length 0 (length ps)
 
@@ -232,70 +232,67 @@ counted-refused : (a : OctetAnswer) (n t : ℕ) (r : Refusal) → withCounts a n
 counted-refused (RA.Read g) n t r e = let z : _≡_ {A = ℕ} 0 1 = cc in absurd (omega arith)
 counted-refused (RA.Refused q) n t r e = (q, (refl, cc))
 
-module _ (s : List ℕ) (from least : ℕ) (codebook thresholds : List ℤ) (index report : List ℕ) where
+module _ (s : List ℕ) (from least : ℕ) (tables : Tables) (index report : List ℕ) where
   abbrev found : Gathering
   found = gathering (bits s) least mostMultiframes from
 
   abbrev result : Outcome
-  result = huntingReading s from least codebook thresholds index report
+  result = huntingReading s from least tables index report
 
   abbrev keeps : Refusal → Outcome
   keeps r = outcome (Refused r) index report
 
-  abbrev pub Tables : Type 0
-  Tables = (length codebook ≡ codebookNumbers) × (length thresholds ≡ thresholdNumbers)
-
   -- HOW IT ENDS: each case says that the tests before it passed
   pub data Fate : Type 0 where
-    tables : (Tables → ⊥) → result ≡ keeps (Octets RR.WrongTables) → Fate
-    range : Tables → inRange least ≡ false → result ≡ keeps (MatchRange least) → Fate
-    nowhere : Tables → inRange least ≡ true → NonePasses (bits s) least from → result ≡ keeps (Nowhere from (placesLeft (bits s) from)) → Fate
-    many : (p : ℕ) → Tables → inRange least ≡ true → found .ending ≡ tooMany p → Beyond (bits s) least mostMultiframes from p (found .places) → result ≡ keeps (TooMany p) → Fate
-    read : Tables → inRange least ≡ true → 0 < length (found .places) → found .ending ≡ whole
-        → result ≡ counted (R.reading (imageOf s (found .places)) codebook thresholds index report) (outsideOf (bits s) from (length (found .places))) (found .tested) → Fate
+    wrongTables : (RightTables tables → ⊥) → result ≡ keeps (Octets RR.WrongTables) → Fate
+    range : RightTables tables → inRange least ≡ false → result ≡ keeps (MatchRange least) → Fate
+    nowhere : RightTables tables → inRange least ≡ true → NonePasses (bits s) least from → result ≡ keeps (Nowhere from (placesLeft (bits s) from)) → Fate
+    many : (p : ℕ) → RightTables tables → inRange least ≡ true → found .ending ≡ tooMany p → Beyond (bits s) least mostMultiframes from p (found .places) → result ≡ keeps (TooMany p) → Fate
+    read : RightTables tables → inRange least ≡ true → 0 < length (found .places) → found .ending ≡ whole
+        → result ≡ counted (R.reading (imageOf s (found .places)) tables index report) (outsideOf (bits s) from (length (found .places))) (found .tested) → Fate
 
-  found-fate : Tables → inRange least ≡ true → result ≡ readingBy s from least codebook thresholds index report (found .places) (found .tested) (found .ending) → Fate
+  found-fate : RightTables tables → inRange least ≡ true → result ≡ readingBy s from least tables index report (found .places) (found .tested) (found .ending) → Fate
   found-fate ts er e = by (found .places) (found .ending) refl refl e
     where
-      by : (ps : List ℕ) (x : Ending) → found .places ≡ ps → found .ending ≡ x → result ≡ readingBy s from least codebook thresholds index report ps (found .tested) x → Fate
+      by : (ps : List ℕ) (x : Ending) → found .places ≡ ps → found .ending ≡ x → result ≡ readingBy s from least tables index report ps (found .tested) x → Fate
       by [] whole ep ex e =
           let n : found .tested ≡ placesLeft (bits s) from = subst (Tested (bits s) least from (found .tested)) ep (tested-says (bits s) least mostMultiframes from ex) in
           nowhere ts er (none-found (bits s) least 254 from ep) (e ∙ ap (λ (k : ℕ). keeps (Nowhere from k)) n)
       by (p ∷ ps) whole ep ex e =
           read ts er (omega (arith, ap length ep)) ex
-          (e ∙ ap (λ (x : List ℕ). counted (R.reading (imageOf s x) codebook thresholds index report) (outsideOf (bits s) from (length x)) (found .tested)) (sym ep))
+          (e ∙ ap (λ (x : List ℕ). counted (R.reading (imageOf s x) tables index report) (outsideOf (bits s) from (length x)) (found .tested)) (sym ep))
       by [] (tooMany p) ep ex e = many p ts er ex (many-says (bits s) least mostMultiframes from p ex) e
       by (q ∷ ps) (tooMany p) ep ex e = many p ts er ex (many-says (bits s) least mostMultiframes from p ex) e
 
   pub fate : Fate
   unfolding huntingReading readingFound
-  fate = by (eqb (length codebook) codebookNumbers) (eqb (length thresholds) thresholdNumbers) (inRange least) refl refl refl
+  fate = by (eqb (length (tables .codebook)) codebookNumbers) (eqb (length (tables .thresholds)) thresholdNumbers) (inRange least) refl refl refl
     where
-      by : (a b r : Bool) → eqb (length codebook) codebookNumbers ≡ a → eqb (length thresholds) thresholdNumbers ≡ b → inRange least ≡ r → Fate
-      by false b r ea eb er = tables (λ h. eqb-false (length codebook) codebookNumbers ea (h .0)) (rw ea)
-      by true false r ea eb er = tables (λ h. eqb-false (length thresholds) thresholdNumbers eb (h .1)) (rw (ea, eb))
-      by true true false ea eb er = range (eqb-true (length codebook) codebookNumbers ea, eqb-true (length thresholds) thresholdNumbers eb) er (rw (ea, eb, er))
+      by : (a b r : Bool) → eqb (length (tables .codebook)) codebookNumbers ≡ a → eqb (length (tables .thresholds)) thresholdNumbers ≡ b → inRange least ≡ r → Fate
+      by false b r ea eb er = wrongTables (λ h. eqb-false (length (tables .codebook)) codebookNumbers ea (h .0)) (rw ea)
+      by true false r ea eb er = wrongTables (λ h. eqb-false (length (tables .thresholds)) thresholdNumbers eb (h .1)) (rw (ea, eb))
+      by true true false ea eb er = range (eqb-true (length (tables .codebook)) codebookNumbers ea, eqb-true (length (tables .thresholds)) thresholdNumbers eb) er (rw (ea, eb, er))
       by true true true ea eb er =
-          found-fate (eqb-true (length codebook) codebookNumbers ea, eqb-true (length thresholds) thresholdNumbers eb) er (rw (ea, eb, er))
+          found-fate (eqb-true (length (tables .codebook)) codebookNumbers ea, eqb-true (length (tables .thresholds)) thresholdNumbers eb) er (rw (ea, eb, er))
 
   -- 22 EXACTLY IF NO PLACE PASSES, where the tables have their lengths and T its range
-  pub nowhere-exactly : length codebook ≡ codebookNumbers → length thresholds ≡ thresholdNumbers → inRange least ≡ true
+  pub nowhere-exactly : length (tables .codebook) ≡ codebookNumbers → length (tables .thresholds) ≡ thresholdNumbers → inRange least ≡ true
       → (result ≡ keeps (Nowhere from (placesLeft (bits s) from))) ↔ NonePasses (bits s) least from
   unfolding huntingReading readingFound
   nowhere-exactly sc st er = (
     λ e. by fate (ap (λ (o : Outcome). o .answer) e),
     λ none.
-        rw (eq-eqb (length codebook) codebookNumbers sc, eq-eqb (length thresholds) thresholdNumbers st, er)
-        (ap (λ (g : Gathering). readingBy s from least codebook thresholds index report (g .places) (g .tested) (g .ending)) (nothing-found (bits s) least 254 from none)),
+        rw (eq-eqb (length (tables .codebook)) codebookNumbers sc, eq-eqb (length (tables .thresholds)) thresholdNumbers st, er)
+        (ap (λ (g : Gathering). readingBy s from least tables index report (g .places) (g .tested) (g .ending)) (nothing-found (bits s) least 254 from none)),
   )
     where
       by : Fate → result .answer ≡ Refused (Nowhere from (placesLeft (bits s) from)) → NonePasses (bits s) least from
-      by (tables w e) f = absurd (w (sc, st))
+      by (wrongTables w e) f = absurd (w (sc, st))
       by (range ts w e) f = absurd (true-false (sym er ∙ w))
       by (nowhere ts r n e) f = n
       by (many p ts r x b e) f = let g = sym (ap (λ (o : Outcome). o .answer) e) ∙ f in let z : _≡_ {A = ℕ} 0 1 = cc in absurd (omega arith)
       by (read t r n w e) f =
-          let g = counted-refused (R.reading (imageOf s (found .places)) codebook thresholds index report .answer) (outsideOf (bits s) from (length (found .places))) (found .tested)
+          let g = counted-refused (R.reading (imageOf s (found .places)) tables index report .answer) (outsideOf (bits s) from (length (found .places))) (found .tested)
           (Nowhere from (placesLeft (bits s) from)) (sym (ap (λ (o : Outcome). o .answer) e) ∙ f) in
           let h = g .1 .1 in
           let z : _≡_ {A = ℕ} 0 1 = cc in absurd (omega arith)
@@ -303,7 +300,7 @@ module _ (s : List ℕ) (from least : ℕ) (codebook thresholds : List ℤ) (ind
   -- A SUCCESS, and what it says
   pub record Success (c : Counted) : Type 0 where
     -- it is the octet reader's of the multiframes found, put together
-    pub as-01-says : R.reading (imageOf s (found .places)) codebook thresholds index report ≡ R.outcome (RA.Read (c .summary)) (result .index) (result .report)
+    pub as-01-says : R.reading (imageOf s (found .places)) tables index report ≡ R.outcome (RA.Read (c .summary)) (result .index) (result .report)
     pub count : c .summary .multiframes ≡ length (found .places)
     pub some : 0 < length (found .places)
     pub few : length (found .places) ≤ mostMultiframes
@@ -323,15 +320,15 @@ module _ (s : List ℕ) (from least : ℕ) (codebook thresholds : List ℤ) (ind
       other r e = let g = sym (ap (λ (o : Outcome). o .answer) e) ∙ f in let z : _≡_ {A = ℕ} 0 1 = cc in absurd (omega arith)
 
       by : Fate → Success c
-      by (tables w e) = other (Octets RR.WrongTables) e
+      by (wrongTables w e) = other (Octets RR.WrongTables) e
       by (range t w e) = other (MatchRange least) e
       by (nowhere t r n e) = other (Nowhere from (placesLeft (bits s) from)) e
       by (many p t r x b e) = other (TooMany p) e
       by (read t r n w e) =
-          let o = R.reading (imageOf s (found .places)) codebook thresholds index report in
+          let o = R.reading (imageOf s (found .places)) tables index report in
           let a = counted-read (o .answer) (outsideOf (bits s) from (length (found .places))) (found .tested) c (sym (ap (λ (o : Outcome). o .answer) e) ∙ f) in
           let few = at-most (bits s) least mostMultiframes from in
-          let m = image-count s (found .places) n few codebook thresholds index report (t .0) (t .1) (c .summary) (a .0) in
+          let m = image-count s (found .places) n few tables index report (t .0) (t .1) (c .summary) (a .0) in
           let far = apart (bits s) least mostMultiframes from in
           let room = room-for (bits s) least from (found .places) far n in
           record {
@@ -360,15 +357,15 @@ module _ (s : List ℕ) (from least : ℕ) (codebook thresholds : List ℤ) (ind
       same x e k = let g = sym (ap (λ (o : Outcome). o .answer) e) ∙ f in let z : x ≡ r = cc in subst Comes z k
 
       by : Fate → Comes r
-      by (tables w e) = same (Octets RR.WrongTables) e (inl refl)
+      by (wrongTables w e) = same (Octets RR.WrongTables) e (inl refl)
       by (range t w e) = same (MatchRange least) e tt
       by (nowhere t x n e) = same (Nowhere from (placesLeft (bits s) from)) e tt
       by (many p t x g b e) = same (TooMany p) e tt
       by (read t x n w e) =
-          let o = R.reading (imageOf s (found .places)) codebook thresholds index report in
+          let o = R.reading (imageOf s (found .places)) tables index report in
           let g = counted-refused (o .answer) (outsideOf (bits s) from (length (found .places))) (found .tested) r (sym (ap (λ (o : Outcome). o .answer) e) ∙ f) in
           subst Comes (g .1 .1)
-          (inr (image-late s (found .places) n (at-most (bits s) least mostMultiframes from) codebook thresholds index report (t .0) (t .1) (g .0) (g .1 .0)))
+          (inr (image-late s (found .places) n (at-most (bits s) least mostMultiframes from) tables index report (t .0) (t .1) (g .0) (g .1 .0)))
 
   number-comes : (r : Refusal) → Comes r → (huntingNumber r ≡ 12 → ⊥) × (huntingNumber r ≡ 13 → ⊥) × (huntingNumber r ≡ 14 → ⊥)
   number-comes (MatchRange k) l = (λ e. omega arith, λ e. omega arith, λ e. omega arith)

@@ -13,6 +13,7 @@ ghost use Prim.Native.Nat.{_+_, _*_, _≤_, _<_};
 ghost use lib.ListN.{length, take};
 ghost use Rattle.lists.specs.Parts.{over};
 ghost use Rattle.layout.specs.Layout.{multiframeOctets, mostMultiframes};
+ghost use Rattle.consistency.specs.Lent.{came, left, tablesIn};
 ghost use Rattle.bits.specs.Bits.{bits};
 ghost use Rattle.hunt.specs.Hunt.{syncBits, multiframeBits, searched};
 ghost use Rattle.reader.specs.Reading.{reading};
@@ -48,8 +49,9 @@ pub enum Gathered {
 
 // The multiframe found at a place goes to the image as its k-th, with a whole sync.
 fn put_found(octets: &[u8], place: usize, image: &mut [u8], k: Multiframe)
-    requires { ⌜ (place + multiframeBits ≤ searched (bits (now octets))) × (k .0 < mostMultiframes) × (multiframeOctets * mostMultiframes ≤ length (now image)) ⌝ }
-    ensures { λ _. ⌜ now (image .exit) ≡ over (now (image .entry)) (multiframeOctets * k .0) multiframeOctets (aligned (now (octets .entry)) place) ⌝ }
+    requires { ⌜ (place + multiframeBits ≤ searched (bits (now octets))) × (k .0 < mostMultiframes)
+        × (multiframeOctets * mostMultiframes ≤ length (now image)) ⌝ }
+    ensures { λ _. ⌜ left image ≡ over (came image) (multiframeOctets * k .0) multiframeOctets (aligned (came octets) place) ⌝ }
 {
     let at = MultiframeLayout::OCTETS * k.0;
     image[at] = MultiframeLayout::SYNC_FIRST;
@@ -66,8 +68,8 @@ fn put_found(octets: &[u8], place: usize, image: &mut [u8], k: Multiframe)
 // gather finds one multiframe after another and puts them into the image.
 fn gather(octets: &[u8], from: usize, least: usize, image: &mut [u8]) -> Gathered
     requires { ⌜ (least ≤ syncBits) × (length (now image) ≡ multiframeOctets * mostMultiframes) ⌝ }
-    ensures answer { λ r. ⌜ r ≡ answered (gathering (bits (now (octets .entry))) least mostMultiframes from) ⌝ }
-    ensures image { λ r. ⌜ Laid (now (octets .entry)) (gathering (bits (now (octets .entry))) least mostMultiframes from) (now (image .exit)) ⌝ }
+    ensures answer { λ r. ⌜ r ≡ answered (gathering (bits (came octets)) least mostMultiframes from) ⌝ }
+    ensures image { λ r. ⌜ Laid (came octets) (gathering (bits (came octets)) least mostMultiframes from) (left image) ⌝ }
 {
     let mut m = 0;
     let mut at = from;
@@ -99,7 +101,7 @@ fn gather(octets: &[u8], from: usize, least: usize, image: &mut [u8]) -> Gathere
 // The bits from bit from on that are in none of count multiframes.
 fn outside_of(octets: &[u8], from: usize, count: usize) -> usize
     requires { ⌜ (from + multiframeBits * count ≤ searched (bits (now octets))) × (count ≤ mostMultiframes) ⌝ }
-    ensures { λ r. ⌜ r ≡ outsideOf (bits (now (octets .entry))) from count ⌝ }
+    ensures { λ r. ⌜ r ≡ outsideOf (bits (came octets)) from count ⌝ }
 {
     hunt::searched_bits(octets) - from - BITS * count
 }
@@ -116,7 +118,9 @@ fn read_front(
     report: &mut [u8],
 ) -> Answer
     requires { ⌜ (count ≤ mostMultiframes) × (multiframeOctets * mostMultiframes ≤ length (now image)) ⌝ }
-    ensures { λ r. ⌜ outcome r (now (index .exit)) (now (report .exit)) ≡ counted (reading (take (multiframeOctets * count) (now (image .entry))) (now (codebook .entry)) (now (thresholds .entry)) (now (index .entry)) (now (report .entry))) outside tested ⌝ }
+    ensures { λ r. ⌜ outcome r (left index) (left report)
+        ≡ counted (reading (take (multiframeOctets * count) (came image)) (tablesIn codebook thresholds) (came index) (came report))
+        outside tested ⌝ }
 {
     let end = MultiframeLayout::OCTETS * count;
     match reader::read(&image[..end], codebook, thresholds, index, report) {
@@ -141,7 +145,8 @@ fn read_found(
     report: &mut [u8],
 ) -> Answer
     requires { ⌜ least ≤ syncBits ⌝ }
-    ensures { λ r. ⌜ outcome r (now (index .exit)) (now (report .exit)) ≡ readingFound (now (octets .entry)) from least (now (codebook .entry)) (now (thresholds .entry)) (now (index .entry)) (now (report .entry)) ⌝ }
+    ensures { λ r. ⌜ outcome r (left index) (left report)
+        ≡ readingFound (came octets) from least (tablesIn codebook thresholds) (came index) (came report) ⌝ }
 {
     let mut image = [0u8; IMAGE];
     match gather(octets, from, least, &mut image) {
@@ -175,7 +180,8 @@ pub fn read(
     index: &mut [u8],
     report: &mut [u8],
 ) -> Answer
-    ensures { λ r. ⌜ outcome r (now (index .exit)) (now (report .exit)) ≡ huntingReading (now (octets .entry)) from least (now (codebook .entry)) (now (thresholds .entry)) (now (index .entry)) (now (report .entry)) ⌝ }
+    ensures { λ r. ⌜ outcome r (left index) (left report)
+        ≡ huntingReading (came octets) from least (tablesIn codebook thresholds) (came index) (came report) ⌝ }
 {
     if codebook.len() != ReadingLayout::CODEBOOK {
         return Answer::Refused(Hunting::Octets(Reading::WrongTables));

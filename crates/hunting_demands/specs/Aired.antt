@@ -32,7 +32,7 @@ use Rattle.writer.specs.Made.{packetIn, made-packet}
 use Rattle.writer.specs.Image.{image-word, image-packet, Utterance, multiframesOf, pairsOf, imageOf, is-accepted}
 use Rattle.demands.specs.Damage.{sentMessage}
 use Rattle.demands.specs.Received.{BadPair}
-use Rattle.demands.specs.Met.{zeroBook, zeroThresholds, zero-consistent, indexFor, reportFor, lent-zeros, hurtWord, hurtStream, hurtImage, length-hurt, part-on, hurts, says24, two-multiframes}
+use Rattle.demands.specs.Met.{zeroTables, zero-consistent, indexFor, reportFor, lent-zeros, hurtWord, hurtStream, hurtImage, length-hurt, part-on, hurts, says24, two-multiframes}
 use Rattle.hunting_demands.specs.Standing.{syncAt, unlike-fails}
 use Rattle.hunting_demands.specs.Laid.{laidMultiframe, laidOctets, Sizes, bits-laid, size-laid, laid-behind, laid-sync, laid-word, laid-stream}
 use Rattle.hunting_demands.specs.HuntsBack.{receivedFlips}
@@ -114,7 +114,7 @@ module _ (u : Utterance) where
   }
 
   -- with tables of zeros the third pair is good
-  third-good : BadPair u (together u aired 3) zeroBook zeroThresholds 2 → ⊥
+  third-good : BadPair u (together u aired 3) zeroTables 2 → ⊥
   third-good b =
       ⊎-elim
       (λ t. t (packet-there u aired 0 3 fewestMatches aired-caught 2 (omega arith) ∙ packet-is 2 (omega arith)
@@ -123,8 +123,8 @@ module _ (u : Utterance) where
       (λ r. true-false (sym (r .0) ∙ zero-consistent (frameAt (u .indices) 4) (frameAt (u .indices) 5))) b
 
   pub names-aired : 2 ≤ multiframesOf u
-      → Premises u aired 0 3 fewestMatches aired-on-air zeroBook zeroThresholds (indexFor (multiframesOf u)) (reportFor (multiframesOf u))
+      → Premises u aired 0 3 fewestMatches aired-on-air zeroTables (indexFor (multiframesOf u)) (reportFor (multiframesOf u))
   names-aired two = record { settled = inl two; pair = 2; within = omega arith; not-bad = third-good; lent = lent-zeros (multiframesOf u) }
 
-pub names-aired-24 : Premises says24 (aired says24) 0 3 fewestMatches (aired-on-air says24) zeroBook zeroThresholds (indexFor (multiframesOf says24)) (reportFor (multiframesOf says24))
+pub names-aired-24 : Premises says24 (aired says24) 0 3 fewestMatches (aired-on-air says24) zeroTables (indexFor (multiframesOf says24)) (reportFor (multiframesOf says24))
 names-aired-24 = names-aired says24 (le-of-eq (sym two-multiframes))

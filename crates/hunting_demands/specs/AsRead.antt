@@ -6,12 +6,12 @@ use mathlib.Core.Path.{_≡_, refl, sym, ap, ap₂, _∙_, subst}
 use mathlib.Core.List.{List, [], _∷_, _++_}
 use mathlib.Core.Bool.{Bool, false}
 use native.Mathlib.Omega.{arith}
-use lib.IntN.{ℤ}
 use lib.ListN.{length, take}
 use lib.Seq.{drop-append-add}
 use Rattle.lists.specs.Parts.{part, part-left}
 use Rattle.lists.specs.Rows.{same-joined}
 use Rattle.layout.specs.Layout.{streamOctets, multiframeOctets, mostMultiframes, codebookNumbers, thresholdNumbers, syncFirst, syncSecond}
+use Rattle.consistency.specs.Tables.{Tables}
 use Rattle.bits.specs.Bits.{value, bits}
 use Rattle.bits.specs.Laws.{length-bits, bits-part}
 use Rattle.header.specs.Reading.{reading}
@@ -51,13 +51,13 @@ module _ (img : List ℕ) (m : ℕ) (w : Multiframes img m) (s : List ℕ) (at :
       ∙ made-again img m (w .size) (w .small) (w .syncs)
 
   -- READ WHERE IT STANDS
-  pub as-read : (from least : ℕ) (codebook thresholds : List ℤ) (index report : List ℕ) → fewestMatches ≤ least → least ≤ syncBits
-      → length codebook ≡ codebookNumbers → length thresholds ≡ thresholdNumbers → InARow (bits s) from at least m → 0 < m → m ≤ mostMultiframes
-      → huntingReading s from least codebook thresholds index report
-      ≡ counted (R.reading img codebook thresholds index report) (outsideOf (bits s) from m) (testedInRow (bits s) from at m)
-  as-read from least codebook thresholds index report low high codebook-size thresholds-size r some few =
-      reads-in-a-row s from least codebook thresholds index report low high codebook-size thresholds-size at m r some few
-      ∙ ap (λ (x : List ℕ). counted (R.reading x codebook thresholds index report) (outsideOf (bits s) from m) (testedInRow (bits s) from at m)) (put-together (r .inside))
+  pub as-read : (from least : ℕ) (tables : Tables) (index report : List ℕ) → fewestMatches ≤ least → least ≤ syncBits
+      → length (tables .codebook) ≡ codebookNumbers → length (tables .thresholds) ≡ thresholdNumbers → InARow (bits s) from at least m → 0 < m → m ≤ mostMultiframes
+      → huntingReading s from least tables index report
+      ≡ counted (R.reading img tables index report) (outsideOf (bits s) from m) (testedInRow (bits s) from at m)
+  as-read from least tables index report low high codebook-size thresholds-size r some few =
+      reads-in-a-row s from least tables index report low high codebook-size thresholds-size at m r some few
+      ∙ ap (λ (x : List ℕ). counted (R.reading x tables index report) (outsideOf (bits s) from m) (testedInRow (bits s) from at m)) (put-together (r .inside))
 
 -- ---- octets that are only shifted, with any bits in front and behind, stand there with whole syncs
 module _ (img : List ℕ) (m : ℕ) (w : Multiframes img m) (s : List ℕ) (front behind : List Bool) (same : bits s ≡ front ++ (bits img ++ behind)) where
@@ -85,10 +85,10 @@ damaged-cut u img d = record {
   syncs = λ k h. d .syncs k h ∙ image-sync (u .settings) (u .indices) (multiframesOf u) k h;
 }
 
-module _ (u : Utterance) (img s : List ℕ) (from at least : ℕ) (codebook thresholds : List ℤ) (index report : List ℕ) where
+module _ (u : Utterance) (img s : List ℕ) (from at least : ℕ) (tables : Tables) (index report : List ℕ) where
   pub record Premises : Type 0 where
     -- demand 3's, of the damaged image
-    pub of-image : N.Premises u img codebook thresholds index report
+    pub of-image : N.Premises u img tables index report
     -- which stands at bit `at`, but for its syncs
     pub there : Stands img (multiframesOf u) s at
     pub begins : from ≤ at
@@ -102,13 +102,13 @@ module _ (u : Utterance) (img s : List ℕ) (from at least : ℕ) (codebook thre
     pub low : fewestMatches ≤ least
 
   abbrev pub result : G.Outcome
-  result = huntingReading s from least codebook thresholds index report
+  result = huntingReading s from least tables index report
 
   -- what the octet reader says of the damaged image, demand 3's sentences, is what is said here, with the bits outside and the places tested
   pub record Named : Type 0 where
     pub given : Counted
     pub succeeds : result .answer ≡ Read given
-    pub names : N.Names u img codebook thresholds (given .summary) (result .index) (result .report)
+    pub names : N.Names u img tables (given .summary) (result .index) (result .report)
     pub outside : given .outside ≡ outsideOf (bits s) from (multiframesOf u)
     pub tested : given .tested ≡ testedInRow (bits s) from at (multiframesOf u)
 
@@ -129,16 +129,16 @@ module _ (u : Utterance) (img s : List ℕ) (from at least : ℕ) (codebook thre
 
     -- the same as the octet reader says of the image
     pub read-there : result
-        ≡ counted (R.reading img codebook thresholds index report) (outsideOf (bits s) from (multiframesOf u)) (testedInRow (bits s) from at (multiframesOf u))
+        ≡ counted (R.reading img tables index report) (outsideOf (bits s) from (multiframesOf u)) (testedInRow (bits s) from at (multiframesOf u))
     read-there =
-        as-read img (multiframesOf u) (damaged-cut u img d) s at (p .there) from least codebook thresholds index report (p .low)
+        as-read img (multiframesOf u) (damaged-cut u img d) s at (p .there) from least tables index report (p .low)
         (at-most-all (syncAt (bits s) (placeInRow at 0)) least (p .syncs 0 (omega arith)))
         (p .of-image .lent .codebook-size) (p .of-image .lent .thresholds-size) in-a-row (omega arith)
         (few-multiframes (u .settings) (u .indices) (is-accepted u .sizes))
 
     pub names-at-any-bit : Named
     names-at-any-bit =
-        let n = N.names-the-damage u img codebook thresholds index report (p .of-image) in
+        let n = N.names-the-damage u img tables index report (p .of-image) in
         record {
           given = record { summary = n .given; outside = outsideOf (bits s) from (multiframesOf u); tested = testedInRow (bits s) from at (multiframesOf u) };
           succeeds = ap (λ (o : G.Outcome). o .answer) read-there
@@ -148,5 +148,5 @@ module _ (u : Utterance) (img s : List ℕ) (from at least : ℕ) (codebook thre
           tested = refl;
         }
       where
-        ap-names : (g : Summary) {o r : G.Outcome} → o ≡ r → N.Names u img codebook thresholds g (o .index) (o .report) → N.Names u img codebook thresholds g (r .index) (r .report)
-        ap-names g e = subst (λ (x : G.Outcome). N.Names u img codebook thresholds g (x .index) (x .report)) e
+        ap-names : (g : Summary) {o r : G.Outcome} → o ≡ r → N.Names u img tables g (o .index) (o .report) → N.Names u img tables g (r .index) (r .report)
+        ap-names g e = subst (λ (x : G.Outcome). N.Names u img tables g (x .index) (x .report)) e

@@ -11,11 +11,11 @@ use native.Mathlib.Omega.{arith}
 use lib.Bits.{bitXor, xor-self}
 use lib.Count.{ones, ones-le}
 use lib.Dec.{lit<}
-use lib.IntN.{ℤ}
 use lib.ListN.{length, replicate}
 use Rattle.lists.specs.Parts.{over}
 use Rattle.lists.specs.Rows.{joined, same-joined}
 use Rattle.layout.specs.Layout.{multiframePairs, mostMultiframes, indexOctets, reportOctets}
+use Rattle.consistency.specs.Tables.{Tables}
 use Rattle.bits.specs.Bits.{bits}
 use Rattle.carrier.specs.Carrier.{streamPacket}
 use Rattle.header.specs.Reading.{reading}
@@ -89,7 +89,7 @@ module _ (u : Utterance) (s : List ℕ) (from at least : ℕ) (c : Carried u s f
   in-a-row = record { begins = c .begins; inside = c .inside; stand = stands; none-before = c .none-before; none-behind = c .none-behind }
 
 -- ---- the theorem
-module _ (u : Utterance) (s : List ℕ) (from at least : ℕ) (codebook thresholds : List ℤ) (index report : List ℕ) where
+module _ (u : Utterance) (s : List ℕ) (from at least : ℕ) (tables : Tables) (index report : List ℕ) where
   -- what is read: the settings, count and frames written, the bits outside and the places tested, and these header notes
   abbrev pub heard : (ℕ → ℕ) → G.Outcome
   heard notes =
@@ -111,19 +111,19 @@ module _ (u : Utterance) (s : List ℕ) (from at least : ℕ) (codebook threshol
     -- two multiframes or more, or an only header that is untouched
     pub settled : (2 ≤ multiframesOf u) ⊎ (receivedFlips u s at 0 ≡ 0)
     -- 01's tables and room
-    pub lent : Lent (multiframesOf u) codebook thresholds index report
+    pub lent : Lent (multiframesOf u) tables index report
 
-  pub hunts-back : Premises → huntingReading s from least codebook thresholds index report ≡ heard (receivedFlips u s at)
+  pub hunts-back : Premises → huntingReading s from least tables index report ≡ heard (receivedFlips u s at)
   hunts-back p =
       let c = p .carried in
       let n = multiframesOf u in
       let g = G.imageOf s (row at n) in
       let few : n ≤ mostMultiframes = few-multiframes (u .settings) (u .indices) (is-accepted u .sizes) in
       let headers : (2 ≤ n) ⊎ (headerFlips (imageOf u) g 0 ≡ 0) = ⊎-elim inl (λ e. inr (flips-are u s from at least c 0 (omega arith) ∙ e)) (p .settled) in
-      reads-in-a-row s from least codebook thresholds index report (p .low) (at-most-all (syncAt (bits s) (placeInRow at 0)) least (c .syncs 0 (omega arith))) (p .lent .codebook-size) (p .lent .thresholds-size) at n
+      reads-in-a-row s from least tables index report (p .low) (at-most-all (syncAt (bits s) (placeInRow at 0)) least (c .syncs 0 (omega arith))) (p .lent .codebook-size) (p .lent .thresholds-size) at n
       (in-a-row u s from at least c) (omega arith) few
       ∙ ap (λ (o : R.Outcome). counted o (outsideOf (bits s) from n) (testedInRow (bits s) from at n))
-      (reads-mended u g (damage u s from at least c) (packets-kept u s from at least c) headers codebook thresholds index report (p .lent))
+      (reads-mended u g (damage u s from at least c) (packets-kept u s from at least c) headers tables index report (p .lent))
       ∙ same-notes (headerFlips (imageOf u) g) (receivedFlips u s at) (flips-are u s from at least c)
 
 -- ---- an image that is only shifted: any bits in front of it and behind, and nothing damaged
@@ -161,10 +161,10 @@ module _ (u : Utterance) (s : List ℕ) (from least : ℕ) (front behind : List 
     }
 
     -- it is read with the same settings, frames and count, and all notes 0
-    pub hunts-shifted : (codebook thresholds : List ℤ) (index report : List ℕ) → fewestMatches ≤ least → least ≤ syncBits
-        → Lent (multiframesOf u) codebook thresholds index report
-        → huntingReading s from least codebook thresholds index report ≡ heard u s from (length front) least codebook thresholds index report (λ k. 0)
-    hunts-shifted codebook thresholds index report low high lent =
-        hunts-back u s from (length front) least codebook thresholds index report
+    pub hunts-shifted : (tables : Tables) (index report : List ℕ) → fewestMatches ≤ least → least ≤ syncBits
+        → Lent (multiframesOf u) tables index report
+        → huntingReading s from least tables index report ≡ heard u s from (length front) least tables index report (λ k. 0)
+    hunts-shifted tables index report low high lent =
+        hunts-back u s from (length front) least tables index report
         (record { carried = shifted-carried high; low = low; settled = inr (no-flips 0 (omega arith)); lent = lent })
-        ∙ same-notes u s from (length front) least codebook thresholds index report (receivedFlips u s (length front)) (λ k. 0) no-flips
+        ∙ same-notes u s from (length front) least tables index report (receivedFlips u s (length front)) (λ k. 0) no-flips

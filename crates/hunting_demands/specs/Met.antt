@@ -10,13 +10,13 @@ use native.Mathlib.Nat.{le-of-eq}
 use native.Mathlib.Omega.{arith}
 use lib.Count.{ones, onesIn}
 use lib.Dec.{lit<, lit≤}
-use lib.IntN.{ℤ}
 use lib.ListN.{length, take, drop, replicate, length-replicate, length-append, take-append-drop, replicate-append-replicate}
 use lib.Seq.{take-add, take-at, take-append-le}
 use Rattle.polynomials.specs.Light.{ones-in}
 use Rattle.lists.specs.Parts.{part, over, part-left, part-right}
 use Rattle.lists.specs.Rows.{joined}
 use Rattle.layout.specs.Layout.{multiframePairs, multiframeOctets, mostMultiframes, indexOctets, reportOctets}
+use Rattle.consistency.specs.Tables.{Tables}
 use Rattle.bits.specs.Bits.{field, fields, bits, octets}
 use Rattle.bits.specs.Laws.{length-bits, bits-part, bits-octets}
 use Rattle.crc.specs.Crc.{flip}
@@ -28,7 +28,7 @@ use Rattle.writer.specs.Laws.{few-multiframes, length-image}
 use Rattle.writer.specs.Image.{image-sync, Utterance, multiframesOf, imageOf, is-accepted}
 use Rattle.demands.specs.Whole.{Lent}
 use Rattle.demands.specs.ReadsBack.{spoken, padded}
-use Rattle.demands.specs.Met.{zeroBook, zeroThresholds, indexFor, reportFor, lent-zeros, says24, two-multiframes}
+use Rattle.demands.specs.Met.{zeroTables, indexFor, reportFor, lent-zeros, says24, two-multiframes}
 use Rattle.hunting_demands.specs.Standing.{testedInRow, syncAt, unlike-fails}
 use Rattle.hunting_demands.specs.HuntsBack.{receivedFlips, Carried, same-notes, Premises, hunts-back, Shifted, hunts-shifted}
 use Rattle.hunting_demands.specs.Hurt as H
@@ -133,23 +133,23 @@ module _ (u : Utterance) where
       (λ k h. H.match-there u threeZeros (λ k. worstSync) (λ k. 3) manyZeros 151 fits k h fewestMatches (le-of-eq (sym worst-matches))) (λ k h. le-of-eq (two-flips k h))
       not-before not-behind
 
-  module _ (codebook thresholds : List ℤ) (index report : List ℕ) where
-    pub hunts-back-met : 2 ≤ multiframesOf u → Lent (multiframesOf u) codebook thresholds index report
-        → Premises u carriedOctets 0 3 fewestMatches codebook thresholds index report
+  module _ (tables : Tables) (index report : List ℕ) where
+    pub hunts-back-met : 2 ≤ multiframesOf u → Lent (multiframesOf u) tables index report
+        → Premises u carriedOctets 0 3 fewestMatches tables index report
     hunts-back-met two lent = record { carried = carried; low = lit≤ tt; settled = inl two; lent = lent }
 
     -- two multiframes so carried are read with their settings, frames and count, every header's two flips are noted, 1,208 bits stand outside,
     -- and 59 places were tested: three before them, their two, and the 54 behind them with a multiframe's bits left
-    pub two-hunted : multiframesOf u ≡ 2 → Lent (multiframesOf u) codebook thresholds index report
-        → huntingReading carriedOctets 0 fewestMatches codebook thresholds index report
+    pub two-hunted : multiframesOf u ≡ 2 → Lent (multiframesOf u) tables index report
+        → huntingReading carriedOctets 0 fewestMatches tables index report
         ≡ outcome (Read (record { summary = spoken u; outside = 1208; tested = 59 })) (over index 0 (indexOctets * 2) (padded u))
         (over report 0 (reportOctets * 2) ((2 ∷ replicate multiframePairs 0) ++ (2 ∷ replicate multiframePairs 0)))
     two-hunted two lent =
         let n = H.searched-are u threeZeros (λ k. worstSync) (λ k. 3) manyZeros 151 fits in
         let out : outsideOf l 0 m ≡ 1208 = omega arith in
         let tested : testedInRow l 0 3 m ≡ 59 = omega arith in
-        hunts-back u carriedOctets 0 3 fewestMatches codebook thresholds index report (hunts-back-met (le-of-eq (sym two)) lent)
-        ∙ same-notes u carriedOctets 0 3 fewestMatches codebook thresholds index report (receivedFlips u carriedOctets 3) (λ k. 2) two-flips
+        hunts-back u carriedOctets 0 3 fewestMatches tables index report (hunts-back-met (le-of-eq (sym two)) lent)
+        ∙ same-notes u carriedOctets 0 3 fewestMatches tables index report (receivedFlips u carriedOctets 3) (λ k. 2) two-flips
         ∙ ap₂
         (λ (a b : ℕ). outcome (Read (record { summary = spoken u; outside = a; tested = b })) (over index 0 (indexOctets * m) (padded u))
         (over report 0 (reportOctets * m) (joined (λ k. 2 ∷ replicate multiframePairs 0) m)))
@@ -160,11 +160,11 @@ module _ (u : Utterance) where
         two
 
 -- ---- and from a bit that is not the first: bits before it are neither outside nor tested
-module _ (u : Utterance) (two : multiframesOf u ≡ 2) (codebook thresholds : List ℤ) (index report : List ℕ) (lent : Lent (multiframesOf u) codebook thresholds index report) where
+module _ (u : Utterance) (two : multiframesOf u ≡ 2) (tables : Tables) (index report : List ℕ) (lent : Lent (multiframesOf u) tables index report) where
   abbrev there : List ℕ
   there = carriedOctets u
 
-  from-2 : Premises u there 2 3 fewestMatches codebook thresholds index report
+  from-2 : Premises u there 2 3 fewestMatches tables index report
   from-2 =
       let c = carried u in
       record {
@@ -182,13 +182,13 @@ module _ (u : Utterance) (two : multiframesOf u ≡ 2) (codebook thresholds : Li
         lent = lent;
       }
 
-  pub hunted-from-2 : huntingReading (carriedOctets u) 2 fewestMatches codebook thresholds index report .answer
+  pub hunted-from-2 : huntingReading (carriedOctets u) 2 fewestMatches tables index report .answer
       ≡ Read (record { summary = spoken u; outside = 1206; tested = 57 })
   hunted-from-2 =
       let n = H.searched-are u threeZeros (λ k. worstSync) (λ k. 3) manyZeros 151 (fits u) in
       let out : outsideOf (bits there) 2 (multiframesOf u) ≡ 1206 = omega arith in
       let tested : testedInRow (bits there) 2 3 (multiframesOf u) ≡ 57 = omega arith in
-      ap (λ (o : Outcome). o .answer) (hunts-back u there 2 3 fewestMatches codebook thresholds index report from-2)
+      ap (λ (o : Outcome). o .answer) (hunts-back u there 2 3 fewestMatches tables index report from-2)
       ∙ ap₂ (λ (a b : ℕ). Read (record { summary = spoken u; outside = a; tested = b })) out tested
 
 -- ---- and there is such an utterance
@@ -198,12 +198,12 @@ index24 = indexFor (multiframesOf says24)
 abbrev pub report24 : List ℕ
 report24 = reportFor (multiframesOf says24)
 
-pub met-says24 : Premises says24 (carriedOctets says24) 0 3 fewestMatches zeroBook zeroThresholds index24 report24
-met-says24 = hunts-back-met says24 zeroBook zeroThresholds index24 report24 (le-of-eq (sym two-multiframes)) (lent-zeros (multiframesOf says24))
+pub met-says24 : Premises says24 (carriedOctets says24) 0 3 fewestMatches zeroTables index24 report24
+met-says24 = hunts-back-met says24 zeroTables index24 report24 (le-of-eq (sym two-multiframes)) (lent-zeros (multiframesOf says24))
 
-pub hunts-says24 : huntingReading (carriedOctets says24) 0 fewestMatches zeroBook zeroThresholds index24 report24 .answer
+pub hunts-says24 : huntingReading (carriedOctets says24) 0 fewestMatches zeroTables index24 report24 .answer
     ≡ Read (record { summary = spoken says24; outside = 1208; tested = 59 })
-hunts-says24 = ap (λ (o : Outcome). o .answer) (two-hunted says24 zeroBook zeroThresholds index24 report24 two-multiframes (lent-zeros (multiframesOf says24)))
+hunts-says24 = ap (λ (o : Outcome). o .answer) (two-hunted says24 zeroTables index24 report24 two-multiframes (lent-zeros (multiframesOf says24)))
 
 -- ---- THE SHIFTED IMAGE: every utterance's, behind three zeros and before five
 abbrev pub fiveZeros : List Bool
@@ -242,18 +242,18 @@ module _ (u : Utterance) where
       }
 
   -- so it is read at every T, with all notes 0, eight bits outside and four places tested if it has one multiframe
-  pub one-shifted : multiframesOf u ≡ 1 → (least : ℕ) → fewestMatches ≤ least → least ≤ syncBits → (codebook thresholds : List ℤ) (index report : List ℕ)
-      → Lent (multiframesOf u) codebook thresholds index report
-      → huntingReading shiftedOctets 0 least codebook thresholds index report
+  pub one-shifted : multiframesOf u ≡ 1 → (least : ℕ) → fewestMatches ≤ least → least ≤ syncBits → (tables : Tables) (index report : List ℕ)
+      → Lent (multiframesOf u) tables index report
+      → huntingReading shiftedOctets 0 least tables index report
       ≡ outcome (Read (record { summary = spoken u; outside = 8; tested = 4 })) (over index 0 indexOctets (padded u)) (over report 0 reportOctets (replicate reportOctets 0))
-  one-shifted one least low high codebook thresholds index report lent =
+  one-shifted one least low high tables index report lent =
       let same : bits shiftedOctets ≡ threeZeros ++ (bits (imageOf u) ++ fiveZeros) =
       bits-octets (1 + multiframeOctets * multiframesOf u) (threeZeros ++ (bits (imageOf u) ++ fiveZeros)) shifted-size in
       let size : length (bits shiftedOctets) ≡ 8 * (1 + multiframeOctets * multiframesOf u) = ap length same ∙ shifted-size in
       let all : searched (bits shiftedOctets) ≡ 8 * (1 + multiframeOctets * multiframesOf u) = searched-all (bits shiftedOctets) (omega arith) ∙ size in
       let out : outsideOf (bits shiftedOctets) 0 (multiframesOf u) ≡ 8 = omega arith in
       let tested : testedInRow (bits shiftedOctets) 0 3 (multiframesOf u) ≡ 4 = omega arith in
-      hunts-shifted u shiftedOctets 0 least threeZeros fiveZeros (shifted-met least low) codebook thresholds index report low high lent
+      hunts-shifted u shiftedOctets 0 least threeZeros fiveZeros (shifted-met least low) tables index report low high lent
       ∙ ap₂
       (λ (a b : ℕ). outcome (Read (record { summary = spoken u; outside = a; tested = b })) (over index 0 (indexOctets * multiframesOf u) (padded u))
       (over report 0 (reportOctets * multiframesOf u) (joined (λ k. 0 ∷ replicate multiframePairs 0) (multiframesOf u))))

@@ -12,7 +12,6 @@ use native.Mathlib.Omega.{arith}
 use lib.Bits.{bitXor}
 use lib.Count.{ones, onesIn}
 use lib.Dec.{T, ltb, lit<, lit≤}
-use lib.IntN.{ℤ}
 use lib.ListN.{length, getD, replicate, length-replicate, replicate-append-replicate}
 use lib.Seq.{getD-append-add}
 use borrow.Author.Tests.{ltb-true}
@@ -20,6 +19,7 @@ use Rattle.polynomials.specs.Light.{ones-in}
 use Rattle.lists.specs.Tests.{all-holds}
 use Rattle.lists.specs.Parts.{part, over}
 use Rattle.layout.specs.Layout.{widths, frameIndices, multiframePairs, streamOctets, indexOctets, reportOctets, firstPair}
+use Rattle.consistency.specs.Tables.{Tables}
 use Rattle.settings.specs.Settings.{settings}
 use Rattle.frames.specs.Frames.{zeroFrame}
 use Rattle.bits.specs.Bits.{field, fields, value, laid, numbers, bits, octets}
@@ -55,7 +55,7 @@ use Rattle.writer.specs.declared.Answer.the-variants.{Written}
 use Rattle.demands.specs.Damage.{any-header, headerFlips, header-lost}
 use Rattle.demands.specs.Whole.{Lent, rowOf, readings-are, refuses-16}
 use Rattle.demands.specs.ReadsBack.{spoken, padded, reads-image}
-use Rattle.demands.specs.Met.{zeroBook, zeroThresholds, indexFor, reportFor, lent-zeros}
+use Rattle.demands.specs.Met.{zeroTables, indexFor, reportFor, lent-zeros}
 use Rattle.promises.specs.Misled as NeverMisled
 use Rattle.promises.specs.Trusted as Trusted
 use Rattle.hunting_demands.specs.Standing.{placeInRow, syncAt, wordAt, streamAt, all-match, passes-there, unlike-fails, lost-fails, InARow, testedInRow}
@@ -243,7 +243,7 @@ unsettled d = refl
 nothing-settles : settling (readings garbled (rowOf 2)) ≡ S.Unsettled
 nothing-settles = ap settling (readings-are garbled 2) ∙ ap₂ (λ (x y : Header). settling (x ∷ y ∷ [])) first-lost second-read ∙ unsettled (decodedAs (wordIn garbled 1) (message (settings 1 0) 1 0))
 
-module _ (least : ℕ) (codebook thresholds : List ℤ) (index report : List ℕ) where
+module _ (least : ℕ) (tables : Tables) (index report : List ℕ) where
   -- THE COUNTEREXAMPLE
   pub record Misses : Type 0 where
     -- sent: 8 kHz, two multiframes, 25 frames
@@ -261,16 +261,16 @@ module _ (least : ℕ) (codebook thresholds : List ℤ) (index report : List ℕ
     pub never-misled-met : NeverMisled.Premises sent garbled
     pub trusted-met : Trusted.Premises sent garbled
     -- all premises of HUNTS BACK hold but the one of the headers
-    pub others : (p : Premise) → (p ≡ Headers → ⊥) → Holds sent garbled 0 0 least codebook thresholds index report p
+    pub others : (p : Premise) → (p ≡ Headers → ⊥) → Holds sent garbled 0 0 least tables index report p
     -- MISLED WITHOUT A NOTE: the hunting reader gives 11 kHz, one multiframe, one frame and end 1, and every note is 0; a multiframe's
     -- bits outside, and as many places tested before the one found, are all that tells
-    pub answers : huntingReading garbled 0 least codebook thresholds index report
+    pub answers : huntingReading garbled 0 least tables index report
         ≡ outcome (Read (record { summary = record { settings = settings 1 0; multiframes = 1; speech = 1; bad = 0; end = 1 }; outside = multiframeBits; tested = suc multiframeBits }))
         (over index 0 indexOctets (replicate frameIndices 4 ++ replicate (indexOctets - frameIndices) 0)) (over report 0 reportOctets (replicate reportOctets 0))
     -- the octet reader is not misled: it refuses them, 16
-    pub refuses : R.reading garbled codebook thresholds index report ≡ R.outcome (RA.Refused Unsettled) index report
+    pub refuses : R.reading garbled tables index report ≡ R.outcome (RA.Refused Unsettled) index report
 
-  module _ (low : fewestMatches ≤ least) (high : least ≤ syncBits) (lent : Lent 2 codebook thresholds index report) where
+  module _ (low : fewestMatches ≤ least) (high : least ≤ syncBits) (lent : Lent 2 tables index report) where
     size-came : length garbled ≡ length (imageOf sent)
     size-came = cut .size ∙ sym (length-image (settings 0 0) (sent .indices) 2)
 
@@ -285,7 +285,7 @@ module _ (least : ℕ) (codebook thresholds : List ℤ) (index report : List ℕ
     first-only zero h d = le-of-eq first-flips
     first-only (suc k) h d = absurd (d (omega arith))
 
-    but-headers : (p : Premise) → (p ≡ Headers → ⊥) → Holds sent garbled 0 0 least codebook thresholds index report p
+    but-headers : (p : Premise) → (p ≡ Headers → ⊥) → Holds sent garbled 0 0 least tables index report p
     but-headers Begins other = lit≤ tt
     but-headers Inside other = omega (arith, searched-are)
     but-headers Syncs other = syncs-match least low high
@@ -297,7 +297,7 @@ module _ (least : ℕ) (codebook thresholds : List ℤ) (index report : List ℕ
     but-headers Settled other = inl (lit≤ tt)
     but-headers TablesAndRoom other = lent
 
-    lent-1 : Lent 1 codebook thresholds index report
+    lent-1 : Lent 1 tables index report
     lent-1 = record {
       codebook-size = lent .codebook-size;
       thresholds-size = lent .thresholds-size;
@@ -305,15 +305,15 @@ module _ (least : ℕ) (codebook thresholds : List ℤ) (index report : List ℕ
       report-room = omega (arith, lent .report-room);
     }
 
-    answered : huntingReading garbled 0 least codebook thresholds index report
+    answered : huntingReading garbled 0 least tables index report
         ≡ outcome (Read (record { summary = spoken heard; outside = multiframeBits; tested = suc multiframeBits })) (over index 0 indexOctets (padded heard))
         (over report 0 reportOctets (replicate reportOctets 0))
     answered =
         let out : outsideOf (bits garbled) 0 1 ≡ multiframeBits = omega (arith, searched-are) in
         let tested : testedInRow (bits garbled) 0 multiframeBits 1 ≡ 1153 = omega (arith, searched-are) in
-        as-read (imageOf heard) 1 heard-cut garbled multiframeBits heard-stands 0 least codebook thresholds index report low high (lent .codebook-size) (lent .thresholds-size)
+        as-read (imageOf heard) 1 heard-cut garbled multiframeBits heard-stands 0 least tables index report low high (lent .codebook-size) (lent .thresholds-size)
         (second-alone least low high) (lit< tt) (lit≤ tt)
-        ∙ ap (λ (o : R.Outcome). counted o (outsideOf (bits garbled) 0 1) (testedInRow (bits garbled) 0 multiframeBits 1)) (reads-image heard codebook thresholds index report lent-1)
+        ∙ ap (λ (o : R.Outcome). counted o (outsideOf (bits garbled) 0 1) (testedInRow (bits garbled) 0 multiframeBits 1)) (reads-image heard tables index report lent-1)
         ∙ ap₂ (λ (a b : ℕ). outcome (Read (record { summary = spoken heard; outside = a; tested = b })) (over index 0 indexOctets (padded heard))
         (over report 0 reportOctets (replicate reportOctets 0))) out tested
 
@@ -342,9 +342,9 @@ module _ (least : ℕ) (codebook thresholds : List ℤ) (index report : List ℕ
       };
       others = but-headers;
       answers = answered;
-      refuses = refuses-16 garbled 2 (lit≤ tt) (cut .size) (cut .syncs) codebook thresholds index report (lit< tt) lent nothing-settles;
+      refuses = refuses-16 garbled 2 (lit≤ tt) (cut .size) (cut .syncs) tables index report (lit< tt) lent nothing-settles;
     }
 
 -- so with the strictest T and tables of zeros
-pub missed-16 : Misses syncBits zeroBook zeroThresholds (indexFor 2) (reportFor 2)
-missed-16 = missed syncBits zeroBook zeroThresholds (indexFor 2) (reportFor 2) (lit≤ tt) (lit≤ tt) (lent-zeros 2)
+pub missed-16 : Misses syncBits zeroTables (indexFor 2) (reportFor 2)
+missed-16 = missed syncBits zeroTables (indexFor 2) (reportFor 2) (lit≤ tt) (lit≤ tt) (lent-zeros 2)

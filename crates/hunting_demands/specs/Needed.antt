@@ -10,7 +10,6 @@ use native.Mathlib.Omega.{arith}
 use lib.Bits.{bitXor, xor-lt}
 use lib.Count.{ones, onesIn}
 use lib.Dec.{lit<, lit≤}
-use lib.IntN.{ℤ}
 use lib.ListN.{length, getD, replicate, length-append}
 use lib.Seq.{take-at, getD-take}
 use borrow.Author.Tests.{eq-eqb, ne-eqb, lt-ltb}
@@ -18,6 +17,7 @@ use Rattle.polynomials.specs.Light.{ones-in}
 use Rattle.lists.specs.Tests.{true-false}
 use Rattle.lists.specs.Rows.{each, joined, length-joined, joined-part}
 use Rattle.layout.specs.Layout.{packetBits, multiframePairs, multiframeOctets, mostMultiframes, indexOctets, reportOctets, codebookNumbers, thresholdNumbers, syncFirst, syncSecond}
+use Rattle.consistency.specs.Tables.{Tables}
 use Rattle.settings.specs.Settings.{settings}
 use Rattle.bits.specs.Bits.{field, fields, value, bits}
 use Rattle.bits.specs.Laws.{length-field, length-bits}
@@ -57,7 +57,7 @@ use Rattle.demands.specs.Damage.{Touched, sentMessage, differs}
 use Rattle.demands.specs.Whole.{Lent, rowOf, readings-are, cut-is, pairNoteIn, front-at, refuses-16}
 use Rattle.demands.specs.Headers.{sentCommon, common-sent, rate-sent, exp-sent}
 use Rattle.demands.specs.Instances.{lone, says1}
-use Rattle.demands.specs.Met.{zeroBook, zeroThresholds, indexFor, reportFor, lent-zeros, distance, burstAt, doubleAt, hurtWord, hurtStream, hurtImage, hurts, names-met, says24, two-multiframes}
+use Rattle.demands.specs.Met.{zeroTables, indexFor, reportFor, lent-zeros, distance, burstAt, doubleAt, hurtWord, hurtStream, hurtImage, hurts, names-met, says24, two-multiframes}
 use Rattle.demands.specs.Needed.{says1At11}
 use Rattle.hunting_demands.specs.Standing.{placeInRow, row, syncAt, wordAt, streamAt, all-match, passes-there, unlike-fails, lost-fails, InARow, testedInRow, reads-in-a-row, image-size, image-sync, image-word}
 use Rattle.hunting_demands.specs.AsRead as A
@@ -72,7 +72,7 @@ pub data Premise : Type 0 where
   Begins Inside Syncs Headers Streams NoneBefore NoneBehind Low Settled TablesAndRoom : Premise
 
 -- what each says; a law each way shows that they are all, and no more
-module _ (u : Utterance) (s : List ℕ) (from at least : ℕ) (codebook thresholds : List ℤ) (index report : List ℕ) where
+module _ (u : Utterance) (s : List ℕ) (from at least : ℕ) (tables : Tables) (index report : List ℕ) where
   abbrev pub Holds : Premise → Type 0
   Holds Begins = from ≤ at
   Holds Inside = at + multiframeBits * multiframesOf u ≤ searched (bits s)
@@ -83,9 +83,9 @@ module _ (u : Utterance) (s : List ℕ) (from at least : ℕ) (codebook threshol
   Holds NoneBehind = (t : ℕ) → at + multiframeBits * multiframesOf u ≤ t → t + multiframeBits ≤ searched (bits s) → passes least (bits s) t ≡ false
   Holds Low = fewestMatches ≤ least
   Holds Settled = (2 ≤ multiframesOf u) ⊎ (receivedFlips u s at 0 ≡ 0)
-  Holds TablesAndRoom = Lent (multiframesOf u) codebook thresholds index report
+  Holds TablesAndRoom = Lent (multiframesOf u) tables index report
 
-  pub all-hold : ((p : Premise) → Holds p) → Premises u s from at least codebook thresholds index report
+  pub all-hold : ((p : Premise) → Holds p) → Premises u s from at least tables index report
   all-hold h = record {
     carried = record {
       begins = h Begins;
@@ -101,7 +101,7 @@ module _ (u : Utterance) (s : List ℕ) (from at least : ℕ) (codebook threshol
     lent = h TablesAndRoom;
   }
 
-  pub premises-hold : Premises u s from at least codebook thresholds index report → (p : Premise) → Holds p
+  pub premises-hold : Premises u s from at least tables index report → (p : Premise) → Holds p
   premises-hold h Begins = h .carried .begins
   premises-hold h Inside = h .carried .inside
   premises-hold h Syncs = h .carried .syncs
@@ -114,33 +114,33 @@ module _ (u : Utterance) (s : List ℕ) (from at least : ℕ) (codebook threshol
   premises-hold h TablesAndRoom = h .lent
 
 -- all others hold, this one does not, and the reading is refused, and both buffers stay
-pub record Needed (missing : Premise) (u : Utterance) (s : List ℕ) (from at least : ℕ) (codebook thresholds : List ℤ) (index report : List ℕ) (r : Refusal) : Type 0 where
-  pub others : (p : Premise) → (p ≡ missing → ⊥) → Holds u s from at least codebook thresholds index report p
-  pub fails : Holds u s from at least codebook thresholds index report missing → ⊥
-  pub instead : huntingReading s from least codebook thresholds index report ≡ outcome (Refused r) index report
+pub record Needed (missing : Premise) (u : Utterance) (s : List ℕ) (from at least : ℕ) (tables : Tables) (index report : List ℕ) (r : Refusal) : Type 0 where
+  pub others : (p : Premise) → (p ≡ missing → ⊥) → Holds u s from at least tables index report p
+  pub fails : Holds u s from at least tables index report missing → ⊥
+  pub instead : huntingReading s from least tables index report ≡ outcome (Refused r) index report
 
 -- or the reading succeeds, and the first pair's note is 1, where HUNTS BACK has 0, whatever notes the headers get
-pub record NeededForNotes (missing : Premise) (u : Utterance) (s : List ℕ) (from at least : ℕ) (codebook thresholds : List ℤ) (index report : List ℕ) : Type 0 where
-  pub others : (p : Premise) → (p ≡ missing → ⊥) → Holds u s from at least codebook thresholds index report p
-  pub fails : Holds u s from at least codebook thresholds index report missing → ⊥
-  pub instead : pairNoteIn (huntingReading s from least codebook thresholds index report .report) 0 ≡ 1
-  pub not-heard : (notes : ℕ → ℕ) → huntingReading s from least codebook thresholds index report ≡ heard u s from at least codebook thresholds index report notes → ⊥
+pub record NeededForNotes (missing : Premise) (u : Utterance) (s : List ℕ) (from at least : ℕ) (tables : Tables) (index report : List ℕ) : Type 0 where
+  pub others : (p : Premise) → (p ≡ missing → ⊥) → Holds u s from at least tables index report p
+  pub fails : Holds u s from at least tables index report missing → ⊥
+  pub instead : pairNoteIn (huntingReading s from least tables index report .report) 0 ≡ 1
+  pub not-heard : (notes : ℕ → ℕ) → huntingReading s from least tables index report ≡ heard u s from at least tables index report notes → ⊥
 
 -- Below, each premise but `Inside`: octets that are too short for it break `Streams` too, and else it speaks only of octets from the 2^61st on.
 
 -- ---- the premises but one, of an utterance with other syncs and flips in its headers
 module _ (u : Utterance) (front : List Bool) (y : ℕ → List Bool) (flips : ℕ → ℕ) (behind : List Bool) (n : ℕ) (f : H.Fits u front y flips behind n)
-    (from least : ℕ) (codebook thresholds : List ℤ) (index report : List ℕ) (missing : Premise) where
+    (from least : ℕ) (tables : Tables) (index report : List ℕ) (missing : Premise) where
   abbrev s : List ℕ
   s = H.hurt u front y flips behind n
 
   abbrev HoldsUnlessMissing : Premise → Type 0
-  HoldsUnlessMissing p = (p ≡ missing → ⊥) → Holds u s from (length front) least codebook thresholds index report p
+  HoldsUnlessMissing p = (p ≡ missing → ⊥) → Holds u s from (length front) least tables index report p
 
   hurt-others : HoldsUnlessMissing Begins → ((Syncs ≡ missing → ⊥) → (k : ℕ) → least ≤ matches (y k) sync)
       → ((Headers ≡ missing → ⊥) → (k : ℕ) → ones (flips k) ≤ 2) → HoldsUnlessMissing NoneBefore → HoldsUnlessMissing NoneBehind → HoldsUnlessMissing Low
       → ((Settled ≡ missing → ⊥) → (2 ≤ multiframesOf u) ⊎ (ones (flips 0) ≡ 0)) → HoldsUnlessMissing TablesAndRoom
-      → (p : Premise) → (p ≡ missing → ⊥) → Holds u s from (length front) least codebook thresholds index report p
+      → (p : Premise) → (p ≡ missing → ⊥) → Holds u s from (length front) least tables index report p
   hurt-others begins match few before after low settled lent Begins other = begins other
   hurt-others begins match few before after low settled lent Inside other = H.inside-there u front y flips behind n f
   hurt-others begins match few before after low settled lent Syncs other = λ k h. H.match-there u front y flips behind n f k h least (match other k)
@@ -161,46 +161,46 @@ unfolding settling firstAgreeing onlyOne
 unlike a b differ = rw (ne-eqb (commonBits (b .message)) (commonBits (a .message)) differ)
 
 module _ (s : List ℕ) (from at least m : ℕ) (r : InARow (bits s) from at least m) (some : 0 < m) (few : m ≤ mostMultiframes)
-    (low : fewestMatches ≤ least) (high : least ≤ syncBits) (codebook thresholds : List ℤ) (index report : List ℕ) (lent : Lent m codebook thresholds index report) where
+    (low : fewestMatches ≤ least) (high : least ≤ syncBits) (tables : Tables) (index report : List ℕ) (lent : Lent m tables index report) where
   abbrev got : List ℕ
   got = foundImage s (row at m)
 
-  unsettled : settling (readings got (rowOf m)) ≡ S.Unsettled → huntingReading s from least codebook thresholds index report ≡ outcome (Refused (Octets Unsettled)) index report
+  unsettled : settling (readings got (rowOf m)) ≡ S.Unsettled → huntingReading s from least tables index report ≡ outcome (Refused (Octets Unsettled)) index report
   unsettled e =
-      reads-in-a-row s from least codebook thresholds index report low high (lent .codebook-size) (lent .thresholds-size) at m r some few
+      reads-in-a-row s from least tables index report low high (lent .codebook-size) (lent .thresholds-size) at m r some few
       ∙ ap (λ (o : R.Outcome). counted o (outsideOf (bits s) from m) (testedInRow (bits s) from at m))
-      (refuses-16 got m few (image-size s at m (r .inside)) (image-sync s at m (r .inside)) codebook thresholds index report some lent e)
+      (refuses-16 got m few (image-size s at m (r .inside)) (image-sync s at m (r .inside)) tables index report some lent e)
 
   header-found : (k : ℕ) → k < m → reading (wordIn got k) ≡ reading (wordAt (bits s) (placeInRow at k))
   header-found k h = ap reading (image-word s at m (r .inside) k h)
 
   -- so with an only header that was mended
   mended-alone : (d : Decoded) → m ≡ 1 → reading (wordAt (bits s) (placeInRow at 0)) ≡ Codeword d → (d .flips ≡ 0 → ⊥)
-      → huntingReading s from least codebook thresholds index report ≡ outcome (Refused (Octets Unsettled)) index report
+      → huntingReading s from least tables index report ≡ outcome (Refused (Octets Unsettled)) index report
   mended-alone d one e touched =
       unsettled (ap settling (readings-are got m ∙ ap (each (λ k. reading (wordIn got k))) one) ∙ ap (λ (h : Header). settling (h ∷ [])) (header-found 0 some ∙ e)
       ∙ only-mended d touched)
 
   -- and with two of different common bits
   two-differ : (a b : Decoded) → m ≡ 2 → reading (wordAt (bits s) (placeInRow at 0)) ≡ Codeword a → reading (wordAt (bits s) (placeInRow at 1)) ≡ Codeword b
-      → (commonBits (b .message) ≡ commonBits (a .message) → ⊥) → huntingReading s from least codebook thresholds index report ≡ outcome (Refused (Octets Unsettled)) index report
+      → (commonBits (b .message) ≡ commonBits (a .message) → ⊥) → huntingReading s from least tables index report ≡ outcome (Refused (Octets Unsettled)) index report
   two-differ a b two ea eb differ =
       unsettled (ap settling (readings-are got m ∙ ap (each (λ k. reading (wordIn got k))) two)
       ∙ ap₂ (λ (h i : Header). settling (h ∷ i ∷ [])) (header-found 0 some ∙ ea) (header-found 1 (omega arith) ∙ eb) ∙ unlike a b differ)
 
 -- ---- where the settings are settled and the index buffer is too short, the octet reader gives 18
 module _ (s : List ℕ) (m : ℕ) (some : 0 < m) (few : m ≤ mostMultiframes) (size : length s ≡ multiframeOctets * m)
-    (syncs : (k : ℕ) → k < m → syncIn s k ≡ syncFirst ∷ syncSecond ∷ []) (codebook thresholds : List ℤ) (index report : List ℕ)
-    (codebook-size : length codebook ≡ codebookNumbers) (thresholds-size : length thresholds ≡ thresholdNumbers) where
+    (syncs : (k : ℕ) → k < m → syncIn s k ≡ syncFirst ∷ syncSecond ∷ []) (tables : Tables) (index report : List ℕ)
+    (codebook-size : length (tables .codebook) ≡ codebookNumbers) (thresholds-size : length (tables .thresholds) ≡ thresholdNumbers) where
   refuses-18 : (c : ℕ) → settling (readings s (rowOf m)) ≡ S.Settled c → Usable c → length index < indexOctets * m
-      → R.reading s codebook thresholds index report ≡ R.outcome (RA.Refused (IndexShort (indexOctets * m))) index report
+      → R.reading s tables index report ≡ R.outcome (RA.Refused (IndexShort (indexOctets * m))) index report
   unfolding R.reading R.verdict R.wholeVerdict R.settledVerdict R.roomVerdict
   refuses-18 c e u short =
       let k = every-length 0 m in
       let i : length index < indexOctets * length (rowOf m) = subst (λ (n : ℕ). length index < indexOctets * n) (sym k) short in
       rw (
-        eq-eqb (length codebook) codebookNumbers codebook-size,
-        eq-eqb (length thresholds) thresholdNumbers thresholds-size,
+        eq-eqb (length (tables .codebook)) codebookNumbers codebook-size,
+        eq-eqb (length (tables .thresholds)) thresholdNumbers thresholds-size,
         cut-is s m few size syncs,
         ne-eqb (length (rowOf m)) 0 (λ z. omega arith),
         e,
@@ -350,28 +350,28 @@ half-fits u = record { syncs = λ k. sync-size; headers = small; around = refl; 
     small (suc k) = lit< tt
 
 -- room for many is room for fewer
-fewer : (m k : ℕ) → k ≤ m → (codebook thresholds : List ℤ) (index report : List ℕ) → Lent m codebook thresholds index report → Lent k codebook thresholds index report
-fewer m k h codebook thresholds index report lent = record {
+fewer : (m k : ℕ) → k ≤ m → (tables : Tables) (index report : List ℕ) → Lent m tables index report → Lent k tables index report
+fewer m k h tables index report lent = record {
   codebook-size = lent .codebook-size;
   thresholds-size = lent .thresholds-size;
   index-room = omega (arith, lent .index-room);
   report-room = omega (arith, lent .report-room);
 }
 
-module _ (codebook thresholds : List ℤ) (index report : List ℕ) where
+module _ (tables : Tables) (index report : List ℕ) where
   -- with nothing around the multiframes no place is before them or behind
   alone-others : (u : Utterance) (y : ℕ → List Bool) (flips : ℕ → ℕ) → H.Fits u [] y flips [] 0 → (from least : ℕ) (missing : Premise)
       → ((Begins ≡ missing → ⊥) → from ≤ 0) → ((Syncs ≡ missing → ⊥) → (k : ℕ) → least ≤ matches (y k) sync)
       → ((Headers ≡ missing → ⊥) → (k : ℕ) → ones (flips k) ≤ 2) → ((Low ≡ missing → ⊥) → fewestMatches ≤ least)
       → ((Settled ≡ missing → ⊥) → (2 ≤ multiframesOf u) ⊎ (ones (flips 0) ≡ 0))
-      → ((TablesAndRoom ≡ missing → ⊥) → Lent (multiframesOf u) codebook thresholds index report)
-      → (p : Premise) → (p ≡ missing → ⊥) → Holds u (H.hurt u [] y flips [] 0) from 0 least codebook thresholds index report p
+      → ((TablesAndRoom ≡ missing → ⊥) → Lent (multiframesOf u) tables index report)
+      → (p : Premise) → (p ≡ missing → ⊥) → Holds u (H.hurt u [] y flips [] 0) from 0 least tables index report p
   alone-others u y flips f from least missing begins match few low settled lent =
-      hurt-others u [] y flips [] 0 f from least codebook thresholds index report missing begins match few (λ other t a h. absurd (omega arith))
+      hurt-others u [] y flips [] 0 f from least tables index report missing begins match few (λ other t a h. absurd (omega arith))
       (λ other t a h. absurd (omega (arith, H.searched-are u [] y flips [] 0 f))) low settled lent
 
   -- SYNCS: a fifth flip in the only sync at T = 12, and nothing is found: 22
-  pub syncs-needed : Lent 1 codebook thresholds index report → Needed Syncs says1 fiveFlips 0 0 fewestMatches codebook thresholds index report (Nowhere 0 1)
+  pub syncs-needed : Lent 1 tables index report → Needed Syncs says1 fiveFlips 0 0 fewestMatches tables index report (Nowhere 0 1)
   syncs-needed lent =
       let few : matches (syncAt (bits fiveFlips) 0) sync < fewestMatches =
       subst (λ (x : List Bool). matches x sync < fewestMatches) (sym (H.sync-there says1 [] (λ k. fiveSync) untouched [] 0 five-fits 0 (lit< tt))) five-match in
@@ -381,26 +381,26 @@ module _ (codebook thresholds : List ℤ) (index report : List ℕ) where
         others = alone-others says1 (λ k. fiveSync) untouched five-fits 0 fewestMatches Syncs (λ other. lit≤ tt) (λ other. absurd (other refl))
             (λ other k. none-few) (λ other. lit≤ tt) (λ other. inr no-ones) (λ other. lent);
         fails = λ h. omega (arith, h 0 (lit< tt));
-        instead = nowhere-exactly fiveFlips 0 fewestMatches codebook thresholds index report (lent .codebook-size) (lent .thresholds-size) (in-range fewestMatches (lit≤ tt) (lit≤ tt)) .1
+        instead = nowhere-exactly fiveFlips 0 fewestMatches tables index report (lent .codebook-size) (lent .thresholds-size) (in-range fewestMatches (lit≤ tt) (lit≤ tt)) .1
             (λ t a h. let z : t ≡ 0 = omega arith in ap (passes fewestMatches (bits fiveFlips)) z ∙ unlike-fails fewestMatches (bits fiveFlips) 0 few)
             ∙ ap (λ (n : ℕ). outcome (Refused (Nowhere 0 n)) index report) one;
       }
 
   -- of the clean image
   clean-others : (from least : ℕ) → least ≤ syncBits → (missing : Premise) → ((Begins ≡ missing → ⊥) → from ≤ 0)
-      → ((Low ≡ missing → ⊥) → fewestMatches ≤ least) → ((TablesAndRoom ≡ missing → ⊥) → Lent 1 codebook thresholds index report)
-      → (p : Premise) → (p ≡ missing → ⊥) → Holds says1 clean1 from 0 least codebook thresholds index report p
+      → ((Low ≡ missing → ⊥) → fewestMatches ≤ least) → ((TablesAndRoom ≡ missing → ⊥) → Lent 1 tables index report)
+      → (p : Premise) → (p ≡ missing → ⊥) → Holds says1 clean1 from 0 least tables index report p
   clean-others from least high missing begins low lent =
       alone-others says1 (λ k. sync) (λ k. 0) clean-fits from least missing begins (λ other k. sync-enough least high) (λ other k. none-few) low
       (λ other. inr no-ones) lent
 
   -- LOW: at T = 11 the clean image itself is refused: 21
-  pub low-needed : Lent 1 codebook thresholds index report → Needed Low says1 clean1 0 0 11 codebook thresholds index report (MatchRange 11)
+  pub low-needed : Lent 1 tables index report → Needed Low says1 clean1 0 0 11 tables index report (MatchRange 11)
   unfolding huntingReading inRange
   low-needed lent = record {
     others = clean-others 0 11 (lit≤ tt) Low (λ other. lit≤ tt) (λ other. absurd (other refl)) (λ other. lent);
     fails = λ h. omega arith;
-    instead = rw (eq-eqb (length codebook) codebookNumbers (lent .codebook-size), eq-eqb (length thresholds) thresholdNumbers (lent .thresholds-size));
+    instead = rw (eq-eqb (length (tables .codebook)) codebookNumbers (lent .codebook-size), eq-eqb (length (tables .thresholds)) thresholdNumbers (lent .thresholds-size));
   }
 
   module _ (least : ℕ) (low : fewestMatches ≤ least) (high : least ≤ syncBits) where
@@ -411,14 +411,14 @@ module _ (codebook thresholds : List ℤ) (index report : List ℕ) where
         (H.passes-hurt says1 [] (λ k. sync) (λ k. 0) [] 0 clean-fits 0 (lit< tt) least (sync-enough least high) none-few) (λ t a h. absurd (omega arith))
 
     -- TABLES AND ROOM: with an index buffer that is too short the clean image is found, and refused: 18
-    pub room-needed : length codebook ≡ codebookNumbers → length thresholds ≡ thresholdNumbers → length index < indexOctets
-        → Needed TablesAndRoom says1 clean1 0 0 least codebook thresholds index report (Octets (IndexShort indexOctets))
+    pub room-needed : length (tables .codebook) ≡ codebookNumbers → length (tables .thresholds) ≡ thresholdNumbers → length index < indexOctets
+        → Needed TablesAndRoom says1 clean1 0 0 least tables index report (Octets (IndexShort indexOctets))
     room-needed codebook-size thresholds-size short = record {
       others = clean-others 0 least high TablesAndRoom (λ other. lit≤ tt) (λ other. low) (λ other. absurd (other refl));
       fails = λ h. omega (arith, h .index-room);
-      instead = reads-in-a-row clean1 0 least codebook thresholds index report low high codebook-size thresholds-size 0 1 clean-row (lit< tt) (lit≤ tt)
+      instead = reads-in-a-row clean1 0 least tables index report low high codebook-size thresholds-size 0 1 clean-row (lit< tt) (lit≤ tt)
           ∙ ap (λ (o : R.Outcome). counted o (outsideOf (bits clean1) 0 1) (testedInRow (bits clean1) 0 0 1))
-          (refuses-18 (foundImage clean1 (row 0 1)) 1 (lit< tt) (lit≤ tt) (image-size clean1 0 1 (clean-row .inside)) (image-sync clean1 0 1 (clean-row .inside)) codebook thresholds
+          (refuses-18 (foundImage clean1 (row 0 1)) 1 (lit< tt) (lit≤ tt) (image-size clean1 0 1 (clean-row .inside)) (image-sync clean1 0 1 (clean-row .inside)) tables
           index report codebook-size thresholds-size (sentCommon says1)
           (ap settling (readings-are (foundImage clean1 (row 0 1)) 1) ∙ ap (λ (h : Header). settling (h ∷ []))
           (ap reading (image-word clean1 0 1 (clean-row .inside) 0 (lit< tt)) ∙ H.mended-there says1 [] (λ k. sync) (λ k. 0) [] 0 clean-fits 0 (lit< tt) none-few)
@@ -426,22 +426,22 @@ module _ (codebook thresholds : List ℤ) (index report : List ℕ) where
           (record { rate = λ e. rate-not-2 says1 (sym (rate-sent says1) ∙ e); exp = exp-sent says1 }) short);
     }
 
-    module _ (lent : Lent 1 codebook thresholds index report) where
+    module _ (lent : Lent 1 tables index report) where
       -- BEGINS: from bit 1 on no place has a multiframe's bits left: 22
-      pub begins-needed : Needed Begins says1 clean1 1 0 least codebook thresholds index report (Nowhere 1 0)
+      pub begins-needed : Needed Begins says1 clean1 1 0 least tables index report (Nowhere 1 0)
       begins-needed =
           let size : searched (bits clean1) ≡ multiframeBits = H.searched-are says1 [] (λ k. sync) (λ k. 0) [] 0 clean-fits in
           let none : placesLeft (bits clean1) 1 ≡ 0 = omega arith in
           record {
             others = clean-others 1 least high Begins (λ other. absurd (other refl)) (λ other. low) (λ other. lent);
             fails = λ h. omega arith;
-            instead = nowhere-exactly clean1 1 least codebook thresholds index report (lent .codebook-size) (lent .thresholds-size) (in-range least low high) .1
+            instead = nowhere-exactly clean1 1 least tables index report (lent .codebook-size) (lent .thresholds-size) (in-range least low high) .1
                 (λ t a h. absurd (omega arith))
                 ∙ ap (λ (n : ℕ). outcome (Refused (Nowhere 1 n)) index report) none;
           }
 
       -- SETTLED: with one flip in the only header the multiframe is found, and nothing settles: 16
-      pub settled-needed : Needed Settled says1 mended1 0 0 least codebook thresholds index report (Octets Unsettled)
+      pub settled-needed : Needed Settled says1 mended1 0 0 least tables index report (Octets Unsettled)
       settled-needed =
           let f = mended-fits in
           let size : searched (bits mended1) ≡ multiframeBits = H.searched-are says1 [] (λ k. sync) (λ k. 1) [] 0 f in
@@ -451,13 +451,13 @@ module _ (codebook thresholds : List ℤ) (index report : List ℕ) where
             fails = ⊎-elim (λ h. omega arith) (λ e. omega (arith, H.flips-there says1 [] (λ k. sync) (λ k. 1) [] 0 f 0 (lit< tt), one-one));
             instead = mended-alone mended1 0 0 least 1
                 (first-alone mended1 least (omega arith) (H.passes-hurt says1 [] (λ k. sync) (λ k. 1) [] 0 f 0 (lit< tt) least (sync-enough least high) one-few) (λ t a h. absurd (omega arith)))
-                (lit< tt) (lit≤ tt) low high codebook thresholds index report lent _ refl
+                (lit< tt) (lit≤ tt) low high tables index report lent _ refl
                 (H.mended-there says1 [] (λ k. sync) (λ k. 1) [] 0 f 0 (lit< tt) one-few)
                 (λ e. omega (arith, sym (H.near-there says1 [] (λ k. sync) (λ k. 1) [] 0 f 0 (lit< tt)) ∙ e, one-one));
           }
 
       -- NONE BEFORE: a sync and a header with one flip in front of the image are taken for a multiframe, which swallows the true one: 16
-      pub none-before-needed : Needed NoneBefore says1 swallowed 0 48 least codebook thresholds index report (Octets Unsettled)
+      pub none-before-needed : Needed NoneBefore says1 swallowed 0 48 least tables index report (Octets Unsettled)
       none-before-needed =
           let f = start-fits in
           let size = H.searched-are says1 falseStart (λ k. sync) (λ k. 0) [] 6 f in
@@ -468,19 +468,19 @@ module _ (codebook thresholds : List ℤ) (index report : List ℕ) where
           subst (λ (x : List Bool). least ≤ matches x sync)
           (sym (H.front-there says1 falseStart (λ k. sync) (λ k. 0) [] 6 f 0 16 (omega (arith, start-size)) ∙ sync-in sync flippedWord [] sync-size)) (sync-enough least high) in
           let taken : passes least (bits swallowed) 0 ≡ true = passes-there least (bits swallowed) 0 match e in
-          subst (λ (at : ℕ). Needed NoneBefore says1 swallowed 0 at least codebook thresholds index report (Octets Unsettled)) start-size
+          subst (λ (at : ℕ). Needed NoneBefore says1 swallowed 0 at least tables index report (Octets Unsettled)) start-size
           (record {
-            others = hurt-others says1 falseStart (λ k. sync) (λ k. 0) [] 6 f 0 least codebook thresholds index report NoneBefore (λ other. omega arith)
+            others = hurt-others says1 falseStart (λ k. sync) (λ k. 0) [] 6 f 0 least tables index report NoneBefore (λ other. omega arith)
                 (λ other k. sync-enough least high) (λ other k. none-few) (λ other. absurd (other refl)) (λ other t a h. absurd (omega (arith, start-size)))
                 (λ other. low) (λ other. inr no-ones) (λ other. lent);
             fails = λ h. true-false (sym taken ∙ h 0 (lit≤ tt) (omega (arith, start-size)));
             instead = mended-alone swallowed 0 0 least 1 (first-alone swallowed least (omega arith) taken (λ t a h. absurd (omega arith)))
-                (lit< tt) (lit≤ tt) low high codebook thresholds index report lent (decodedAs flippedWord (sentMessage says1 0)) refl e (λ q. omega (arith, sym (mended (sentMessage says1 0) 1 (message-lt (settings 0 0) 1 0) one-few .1) ∙ q, one-one));
+                (lit< tt) (lit≤ tt) low high tables index report lent (decodedAs flippedWord (sentMessage says1 0)) refl e (λ q. omega (arith, sym (mended (sentMessage says1 0) 1 (message-lt (settings 0 0) 1 0) one-few .1) ∙ q, one-one));
           })
 
   -- NONE BEHIND: where a multiframe at 11 kHz follows the image, both are found, and nothing settles: 16
-  pub none-behind-needed : (least : ℕ) → fewestMatches ≤ least → least ≤ syncBits → Lent 2 codebook thresholds index report
-      → Needed NoneBehind says1 followed 0 0 least codebook thresholds index report (Octets Unsettled)
+  pub none-behind-needed : (least : ℕ) → fewestMatches ≤ least → least ≤ syncBits → Lent 2 tables index report
+      → Needed NoneBehind says1 followed 0 0 least tables index report (Octets Unsettled)
   none-behind-needed least low high lent =
       let f = other-fits in
       let size = H.searched-are says1 [] (λ k. sync) (λ k. 0) other 144 f in
@@ -493,9 +493,9 @@ module _ (codebook thresholds : List ℤ) (index report : List ℕ) where
       (sym (H.behind-there says1 [] (λ k. sync) (λ k. 0) other 144 f multiframeBits 16 (lit≤ tt) ∙ sync-in sync otherWord (stream (lone 1) 0 multiframePairs) sync-size)) (sync-enough least high) in
       let taken : passes least (bits followed) multiframeBits ≡ true = passes-there least (bits followed) multiframeBits match second in
       record {
-        others = hurt-others says1 [] (λ k. sync) (λ k. 0) other 144 f 0 least codebook thresholds index report NoneBehind (λ o. lit≤ tt)
+        others = hurt-others says1 [] (λ k. sync) (λ k. 0) other 144 f 0 least tables index report NoneBehind (λ o. lit≤ tt)
             (λ o k. sync-enough least high) (λ o k. none-few) (λ o t a h. absurd (omega arith)) (λ o. absurd (o refl)) (λ o. low) (λ o. inr no-ones)
-            (λ o. fewer 2 1 (lit≤ tt) codebook thresholds index report lent);
+            (λ o. fewer 2 1 (lit≤ tt) tables index report lent);
         fails = λ h. true-false (sym taken ∙ h multiframeBits (lit≤ tt) (omega arith));
         instead = two-differ followed 0 0 least 2
             (record {
@@ -506,14 +506,14 @@ module _ (codebook thresholds : List ℤ) (index report : List ℕ) where
               none-before = λ t a h. absurd (omega arith);
               none-behind = λ t a h. absurd (omega arith);
             })
-            (lit< tt) (lit≤ tt) low high codebook thresholds index report lent _ (decodedAs otherWord (sentMessage says1At11 0)) refl first second other-rate;
+            (lit< tt) (lit≤ tt) low high tables index report lent _ (decodedAs otherWord (sentMessage says1At11 0)) refl first second other-rate;
       }
 
   -- HEADERS, of any utterance of two multiframes: one flip in the first header and three in the second, so that only the first is found, and
   -- nothing settles: 16
   module _ (u : Utterance) (two : multiframesOf u ≡ 2) (least : ℕ) (low : fewestMatches ≤ least) (high : least ≤ syncBits)
-      (lent : Lent (multiframesOf u) codebook thresholds index report) where
-    pub headers-needed : Needed Headers u (halfLost u) 0 0 least codebook thresholds index report (Octets Unsettled)
+      (lent : Lent (multiframesOf u) tables index report) where
+    pub headers-needed : Needed Headers u (halfLost u) 0 0 least tables index report (Octets Unsettled)
     headers-needed =
         let s = halfLost u in
         let f = half-fits u in
@@ -527,23 +527,23 @@ module _ (codebook thresholds : List ℤ) (index report : List ℕ) where
           instead = mended-alone s 0 0 least 1
               (first-alone s least (omega arith) (H.passes-hurt u [] (λ k. sync) oneThenThree [] 0 f 0 (omega arith) least (sync-enough least high) one-few)
               (λ t a h. let z : t ≡ multiframeBits = omega arith in ap (passes least (bits s)) z ∙ second))
-              (lit< tt) (lit≤ tt) low high codebook thresholds index report (fewer (multiframesOf u) 1 (omega arith) codebook thresholds index report lent) _ refl
+              (lit< tt) (lit≤ tt) low high tables index report (fewer (multiframesOf u) 1 (omega arith) tables index report lent) _ refl
               (H.mended-there u [] (λ k. sync) oneThenThree [] 0 f 0 (omega arith) one-few)
               (λ q. omega (arith, sym (H.near-there u [] (λ k. sync) oneThenThree [] 0 f 0 (omega arith)) ∙ q, one-one));
         }
 
-pub room-needed-empty : Needed TablesAndRoom says1 clean1 0 0 fewestMatches zeroBook zeroThresholds [] (reportFor 1) (Octets (IndexShort indexOctets))
+pub room-needed-empty : Needed TablesAndRoom says1 clean1 0 0 fewestMatches zeroTables [] (reportFor 1) (Octets (IndexShort indexOctets))
 room-needed-empty =
-    room-needed zeroBook zeroThresholds [] (reportFor 1) fewestMatches (lit≤ tt) (lit≤ tt) (lent-zeros 1 .codebook-size) (lent-zeros 1 .thresholds-size) (lit< tt)
+    room-needed zeroTables [] (reportFor 1) fewestMatches (lit≤ tt) (lit≤ tt) (lent-zeros 1 .codebook-size) (lent-zeros 1 .thresholds-size) (lit< tt)
 
-pub headers-needed-24 : Needed Headers says24 (halfLost says24) 0 0 fewestMatches zeroBook zeroThresholds index24 report24 (Octets Unsettled)
-headers-needed-24 = headers-needed zeroBook zeroThresholds index24 report24 says24 two-multiframes fewestMatches (lit≤ tt) (lit≤ tt) (lent-zeros (multiframesOf says24))
+pub headers-needed-24 : Needed Headers says24 (halfLost says24) 0 0 fewestMatches zeroTables index24 report24 (Octets Unsettled)
+headers-needed-24 = headers-needed zeroTables index24 report24 says24 two-multiframes fewestMatches (lit≤ tt) (lit≤ tt) (lent-zeros (multiframesOf says24))
 
 -- ---- an image of two multiframes or more, damaged as demand 3 allows, its first packet too, and alone in its octets
 -- the first pair's note in what HUNTS BACK says
-heard-0 : (u : Utterance) (s : List ℕ) (from at least : ℕ) (codebook thresholds : List ℤ) (index report : List ℕ) (notes : ℕ → ℕ)
-    → pairNoteIn (heard u s from at least codebook thresholds index report notes .report) 0 ≡ 0
-heard-0 u s from at least codebook thresholds index report notes =
+heard-0 : (u : Utterance) (s : List ℕ) (from at least : ℕ) (tables : Tables) (index report : List ℕ) (notes : ℕ → ℕ)
+    → pairNoteIn (heard u s from at least tables index report notes .report) 0 ≡ 0
+heard-0 u s from at least tables index report notes =
     let m = multiframesOf u in
     let g : ℕ → List ℕ = λ k. notes k ∷ replicate multiframePairs 0 in
     front-at report (joined g m) (reportOctets * m) 1 (omega (arith, length-joined g reportOctets m (λ k h. refl)))
@@ -586,7 +586,7 @@ module _ (u : Utterance) (two : 2 ≤ multiframesOf u) (least : ℕ) (low : fewe
       differs p (burstAt u 0) (inl (flips-burst p 0 2 (lit< tt) (lit< tt) (omega arith)))
       (sym first ∙ e ∙ image-packet (u .settings) (u .indices) m 0 (omega arith))
 
-  named : A.Premises u img img 0 0 least zeroBook zeroThresholds (indexFor m) (reportFor m)
+  named : A.Premises u img img 0 0 least zeroTables (indexFor m) (reportFor m)
   named = record {
     of-image = names-met u two;
     there = there;
@@ -598,10 +598,10 @@ module _ (u : Utterance) (two : 2 ≤ multiframesOf u) (least : ℕ) (low : fewe
     low = low;
   }
 
-  noted : pairNoteIn (huntingReading img 0 least zeroBook zeroThresholds (indexFor m) (reportFor m) .report) 0 ≡ 1
-  noted = A.names-at-any-bit u img img 0 0 least zeroBook zeroThresholds (indexFor m) (reportFor m) named .names .damaged 0 (omega arith) .1 first-touched
+  noted : pairNoteIn (huntingReading img 0 least zeroTables (indexFor m) (reportFor m) .report) 0 ≡ 1
+  noted = A.names-at-any-bit u img img 0 0 least zeroTables (indexFor m) (reportFor m) named .names .damaged 0 (omega arith) .1 first-touched
 
-  named-others : (p : Premise) → (p ≡ Streams → ⊥) → Holds u img 0 0 least zeroBook zeroThresholds (indexFor m) (reportFor m) p
+  named-others : (p : Premise) → (p ≡ Streams → ⊥) → Holds u img 0 0 least zeroTables (indexFor m) (reportFor m) p
   named-others Begins other = lit≤ tt
   named-others Inside other = named .inside
   named-others Syncs other = whole-syncs
@@ -615,16 +615,16 @@ module _ (u : Utterance) (two : 2 ≤ multiframesOf u) (least : ℕ) (low : fewe
   named-others TablesAndRoom other = lent-zeros m
 
   -- STREAMS: with the first packet damaged the image is read, and the first pair's note is 1
-  pub streams-needed : NeededForNotes Streams u (hurtImage u) 0 0 least zeroBook zeroThresholds (indexFor (multiframesOf u)) (reportFor (multiframesOf u))
+  pub streams-needed : NeededForNotes Streams u (hurtImage u) 0 0 least zeroTables (indexFor (multiframesOf u)) (reportFor (multiframesOf u))
   streams-needed = record {
     others = named-others;
     fails = λ h. first-touched (ap (λ (l : List Bool). streamPacket l 0) (sym (there .streams 0 (omega arith)) ∙ h 0 (omega arith)));
     instead = noted;
     not-heard = λ notes e.
         let z : _≡_ {A = ℕ} 0 1 =
-        sym (heard-0 u img 0 0 least zeroBook zeroThresholds (indexFor m) (reportFor m) notes) ∙ ap (λ (o : Outcome). pairNoteIn (o .report) 0) (sym e) ∙ noted in
+        sym (heard-0 u img 0 0 least zeroTables (indexFor m) (reportFor m) notes) ∙ ap (λ (o : Outcome). pairNoteIn (o .report) 0) (sym e) ∙ noted in
         omega arith;
   }
 
-pub streams-needed-24 : NeededForNotes Streams says24 (hurtImage says24) 0 0 fewestMatches zeroBook zeroThresholds index24 report24
+pub streams-needed-24 : NeededForNotes Streams says24 (hurtImage says24) 0 0 fewestMatches zeroTables index24 report24
 streams-needed-24 = streams-needed says24 (le-of-eq (sym two-multiframes)) fewestMatches (lit≤ tt) (lit≤ tt)

@@ -7,13 +7,13 @@ use mathlib.Core.Bool.{Bool, true, false}
 use native.Mathlib.Nat.{mod-eq-of-lt}
 use native.Mathlib.Omega.{arith}
 use lib.Dec.{leb}
-use lib.IntN.{ℤ}
 use lib.ListN.{length, take, getD}
 use lib.Seq.{drop-append-add}
 use Rattle.lists.specs.Tests.{both, true-false}
 use Rattle.lists.specs.Parts.{part, length-part, part-left}
 use Rattle.lists.specs.Rows.{each-at}
 use Rattle.layout.specs.Layout.{multiframeOctets, reportOctets, headerOctets}
+use Rattle.consistency.specs.Tables.{Tables}
 use Rattle.bits.specs.Bits.{field, value, bits}
 use Rattle.bits.specs.Laws.{length-field, value-field, value-lt, bits-octets}
 use Rattle.header.specs.Reading.{ReadAs, reading}
@@ -82,23 +82,23 @@ not-three c k w = by (reading w) (reads w)
     by Lost r e z = true-false (sym e)
     by (Codeword d) r e z = omega (arith, note-flips c k d (r .2), r .2)
 
-pub never-lost : (s : List ℕ) (from least : ℕ) (codebook thresholds : List ℤ) (index report : List ℕ) (c : Counted)
-    → huntingReading s from least codebook thresholds index report .answer ≡ Read c → (k : ℕ) → k < c .summary .multiframes
-    → headerNoteIn (huntingReading s from least codebook thresholds index report .report) k ≡ 3 → ⊥
-never-lost s from least codebook thresholds index report c e k h z =
-    let x = success s from least codebook thresholds index report c e in
-    let ps = G.all s from least codebook thresholds index report .places in
+pub never-lost : (s : List ℕ) (from least : ℕ) (tables : Tables) (index report : List ℕ) (c : Counted)
+    → huntingReading s from least tables index report .answer ≡ Read c → (k : ℕ) → k < c .summary .multiframes
+    → headerNoteIn (huntingReading s from least tables index report .report) k ≡ 3 → ⊥
+never-lost s from least tables index report c e k h z =
+    let x = success s from least tables index report c e in
+    let ps = G.all s from least tables index report .places in
     let img = imageOf s ps in
     let y = x .as-01-says in
-    let w = A.was-read img codebook thresholds index report [] (c .summary) (ap (λ (o : R.Outcome). o .answer) y) in
+    let w = A.was-read img tables index report [] (c .summary) (ap (λ (o : R.Outcome). o .answer) y) in
     let cut : cutting img .places ≡ rowOf (length ps) = ap (λ (v : Cutting). v .places) (image-cut s ps (x .few)) in
     let places = cutting img .places in
-    let ns = receivedNotes img places codebook thresholds in
+    let ns = receivedNotes img places tables in
     let rows : length places ≡ length ps = ap length cut ∙ every-length 0 (length ps) in
     let inside : k < length ps = omega (arith, x .count) in
     let r : getD (readings img places) k Lost ≡ reading (wordIn img k) =
     ap (λ (l : List ℕ). getD (readings img l) k Lost) cut ∙ ap (λ (l : List Header). getD l k Lost) (readings-are img (length ps)) ∙ each-at (λ j. reading (wordIn img j)) (length ps) k Lost inside in
     let n : headerNote (w .common) k (getD (readings img places) k Lost) ≡ 3 =
-    sym (header-note-is img places ns report (w .common) (reportOctets * length places) (length-notes (received img places) (pairCount places) codebook thresholds) k (omega arith))
+    sym (header-note-is img places ns report (w .common) (reportOctets * length places) (length-notes (received img places) (pairCount places) tables) k (omega arith))
     ∙ sym (ap (λ (o : R.Outcome). headerNoteIn (o .report) k) (w .result-is)) ∙ ap (λ (o : R.Outcome). headerNoteIn (o .report) k) y ∙ z in
     not-three (w .common) k (wordIn img k) (found-readable s least from ps k (x .stand-apart) inside) (ap (headerNote (w .common) k) (sym r) ∙ n)

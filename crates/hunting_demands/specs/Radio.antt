@@ -10,9 +10,9 @@ use mathlib.Core.Logic.{_⊎_, inl, inr, ⊎-elim}
 use native.Mathlib.Omega.{arith}
 use lib.Bits.{bitXor}
 use lib.Count.{ones}
-use lib.IntN.{ℤ}
 use lib.ListN.{length}
 use Rattle.layout.specs.Layout.{multiframePairs, multiframeOf, mostMultiframes}
+use Rattle.consistency.specs.Tables.{Tables}
 use Rattle.bits.specs.Bits.{bits}
 use Rattle.carrier.specs.Carrier.{streamPacket}
 use Rattle.crc.specs.Crc.{Damaged}
@@ -118,18 +118,18 @@ module _ (u : Utterance) (s : List ℕ) (from at least : ℕ) (o : OnAir u s fro
     streams = λ k h. sym (image-stream s at (multiframesOf u) (caught .inside) k h);
   }
 
-  module _ (codebook thresholds : List ℤ) (index report : List ℕ) where
+  module _ (tables : Tables) (index report : List ℕ) where
     pub record Premises : Type 0 where
       -- "two multiframes or more, or an untouched only header"
       pub settled : (2 ≤ multiframesOf u) ⊎ (receivedFlips u s at 0 ≡ 0)
       -- "and one pair not bad"
       pub pair : ℕ
       pub within : pair < pairsOf u
-      pub not-bad : BadPair u (together u s at) codebook thresholds pair → ⊥
+      pub not-bad : BadPair u (together u s at) tables pair → ⊥
       -- 01's tables and room
-      pub lent : Lent (multiframesOf u) codebook thresholds index report
+      pub lent : Lent (multiframesOf u) tables index report
 
-    of-radio : Premises → A.Premises u (together u s at) s from at least codebook thresholds index report
+    of-radio : Premises → A.Premises u (together u s at) s from at least tables index report
     of-radio p = record {
       of-image = record {
         damage = on-air;
@@ -149,5 +149,5 @@ module _ (u : Utterance) (s : List ℕ) (from at least : ℕ) (o : OnAir u s fro
     }
 
     -- NAMES THE DAMAGE ON AIR
-    pub names-on-air : Premises → A.Named u (together u s at) s from at least codebook thresholds index report
-    names-on-air p = A.names-at-any-bit u (together u s at) s from at least codebook thresholds index report (of-radio p)
+    pub names-on-air : Premises → A.Named u (together u s at) s from at least tables index report
+    names-on-air p = A.names-at-any-bit u (together u s at) s from at least tables index report (of-radio p)

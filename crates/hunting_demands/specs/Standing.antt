@@ -6,7 +6,6 @@ use mathlib.Core.Path.{_≡_, refl, sym, ap, ap₂, _∙_, subst}
 use mathlib.Core.List.{List, [], _∷_, _++_}
 use mathlib.Core.Bool.{Bool, true, false}
 use native.Mathlib.Omega.{arith}
-use lib.IntN.{ℤ}
 use lib.ListN.{length, take, drop}
 use lib.Seq.{drop-drop, take-add}
 use lib.Dec.{leb}
@@ -14,6 +13,7 @@ use borrow.Author.Tests.{eq-eqb, le-leb, lt-leb}
 use Rattle.lists.specs.Tests.{both}
 use Rattle.lists.specs.Parts.{part, length-part}
 use Rattle.layout.specs.Layout.{streamOctets, multiframeOctets, mostMultiframes, codebookNumbers, thresholdNumbers, syncFirst, syncSecond}
+use Rattle.consistency.specs.Tables.{Tables}
 use Rattle.bits.specs.Bits.{field, fields, value, bits, octets}
 use Rattle.bits.specs.Laws.{field-value, value-lt, bits-octets, octets-append}
 use Rattle.header.specs.Reading.{reading}
@@ -160,26 +160,26 @@ module _ (l : List Bool) (from at least m : ℕ) (r : InARow l from at least m) 
           (ap₂ (λ (a b : ℕ). a ∷ row b n) z w ∙ ap (row at) e) c
 
 -- ---- the reading
-module _ (s : List ℕ) (from least : ℕ) (codebook thresholds : List ℤ) (index report : List ℕ) (low : fewestMatches ≤ least) (high : least ≤ syncBits)
-    (codebook-size : length codebook ≡ codebookNumbers) (thresholds-size : length thresholds ≡ thresholdNumbers) where
+module _ (s : List ℕ) (from least : ℕ) (tables : Tables) (index report : List ℕ) (low : fewestMatches ≤ least) (high : least ≤ syncBits)
+    (codebook-size : length (tables .codebook) ≡ codebookNumbers) (thresholds-size : length (tables .thresholds) ≡ thresholdNumbers) where
   -- past 11 and 21 what is found decides
   found-next : (ps : List ℕ) (e : Ending) (n : ℕ) → gathering (bits s) least mostMultiframes from ≡ record { places = ps; ending = e; tested = n }
-      → huntingReading s from least codebook thresholds index report ≡ readingBy s from least codebook thresholds index report ps n e
+      → huntingReading s from least tables index report ≡ readingBy s from least tables index report ps n e
   unfolding huntingReading readingFound
   found-next ps e n g =
-      rw (eq-eqb (length codebook) codebookNumbers codebook-size, eq-eqb (length thresholds) thresholdNumbers thresholds-size, in-range least low high, g)
+      rw (eq-eqb (length (tables .codebook)) codebookNumbers codebook-size, eq-eqb (length (tables .thresholds)) thresholdNumbers thresholds-size, in-range least low high, g)
 
   -- READ IN A ROW: what is put together is read as 01 says, with the bits outside and the places tested
   pub reads-in-a-row : (at m : ℕ) → InARow (bits s) from at least m → 0 < m → m ≤ mostMultiframes
-      → huntingReading s from least codebook thresholds index report
-      ≡ counted (R.reading (imageOf s (row at m)) codebook thresholds index report) (outsideOf (bits s) from m) (testedInRow (bits s) from at m)
+      → huntingReading s from least tables index report
+      ≡ counted (R.reading (imageOf s (row at m)) tables index report) (outsideOf (bits s) from m) (testedInRow (bits s) from at m)
   reads-in-a-row at m r some few = found-next (row at m) whole (testedInRow (bits s) from at m) (found-in-a-row (bits s) from at least m r some few) ∙ by m some
     where
-      by : (n : ℕ) → 0 < n → readingBy s from least codebook thresholds index report (row at n) (testedInRow (bits s) from at m) whole
-          ≡ counted (R.reading (imageOf s (row at n)) codebook thresholds index report) (outsideOf (bits s) from n) (testedInRow (bits s) from at m)
+      by : (n : ℕ) → 0 < n → readingBy s from least tables index report (row at n) (testedInRow (bits s) from at m) whole
+          ≡ counted (R.reading (imageOf s (row at n)) tables index report) (outsideOf (bits s) from n) (testedInRow (bits s) from at m)
       by zero h = absurd (omega arith)
       by (suc n) h =
-          ap (λ (i : ℕ). counted (R.reading (imageOf s (row at (suc n))) codebook thresholds index report) (outsideOf (bits s) from i) (testedInRow (bits s) from at m)) (length-row at (suc n))
+          ap (λ (i : ℕ). counted (R.reading (imageOf s (row at (suc n))) tables index report) (outsideOf (bits s) from i) (testedInRow (bits s) from at m)) (length-row at (suc n))
 
 -- ---- put together on octets
 pub aligned-framed : (s : List ℕ) (p : ℕ) → p + multiframeBits ≤ length (bits s) → aligned s p ≡ framed (wordAt (bits s) p) (streamAt (bits s) p)

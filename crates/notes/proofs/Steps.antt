@@ -4,7 +4,6 @@ use Prim.Native.Nat.{ℕ, zero, suc, _+_, _*_, _≤_, _<_}
 use mathlib.Core.Path.{_≡_, refl, sym, ap, ap₂, _∙_, subst}
 use mathlib.Core.List.{List, [], _∷_, _++_}
 use mathlib.Core.Bool.{Bool, true, false, not}
-use lib.IntN.{ℤ}
 use lib.ListN.{length, getD, set, take, drop, length-drop, length-take, length-set, List·getD-eq-default}
 use lib.Seq.{drop-cons, take-suc, take-all, take-at, drop-at, ext-getD}
 use native.Mathlib.Decide.{decLt}
@@ -14,6 +13,7 @@ use Rattle.lists.specs.Tests.{when}
 use Rattle.lists.specs.Parts.{part, over, over-none, set-over, behind, over-behind}
 use Rattle.lists.specs.Rows.{each, joined, length-each, each-at, same-each, same-joined, each-add, joined-add}
 use Rattle.layout.specs.Layout.{widths, frameIndices, pairIndices, dataBits, packetBits, multiframePairs, streamOctets, indexOctets, multiframeOf, firstPair, packetStart}
+use Rattle.consistency.specs.Tables.{Tables}
 use Rattle.cutting.specs.Laws.{Placed}
 use Rattle.carrier.specs.Carrier.{streamAt, streamPacket, inPlaces, received, pairCount}
 use Rattle.carrier.specs.Laws.{length-stream, packet-inside, packet-of}
@@ -62,15 +62,15 @@ module _ (packets : ℕ → List Bool) (q : ℕ) where
       (in-range (drop (total widths) p))
 
   -- what the code finds in fourteen octets of its own
-  module _ (l : List ℕ) (e : l ≡ framesOf packets q) (codebook thresholds : List ℤ) where
+  module _ (l : List ℕ) (e : l ≡ framesOf packets q) (tables : Tables) where
     pub ranges : InRange (part 0 frameIndices l) × InRange (part frameIndices frameIndices l)
     ranges = (subst (λ (x : List ℕ). InRange (part 0 frameIndices x)) (sym e) first-range, subst (λ (x : List ℕ). InRange (part frameIndices frameIndices x)) (sym e) second-range)
 
-    pub inconsistent-is : inconsistent codebook thresholds (part 0 frameIndices l) (part frameIndices frameIndices l) ≡ pairInconsistent packets codebook thresholds q
+    pub inconsistent-is : inconsistent tables (part 0 frameIndices l) (part frameIndices frameIndices l) ≡ pairInconsistent packets tables q
     unfolding pairInconsistent
     inconsistent-is =
-        ap (λ (x : List ℕ). inconsistent codebook thresholds (part 0 frameIndices x) (part frameIndices frameIndices x)) e
-        ∙ ap (inconsistent codebook thresholds (take frameIndices (framesOf packets q))) second-is
+        ap (λ (x : List ℕ). inconsistent tables (part 0 frameIndices x) (part frameIndices frameIndices x)) e
+        ∙ ap (inconsistent tables (take frameIndices (framesOf packets q))) second-is
 
 -- ---- the CRC's note of each pair, before judging
 pub crc-note-bad : (fails : Bool) → bad (crcNote fails) ≡ fails
@@ -92,19 +92,19 @@ crc-bad packets n q =
     ]
 
 -- ---- judging: the first q notes are those of all pairs, the others still those of the CRC
-pub record Judged (packets : ℕ → List Bool) (codebook thresholds : List ℤ) (n : ℕ) (m : List ℕ) (before : Bool) (q : ℕ) : Type 0 where
+pub record Judged (packets : ℕ → List Bool) (tables : Tables) (n : ℕ) (m : List ℕ) (before : Bool) (q : ℕ) : Type 0 where
   pub within : q ≤ n
   pub size : length m ≡ n
-  pub now : m ≡ over (crcNotes packets n) 0 q (take q (notes (each (pairFails packets) n) (each (pairInconsistent packets codebook thresholds) n)))
-  pub ahead : drop q (notes (each (pairFails packets) n) (each (pairInconsistent packets codebook thresholds) n))
-      ≡ notesFrom before (drop q (each (pairFails packets) n)) (drop q (each (pairInconsistent packets codebook thresholds) n))
+  pub now : m ≡ over (crcNotes packets n) 0 q (take q (notes (each (pairFails packets) n) (each (pairInconsistent packets tables) n)))
+  pub ahead : drop q (notes (each (pairFails packets) n) (each (pairInconsistent packets tables) n))
+      ≡ notesFrom before (drop q (each (pairFails packets) n)) (drop q (each (pairInconsistent packets tables) n))
 
-module _ (packets : ℕ → List Bool) (codebook thresholds : List ℤ) (n : ℕ) where
+module _ (packets : ℕ → List Bool) (tables : Tables) (n : ℕ) where
   abbrev fs : List Bool
   fs = each (pairFails packets) n
 
   abbrev os : List Bool
-  os = each (pairInconsistent packets codebook thresholds) n
+  os = each (pairInconsistent packets tables) n
 
   abbrev cs : List ℕ
   cs = crcNotes packets n
@@ -121,10 +121,10 @@ module _ (packets : ℕ → List Bool) (codebook thresholds : List ℤ) (n : ℕ
   size-ns : length ns ≡ n
   size-ns = notes-length false fs os ∙ size-fs
 
-  pub judging-begun : (m : List ℕ) → m ≡ cs → Judged packets codebook thresholds n m false 0
+  pub judging-begun : (m : List ℕ) → m ≡ cs → Judged packets tables n m false 0
   judging-begun m e = record { within = omega arith; size = ap length e ∙ size-cs; now = e ∙ over-none cs 0; ahead = refl }
 
-  module _ (m : List ℕ) (before : Bool) (q : ℕ) (j : Judged packets codebook thresholds n m before q) where
+  module _ (m : List ℕ) (before : Bool) (q : ℕ) (j : Judged packets tables n m before q) where
     size-front : length (take q ns) ≡ q
     size-front = rw length-take (omega (arith, size-ns, j .within))
 
@@ -135,7 +135,7 @@ module _ (packets : ℕ → List Bool) (codebook thresholds : List ℤ) (n : ℕ
         ∙ ap bad (over-behind cs (take q ns) 0 q (omega (arith, size-cs, j .within)) size-front i 0 (omega arith)) ∙ crc-bad packets n i
 
     module _ (less : q < n) (fails differ after : Bool) (x : ℕ) (ef : fails ≡ bad (getD m q 0)) (ea : after ≡ bad (getD m (q + 1) 0))
-        (eo : differ ≡ when (undecidedBy before fails after) (pairInconsistent packets codebook thresholds q) false) (ex : x ≡ noteBy before fails differ after) where
+        (eo : differ ≡ when (undecidedBy before fails after) (pairInconsistent packets tables q) false) (ex : x ≡ noteBy before fails differ after) where
       own : fails ≡ getD fs q false
       own = ef ∙ still q (omega arith)
 
@@ -148,8 +148,8 @@ module _ (packets : ℕ → List Bool) (codebook thresholds : List ℤ) (n : ℕ
       x-is : x ≡ y
       unfolding y
       x-is =
-          let o : pairInconsistent packets codebook thresholds q ≡ getD os q false = sym (each-at (pairInconsistent packets codebook thresholds) n q false less) in
-          ex ∙ ap (λ (t : Bool). noteBy before fails t after) eo ∙ sym (only-undecided before fails (pairInconsistent packets codebook thresholds q) after)
+          let o : pairInconsistent packets tables q ≡ getD os q false = sym (each-at (pairInconsistent packets tables) n q false less) in
+          ex ∙ ap (λ (t : Bool). noteBy before fails t after) eo ∙ sym (only-undecided before fails (pairInconsistent packets tables q) after)
           ∙ ap (λ (t : Bool). noteBy before fails t after) o ∙ ap₂ (λ (s t : Bool). noteBy before s (getD os q false) t) own next
 
       rest : drop q ns ≡ y ∷ notesFrom (bad y) (drop (q + 1) fs) (drop (q + 1) os)
@@ -165,7 +165,7 @@ module _ (packets : ℕ → List Bool) (codebook thresholds : List ℤ) (n : ℕ
       there : drop (suc q) ns ≡ notesFrom (bad y) (drop (q + 1) fs) (drop (q + 1) os)
       there = let e = sym front ∙ rest in cc
 
-      pub judged-on : Judged packets codebook thresholds n (set m q x) (bad x) (q + 1)
+      pub judged-on : Judged packets tables n (set m q x) (bad x) (q + 1)
       judged-on =
           let z : 0 + q ≡ q = omega arith in
           let s : set m q x ≡ over m (0 + q) 1 (getD ns q 0 ∷ []) =
@@ -178,20 +178,20 @@ module _ (packets : ℕ → List Bool) (codebook thresholds : List ℤ) (n : ℕ
             ahead = ap (λ (k : ℕ). drop k ns) (add-one q) ∙ there ∙ ap (λ (k : ℕ). notesFrom (bad k) (drop (q + 1) fs) (drop (q + 1) os)) (sym x-is);
           }
 
-  pub judging-done : (m : List ℕ) (before : Bool) (q : ℕ) → Judged packets codebook thresholds n m before q → q ≡ n → m ≡ ns
+  pub judging-done : (m : List ℕ) (before : Bool) (q : ℕ) → Judged packets tables n m before q → q ≡ n → m ≡ ns
   judging-done m before q j e =
       j .now ∙ ap (λ (k : ℕ). over cs 0 k (take k ns)) e ∙ over-all cs (take n ns) n size-cs ∙ take-all n ns (omega (arith, size-ns))
 
 -- ---- where no CRC failed the notes of the CRCs are those of the pairs: no pair is judged
-pub none-failed : (packets : ℕ → List Bool) (n : ℕ) (codebook thresholds : List ℤ) → badPairs (crcNotes packets n) ≡ 0
-    → crcNotes packets n ≡ pairNotes packets n codebook thresholds
-none-failed packets n codebook thresholds e =
+pub none-failed : (packets : ℕ → List Bool) (n : ℕ) (tables : Tables) → badPairs (crcNotes packets n) ≡ 0
+    → crcNotes packets n ≡ pairNotes packets n tables
+none-failed packets n tables e =
     let cs = crcNotes packets n in
     let size = length-crcs packets n in
     let passes : (q : ℕ) → q < n → pairFails packets q ≡ false =
     λ q h. sym (crc-note-bad (pairFails packets q)) ∙ ap bad (sym (each-at (λ q. crcNote (pairFails packets q)) n q 0 h) ∙ none-bad cs e q) in
-    ext-getD 0 cs (pairNotes packets n codebook thresholds) (size ∙ sym (length-notes packets n codebook thresholds))
-    (λ q h. none-bad cs e q ∙ sym (no-failed-crc packets n codebook thresholds passes q (omega (arith, size))))
+    ext-getD 0 cs (pairNotes packets n tables) (size ∙ sym (length-notes packets n tables))
+    (λ q h. none-bad cs e q ∙ sym (no-failed-crc packets n tables passes q (omega (arith, size))))
 
 -- ---- multiframe k's twelve packets stand in one stream, of bits s
 module _ (packets : ℕ → List Bool) (s : List Bool) (k : ℕ) (same : (p : ℕ) → p < multiframePairs → packets (firstPair k + p) ≡ streamPacket s p) where

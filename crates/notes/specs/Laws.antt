@@ -4,7 +4,6 @@ use Prim.Native.Nat.{ℕ, _+_, _*_, _<_}
 use mathlib.Core.Path.{_≡_, ap, _∙_}
 use mathlib.Core.List.{List, _++_, append-nil}
 use mathlib.Core.Bool.{Bool, false}
-use lib.IntN.{ℤ}
 use lib.ListN.{length, getD, drop, length-append, List·getD-eq-default}
 use lib.Seq.{drop-length}
 use native.Mathlib.Decide.{decLt}
@@ -12,6 +11,7 @@ use native.Mathlib.Omega.{arith}
 use Rattle.lists.specs.Parts.{part, over}
 use Rattle.lists.specs.Rows.{each, length-each, each-at, length-joined, joined-part}
 use Rattle.layout.specs.Layout.{widths, pairIndices}
+use Rattle.consistency.specs.Tables.{Tables}
 use Rattle.bits.specs.Bits.{total}
 use Rattle.bits.specs.Laws.{length-numbers}
 use Rattle.packet.specs.Packet.{apart}
@@ -36,21 +36,21 @@ module _ (packets : ℕ → List Bool) (n : ℕ) where
   unfolding allFrames
   frames-at q h = joined-part (framesOf packets) pairIndices n q (λ k i. length-frames packets k) h
 
-  module _ (codebook thresholds : List ℤ) where
+  module _ (tables : Tables) where
     -- a note for each pair
-    pub length-notes : length (pairNotes packets n codebook thresholds) ≡ n
+    pub length-notes : length (pairNotes packets n tables) ≡ n
     unfolding pairNotes
     length-notes =
-        notes-length false (each (pairFails packets) n) (each (pairInconsistent packets codebook thresholds) n) ∙ length-each (pairFails packets) n
+        notes-length false (each (pairFails packets) n) (each (pairInconsistent packets tables) n) ∙ length-each (pairFails packets) n
 
     -- where no CRC failed no pair is bad
     pub no-failed-crc : ((q : ℕ) → q < n → pairFails packets q ≡ false)
-        → (q : ℕ) → q < n → getD (pairNotes packets n codebook thresholds) q 0 ≡ 0
+        → (q : ℕ) → q < n → getD (pairNotes packets n tables) q 0 ≡ 0
     unfolding pairNotes
     no-failed-crc ok q h =
         let fs = each (pairFails packets) n in
         let size = length-each (pairFails packets) n in
-        no-failed-no-bad fs (each (pairInconsistent packets codebook thresholds) n) (λ k. elim (decLt k n) [
+        no-failed-no-bad fs (each (pairInconsistent packets tables) n) (λ k. elim (decLt k n) [
           | yes y ↦ each-at (pairFails packets) n k false y ∙ ok k y
           | no y ↦ List·getD-eq-default fs false (omega (arith, size))
         ]) q (omega (arith, size))

@@ -5,9 +5,9 @@ use Prim.Native.Nat.{ℕ}
 use mathlib.Core.List.{List}
 use mathlib.Core.Bool.{Bool, false, not}
 use lib.ListN.{take, drop}
-use lib.IntN.{ℤ}
 use Rattle.lists.specs.Rows.{each, joined}
 use Rattle.layout.specs.Layout.{widths, frameIndices, dataBits}
+use Rattle.consistency.specs.Tables.{Tables}
 use Rattle.crc.specs.Crc.{right}
 use Rattle.packet.specs.Packet.{apart}
 use Rattle.consistency.specs.Consistency.{inconsistent}
@@ -33,10 +33,10 @@ abbrev pub crcNotes : (ℕ → List Bool) → ℕ → List ℕ
 crcNotes packets n = each (λ q. crcNote (pairFails packets q)) n
 
 -- with the quantiser's tables: which pairs are inconsistent
-unfoldable pub pairInconsistent : (ℕ → List Bool) → List ℤ → List ℤ → ℕ → Bool
-pairInconsistent packets codebook thresholds q =
-    inconsistent codebook thresholds (take frameIndices (framesOf packets q)) (drop frameIndices (framesOf packets q))
+unfoldable pub pairInconsistent : (ℕ → List Bool) → Tables → ℕ → Bool
+pairInconsistent packets tables q =
+    inconsistent tables (take frameIndices (framesOf packets q)) (drop frameIndices (framesOf packets q))
 
 -- the notes of all pairs: 0 good, 1 CRC failed, 2 bad otherwise
-unfoldable pub pairNotes : (ℕ → List Bool) → ℕ → List ℤ → List ℤ → List ℕ
-pairNotes packets n codebook thresholds = notes (each (pairFails packets) n) (each (pairInconsistent packets codebook thresholds) n)
+unfoldable pub pairNotes : (ℕ → List Bool) → ℕ → Tables → List ℕ
+pairNotes packets n tables = notes (each (pairFails packets) n) (each (pairInconsistent packets tables) n)

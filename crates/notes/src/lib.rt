@@ -10,7 +10,9 @@ ghost use Prim.Native.Nat.{_+_, _*_, _≤_, _<_};
 ghost use lib.ListN.{length, getD};
 ghost use Rattle.lists.specs.Tests.{when};
 ghost use Rattle.lists.specs.Parts.{over};
-ghost use Rattle.layout.specs.Layout.{pairIndices, multiframePairs, streamOctets, indexOctets, multiframeOf, codebookNumbers, thresholdNumbers, mostMultiframes};
+ghost use Rattle.layout.specs.Layout.{pairIndices, multiframePairs, streamOctets, indexOctets, multiframeOf, mostMultiframes};
+ghost use Rattle.consistency.specs.Tables.{tablesOf, RightTables};
+ghost use Rattle.consistency.specs.Lent.{came, left, tablesIn};
 ghost use Rattle.cutting.specs.Laws.{Placed};
 ghost use Rattle.bits.specs.Bits.{bits};
 ghost use Rattle.carrier.specs.Carrier.{streamAt, streamPacket, inPlaces, received, pairCount};
@@ -23,7 +25,7 @@ const FRAMES: usize = PacketLayout::FRAMES * FrameLayout::INDICES;
 // note_stream puts the notes of the CRCs of a stream's twelve packets into notes, from pair first on; every other note stays.
 pub fn note_stream(stream: &[u8], notes: &mut [u8], first: Pair)
     requires { ⌜ (streamOctets ≤ length (now stream)) × (first .0 + multiframePairs ≤ length (now notes)) ⌝ }
-    ensures { λ _. ⌜ now (notes .exit) ≡ over (now (notes .entry)) (first .0) multiframePairs (crcNotes (streamPacket (bits (now (stream .entry)))) multiframePairs) ⌝ }
+    ensures { λ _. ⌜ left notes ≡ over (came notes) (first .0) multiframePairs (crcNotes (streamPacket (bits (came stream))) multiframePairs) ⌝ }
 {
     let from = first.0;
     for p in 0..MultiframeLayout::PAIRS {
@@ -36,7 +38,7 @@ pub fn note_stream(stream: &[u8], notes: &mut [u8], first: Pair)
 // multiframes.
 pub fn note_crcs(octets: &[u8], places: &[usize], notes: &mut [u8])
     requires { ⌜ Placed (now octets) (now places) × (length (now notes) ≡ pairCount (now places)) ⌝ }
-    ensures { λ _. ⌜ now (notes .exit) ≡ crcNotes (received (now (octets .entry)) (now (places .entry))) (pairCount (now (places .entry))) ⌝ }
+    ensures { λ _. ⌜ left notes ≡ crcNotes (received (came octets) (came places)) (pairCount (came places)) ⌝ }
 {
     let mut k = 0;
     while k < places.len() {
@@ -49,7 +51,7 @@ pub fn note_crcs(octets: &[u8], places: &[usize], notes: &mut [u8])
 // Whether the pair behind pair q failed by its CRC; the last has none behind it.
 fn next_failed(notes: &[u8], q: Pair) -> bool
     requires { ⌜ q .0 < length (now notes) ⌝ }
-    ensures { λ r. ⌜ r ≡ bad (getD (now (notes .entry)) (q .0 + 1) 0) ⌝ }
+    ensures { λ r. ⌜ r ≡ bad (getD (came notes) (q .0 + 1) 0) ⌝ }
 {
     let next = q.0 + 1;
     if next < notes.len() {
@@ -61,7 +63,7 @@ fn next_failed(notes: &[u8], q: Pair) -> bool
 // The stream that pair q's packet stands in.
 fn stream_of<'a>(octets: &'a [u8], places: &[usize], q: Pair) -> &'a [u8]
     requires { ⌜ Placed (now octets) (now places) × (q .0 < pairCount (now places)) ⌝ }
-    ensures { λ r. ⌜ now r ≡ streamAt (now (octets .entry)) (inPlaces (now (places .entry))) (multiframeOf (q .0)) ⌝ }
+    ensures { λ r. ⌜ now r ≡ streamAt (came octets) (inPlaces (came places)) (multiframeOf (q .0)) ⌝ }
 {
     let k = q.multiframe().0;
     carrier::stream_at(octets, places[k])
@@ -76,8 +78,8 @@ fn is_inconsistent(
     q: Pair,
 ) -> bool
     requires { ⌜ Placed (now octets) (now places) × (q .0 < pairCount (now places)) ⌝ }
-    requires { ⌜ (length (now codebook) ≡ codebookNumbers) × (length (now thresholds) ≡ thresholdNumbers) ⌝ }
-    ensures { λ r. ⌜ r ≡ pairInconsistent (received (now (octets .entry)) (now (places .entry))) (now (codebook .entry)) (now (thresholds .entry)) (q .0) ⌝ }
+    requires { ⌜ RightTables (tablesOf (now codebook) (now thresholds)) ⌝ }
+    ensures { λ r. ⌜ r ≡ pairInconsistent (received (came octets) (came places)) (tablesIn codebook thresholds) (q .0) ⌝ }
 {
     let mut frames = [0u8; FRAMES];
     packet::take_apart(stream_of(octets, places, q), q, &mut frames, 0);
@@ -94,8 +96,8 @@ fn is_inconsistent_if(
     q: Pair,
 ) -> bool
     requires { ⌜ Placed (now octets) (now places) × (q .0 < pairCount (now places)) ⌝ }
-    requires { ⌜ (length (now codebook) ≡ codebookNumbers) × (length (now thresholds) ≡ thresholdNumbers) ⌝ }
-    ensures { λ r. ⌜ r ≡ when asked (pairInconsistent (received (now (octets .entry)) (now (places .entry))) (now (codebook .entry)) (now (thresholds .entry)) (q .0)) false ⌝ }
+    requires { ⌜ RightTables (tablesOf (now codebook) (now thresholds)) ⌝ }
+    ensures { λ r. ⌜ r ≡ when asked (pairInconsistent (received (came octets) (came places)) (tablesIn codebook thresholds) (q .0)) false ⌝ }
 {
     if asked {
         return is_inconsistent(octets, places, codebook, thresholds, q);
@@ -113,8 +115,8 @@ fn judge_each(
     notes: &mut [u8],
 )
     requires { ⌜ Placed (now octets) (now places) × (now notes ≡ crcNotes (received (now octets) (now places)) (pairCount (now places))) ⌝ }
-    requires { ⌜ (length (now codebook) ≡ codebookNumbers) × (length (now thresholds) ≡ thresholdNumbers) ⌝ }
-    ensures { λ _. ⌜ now (notes .exit) ≡ pairNotes (received (now (octets .entry)) (now (places .entry))) (pairCount (now (places .entry))) (now (codebook .entry)) (now (thresholds .entry)) ⌝ }
+    requires { ⌜ RightTables (tablesOf (now codebook) (now thresholds)) ⌝ }
+    ensures { λ _. ⌜ left notes ≡ pairNotes (received (came octets) (came places)) (pairCount (came places)) (tablesIn codebook thresholds) ⌝ }
 {
     let mut before = false;
     let mut q = 0;
@@ -139,8 +141,8 @@ pub fn judge(
     notes: &mut [u8],
 )
     requires { ⌜ Placed (now octets) (now places) × (now notes ≡ crcNotes (received (now octets) (now places)) (pairCount (now places))) ⌝ }
-    requires { ⌜ (length (now codebook) ≡ codebookNumbers) × (length (now thresholds) ≡ thresholdNumbers) ⌝ }
-    ensures { λ _. ⌜ now (notes .exit) ≡ pairNotes (received (now (octets .entry)) (now (places .entry))) (pairCount (now (places .entry))) (now (codebook .entry)) (now (thresholds .entry)) ⌝ }
+    requires { ⌜ RightTables (tablesOf (now codebook) (now thresholds)) ⌝ }
+    ensures { λ _. ⌜ left notes ≡ pairNotes (received (came octets) (came places)) (pairCount (came places)) (tablesIn codebook thresholds) ⌝ }
 {
     if bad_pairs::count_bad(notes) != 0 {
         judge_each(octets, places, codebook, thresholds, notes);
@@ -150,7 +152,8 @@ pub fn judge(
 // take_stream_apart puts the frames of a stream's twelve packets into idx, from the place of pair first on; every other octet stays.
 pub fn take_stream_apart(stream: &[u8], idx: &mut [u8], first: Pair)
     requires { ⌜ (streamOctets ≤ length (now stream)) × (pairIndices * (first .0 + multiframePairs) ≤ length (now idx)) ⌝ }
-    ensures { λ _. ⌜ now (idx .exit) ≡ over (now (idx .entry)) (pairIndices * first .0) indexOctets (allFrames (streamPacket (bits (now (stream .entry)))) multiframePairs) ⌝ }
+    ensures { λ _. ⌜ left idx ≡ over (came idx) (pairIndices * first .0) indexOctets
+        (allFrames (streamPacket (bits (came stream))) multiframePairs) ⌝ }
 {
     let from = FRAMES * first.0;
     for q in 0..MultiframeLayout::PAIRS {
@@ -162,7 +165,8 @@ pub fn take_stream_apart(stream: &[u8], idx: &mut [u8], first: Pair)
 pub fn take_all_apart(octets: &[u8], places: &[usize], idx: &mut [u8])
     requires { ⌜ Placed (now octets) (now places) × (length (now places) ≤ mostMultiframes) ⌝ }
     requires { ⌜ pairIndices * pairCount (now places) ≤ length (now idx) ⌝ }
-    ensures { λ _. ⌜ now (idx .exit) ≡ over (now (idx .entry)) 0 (pairIndices * pairCount (now (places .entry))) (allFrames (received (now (octets .entry)) (now (places .entry))) (pairCount (now (places .entry)))) ⌝ }
+    ensures { λ _. ⌜ left idx ≡ over (came idx) 0 (pairIndices * pairCount (came places))
+        (allFrames (received (came octets) (came places)) (pairCount (came places))) ⌝ }
 {
     let mut k = 0;
     while k < places.len() {

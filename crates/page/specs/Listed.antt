@@ -8,7 +8,7 @@ use Prim.Native.Nat.{ℕ, _+_, _*_, _%_, _≤_, _<_}
 use native.Mathlib.Omega.{arith}
 use lib.Count.{ones, onesIn}
 use lib.Dec.{eqb, lit<, lit≤}
-use lib.IntN.{ℤ, pos}
+use lib.IntN.{pos}
 use lib.ListN.{length, take, drop, getD, replicate, getD-replicate}
 use borrow.Author.Tests.{eq-eqb, ne-eqb}
 use Rattle.polynomials.specs.Light.{ones-in}
@@ -16,6 +16,7 @@ use Rattle.lists.specs.Tests.{when}
 use Rattle.lists.specs.Parts.{part, over}
 use Rattle.lists.specs.Rows.{joined, each, each-at, same-each}
 use Rattle.layout.specs.Layout.{indexOctets, reportOctets, firstPair, multiframePairs}
+use Rattle.consistency.specs.Tables.{Tables, tablesOf}
 use Rattle.settings.specs.Settings.{settings}
 use Rattle.frames.specs.Frames.{zeroFrame}
 use Rattle.bits.specs.Bits.{value, numbers, field, fields, total}
@@ -45,7 +46,7 @@ use Rattle.reader.specs.ReadingLaws.{Usable, Fitting, Accepted, accepting}
 use Rattle.reader.specs.declared.Verdict.{Verdict}
 use Rattle.reader.specs.declared.Answer.the-variants.{Read}
 use Rattle.demands.specs.Examples as E
-use Rattle.demands.specs.Met.{zeroBook, zeroThresholds, zero-consistent}
+use Rattle.demands.specs.Met.{zeroTables, zero-consistent}
 use Rattle.demands.specs.ReadsBack.{zeros}
 use Rattle.page.specs.Headers.{word-of, ReadsAs, clean, flips}
 use Rattle.page.specs.Headers as Headers
@@ -77,11 +78,10 @@ hurt = 0x78 ∷ 0x4D ∷ (hurtFirst ++ (0x78 ∷ 0x4D ∷ 0x78 ∷ 0x4D ∷ (hur
 
 -- tables: in codebook 0 entry 1 is 1, 0 and entry 2 is 1, 1; in codebook 1 entry 1 is 0, 2; all others are 0, 0. Elements of codebook 0 may rise by 0,
 -- the second of codebook 1 by 1, all others by 9
-abbrev pub book : List ℤ
-book = pos 0 ∷ pos 0 ∷ pos 1 ∷ pos 0 ∷ pos 1 ∷ pos 1 ∷ (replicate 125 (pos 0) ++ (pos 2 ∷ replicate 1148 (pos 0)))
-
-abbrev pub limits : List ℤ
-limits = pos 0 ∷ pos 0 ∷ pos 9 ∷ pos 1 ∷ replicate 10 (pos 9)
+abbrev pub steep : Tables
+steep =
+    tablesOf (pos 0 ∷ pos 0 ∷ pos 1 ∷ pos 0 ∷ pos 1 ∷ pos 1 ∷ (replicate 125 (pos 0) ++ (pos 2 ∷ replicate 1148 (pos 0))))
+    (pos 0 ∷ pos 0 ∷ pos 9 ∷ pos 1 ∷ replicate 10 (pos 9))
 
 -- the frames as they came. Of the first 30 the seventh index is the frame's number, from 1, but for bit 43 of pair 5
 abbrev came : List ℕ
@@ -140,9 +140,9 @@ abbrev pub strangeNotes : List ℕ
 strangeNotes = noted 0 ++ (noted 4 ++ (noted 3 ++ (noted 8 ++ noted 14)))
 
 -- ---- what a line says: what is read, into any buffers with room
-abbrev pub Lists : List ℕ → List ℤ → List ℤ → List ℕ → List ℕ → List ℕ → Type 0
-Lists octets codebook thresholds values frames notes =
-    (index report : List ℕ) → length frames ≤ length index → length notes ≤ length report → Reads octets codebook thresholds index report values frames notes
+abbrev pub Lists : List ℕ → Tables → List ℕ → List ℕ → List ℕ → Type 0
+Lists octets tables values frames notes =
+    (index report : List ℕ) → length frames ≤ length index → length notes ≤ length report → Reads octets tables index report values frames notes
 
 -- the values are rate, type, multiframes, speech, bad and end
 pub record Table : Type 0 where
@@ -154,13 +154,13 @@ pub record Table : Type 0 where
   -- "In a run of B bad pairs the first B frames become the good frame before the run, the last B the good frame after it": 11 becomes 10 and 12
   -- becomes 13; 23 to 25 become 22 and 26 to 28 become 29. "At the start of an utterance all 2B take the frame after": 1 to 4 become 5; "at the end, the
   -- one before": 47 and 48 become 46, which is zero. So speech is 30 and end 1 "after replacing" only
-  pub bad-pairs : Lists hurt book limits (0 ∷ 0 ∷ 2 ∷ 30 ∷ 7 ∷ 1 ∷ []) standing hurtNotes
+  pub bad-pairs : Lists hurt steep (0 ∷ 0 ∷ 2 ∷ 30 ∷ 7 ∷ 1 ∷ []) standing hurtNotes
   -- "with all codebook numbers and thresholds 0", as dsrlist lists them, no pair is inconsistent: 1 and 2 become 3; 25 becomes 24 and 26 becomes 27
-  pub bad-by-crc : Lists hurt (replicate 1280 (pos 0)) (replicate 14 (pos 0)) (0 ∷ 0 ∷ 2 ∷ 30 ∷ 4 ∷ 1 ∷ []) standingPlain plainNotes
+  pub bad-by-crc : Lists hurt (tablesOf (replicate 1280 (pos 0)) (replicate 14 (pos 0))) (0 ∷ 0 ∷ 2 ∷ 30 ∷ 4 ∷ 1 ∷ []) standingPlain plainNotes
   -- "3 lost; a readable one adds 4 if its counter is not (position from 1) mod 16, and 8 if its common bits differ from the settled": settled is
   -- "the first readable header that agrees in them with an earlier readable one", the second, and not what the last two agree in
-  pub header-notes : (codebook thresholds : List ℤ) → length codebook ≡ 1280 → length thresholds ≡ 14
-      → Lists strange codebook thresholds (0 ∷ 0 ∷ 5 ∷ 96 ∷ 0 ∷ 1 ∷ []) (replicate 840 0) strangeNotes
+  pub header-notes : (tables : Tables) → length (tables .codebook) ≡ 1280 → length (tables .thresholds) ≡ 14
+      → Lists strange tables (0 ∷ 0 ∷ 5 ∷ 96 ∷ 0 ∷ 1 ∷ []) (replicate 840 0) strangeNotes
 
 -- ---- from what was computed to a line
 -- the settled settings of both
@@ -174,31 +174,31 @@ is-usable = record {
 }
 
 module _ (s ps : List ℕ) (cut : cutting s ≡ record { places = ps; ending = whole }) (some : length ps ≡ 0 → ⊥) (settles : settling (readings s ps) ≡ S.Settled settled)
-    (codebook thresholds : List ℤ) (sc : length codebook ≡ 1280) (st : length thresholds ≡ 14) (ns : List ℕ) (judged : receivedNotes s ps codebook thresholds ≡ ns)
+    (tables : Tables) (sc : length (tables .codebook) ≡ 1280) (st : length (tables .thresholds) ≡ 14) (ns : List ℕ) (judged : receivedNotes s ps tables ≡ ns)
     (good : badPairs ns ≡ pairCount ps → ⊥) (index report : List ℕ) (hi : indexOctets * length ps ≤ length index) (hr : reportOctets * length ps ≤ length report) where
-  is-read : reading s codebook thresholds index report
+  is-read : reading s tables index report
       ≡ outcome (Read (summary s ps ns settled)) (over index 0 (indexOctets * length ps) (indexPart s ps ns)) (over report 0 (reportOctets * length ps) (reportPart s ps ns settled))
   unfolding reading
   is-read =
       let pl : cutting s .places ≡ ps = ap (λ (w : Cutting). w .places) cut in
-      let fit : Fitting (length ps) (badPairs (receivedNotes s ps codebook thresholds)) (pairCount ps) (length index) (length report) (settling (readings s ps)) settled =
+      let fit : Fitting (length ps) (badPairs (receivedNotes s ps tables)) (pairCount ps) (length index) (length report) (settling (readings s ps)) settled =
       record {
         settles = settles;
         usable = is-usable;
         roomy = record { index-room = hi; report-room = hr; not-all = λ e. good (ap badPairs (sym judged) ∙ e) };
       } in
-      let a : Accepted s codebook thresholds (length index) (length report) settled =
+      let a : Accepted s tables (length index) (length report) settled =
       record {
         codebook-size = sc;
         thresholds-size = st;
         uncut = ap (λ (w : Cutting). w .ending) cut;
         some = λ e. some (ap length (sym pl) ∙ e);
         fitting = subst
-            (λ (q : List ℕ). Fitting (length q) (badPairs (receivedNotes s q codebook thresholds)) (pairCount q) (length index) (length report) (settling (readings s q)) settled)
+            (λ (q : List ℕ). Fitting (length q) (badPairs (receivedNotes s q tables)) (pairCount q) (length index) (length report) (settling (readings s q)) settled)
             (sym pl) fit;
       } in
-      ap₂ (λ (q : List ℕ) (v : Verdict). finished s codebook thresholds index report q v) pl
-      (accepting s codebook thresholds (length index) (length report) settled a)
+      ap₂ (λ (q : List ℕ) (v : Verdict). finished s tables index report q v) pl
+      (accepting s tables (length index) (length report) settled a)
       ∙ ap
       (λ (n : List ℕ).
       outcome (Read (summary s ps n settled)) (over index 0 (indexOctets * length ps) (indexPart s ps n)) (over report 0 (reportOctets * length ps) (reportPart s ps n settled)))
@@ -206,7 +206,7 @@ module _ (s ps : List ℕ) (cut : cutting s ≡ record { places = ps; ending = w
 
   module _ (frames noted : List ℕ) (put : indexPart s ps ns ≡ frames) (says : reportPart s ps ns settled ≡ noted) (lf : length frames ≡ indexOctets * length ps)
       (ln : length noted ≡ reportOctets * length ps) where
-    listed : Reads s codebook thresholds index report (0 ∷ 0 ∷ length ps ∷ speechOf (length ps) frames ∷ badPairs ns ∷ endOf (length ps) frames ∷ []) frames noted
+    listed : Reads s tables index report (0 ∷ 0 ∷ length ps ∷ speechOf (length ps) frames ∷ badPairs ns ∷ endOf (length ps) frames ∷ []) frames noted
     listed =
         let x : 0 + 168 * length ps ≡ length frames = omega arith in
         let y : 0 + 13 * length ps ≡ length noted = omega arith in
@@ -287,21 +287,21 @@ frames-hurt : receivedFrames hurt places ≡ came
 unfolding allFrames framesOf apart numbers value fields field total
 frames-hurt = refl
 
-odd-hurt : each (pairInconsistent (received hurt places) book limits) 24
+odd-hurt : each (pairInconsistent (received hurt places) steep) 24
     ≡ false ∷ true ∷ false ∷ true ∷ false ∷ false ∷ false ∷ false ∷ false ∷ false ∷ true ∷ true ∷ false ∷ true ∷ replicate 10 false
 unfolding pairInconsistent framesOf apart numbers value fields field total inconsistent flags flagged
 odd-hurt = refl
 
-odd-plain : each (pairInconsistent (received hurt places) zeroBook zeroThresholds) 24 ≡ replicate 24 false
+odd-plain : each (pairInconsistent (received hurt places) zeroTables) 24 ≡ replicate 24 false
 unfolding pairInconsistent
 odd-plain =
-    same-each (pairInconsistent (received hurt places) zeroBook zeroThresholds) (λ q. false) 24 (λ q h. zero-consistent (take 7 (framesOf (received hurt places) q)) (drop 7 (framesOf (received hurt places) q)))
+    same-each (pairInconsistent (received hurt places) zeroTables) (λ q. false) 24 (λ q h. zero-consistent (take 7 (framesOf (received hurt places) q)) (drop 7 (framesOf (received hurt places) q)))
 
-judged-hurt : receivedNotes hurt places book limits ≡ pairsIn hurtNotes
+judged-hurt : receivedNotes hurt places steep ≡ pairsIn hurtNotes
 unfolding pairNotes noteBy
 judged-hurt = ap₂ notes fails-hurt odd-hurt
 
-judged-plain : receivedNotes hurt places zeroBook zeroThresholds ≡ pairsIn plainNotes
+judged-plain : receivedNotes hurt places zeroTables ≡ pairsIn plainNotes
 unfolding pairNotes noteBy
 judged-plain = ap₂ notes fails-hurt odd-plain
 
@@ -331,16 +331,16 @@ says-hurt ns =
     ap (λ (hs : List Header). joined (λ k. headerNote settled k (getD hs k Lost) ∷ part (firstPair k) multiframePairs ns) 2) heads-hurt
     ∙ rw (note-same 0xEE0E0008 1 0 0 read-1, note-same 0x8D1D0010 2 1 1 read-2)
 
-hurt-listed : Lists hurt book limits (0 ∷ 0 ∷ 2 ∷ 30 ∷ 7 ∷ 1 ∷ []) standing hurtNotes
+hurt-listed : Lists hurt steep (0 ∷ 0 ∷ 2 ∷ 30 ∷ 7 ∷ 1 ∷ []) standing hurtNotes
 unfolding lastNonzero zeroFrame
 hurt-listed index report hi hr =
-    listed hurt places cut-hurt (λ e. omega arith) settles-hurt book limits refl refl (pairsIn hurtNotes) judged-hurt (λ e. omega arith) index report hi hr standing hurtNotes
+    listed hurt places cut-hurt (λ e. omega arith) settles-hurt steep refl refl (pairsIn hurtNotes) judged-hurt (λ e. omega arith) index report hi hr standing hurtNotes
     (ap (replaced (pairsIn hurtNotes)) frames-hurt ∙ put-hurt) (says-hurt (pairsIn hurtNotes)) refl refl
 
-plain-listed : Lists hurt zeroBook zeroThresholds (0 ∷ 0 ∷ 2 ∷ 30 ∷ 4 ∷ 1 ∷ []) standingPlain plainNotes
+plain-listed : Lists hurt zeroTables (0 ∷ 0 ∷ 2 ∷ 30 ∷ 4 ∷ 1 ∷ []) standingPlain plainNotes
 unfolding lastNonzero zeroFrame
 plain-listed index report hi hr =
-    listed hurt places cut-hurt (λ e. omega arith) settles-hurt zeroBook zeroThresholds refl refl (pairsIn plainNotes) judged-plain (λ e. omega arith) index report hi hr standingPlain
+    listed hurt places cut-hurt (λ e. omega arith) settles-hurt zeroTables refl refl (pairsIn plainNotes) judged-plain (λ e. omega arith) index report hi hr standingPlain
     plainNotes (ap (replaced (pairsIn plainNotes)) frames-hurt ∙ put-plain) (says-hurt (pairsIn plainNotes)) refl refl
 
 -- ---- the second, computed
@@ -364,12 +364,12 @@ unfolding replaced source
 put-strange = refl
 
 -- where no CRC fails no pair is bad, whatever the tables
-judged-strange : (codebook thresholds : List ℤ) → receivedNotes strange row codebook thresholds ≡ replicate 60 0
-judged-strange codebook thresholds =
-    let size = length-notes (received strange row) (pairCount row) codebook thresholds in
+judged-strange : (tables : Tables) → receivedNotes strange row tables ≡ replicate 60 0
+judged-strange tables =
+    let size = length-notes (received strange row) (pairCount row) tables in
     let right : (q : ℕ) → q < 60 → pairFails (received strange row) q ≡ false =
     λ q h. sym (each-at (pairFails (received strange row)) 60 q false h) ∙ ap (λ (l : List Bool). getD l q false) fails-strange ∙ getD-replicate 60 q false false h in
-    zeros (receivedNotes strange row codebook thresholds) (λ q h. no-failed-crc (received strange row) (pairCount row) codebook thresholds right q (omega arith)) ∙ ap (λ (n : ℕ). replicate n 0) size
+    zeros (receivedNotes strange row tables) (λ q h. no-failed-crc (received strange row) (pairCount row) tables right q (omega arith)) ∙ ap (λ (n : ℕ). replicate n 0) size
 
 abbrev strangeHeads : List Header
 strangeHeads =
@@ -401,11 +401,11 @@ says-strange =
       note-other 0x3F0F4001 1 2 4 read-5,
     )
 
-strange-listed : (codebook thresholds : List ℤ) → length codebook ≡ 1280 → length thresholds ≡ 14
-    → Lists strange codebook thresholds (0 ∷ 0 ∷ 5 ∷ 96 ∷ 0 ∷ 1 ∷ []) (replicate 840 0) strangeNotes
+strange-listed : (tables : Tables) → length (tables .codebook) ≡ 1280 → length (tables .thresholds) ≡ 14
+    → Lists strange tables (0 ∷ 0 ∷ 5 ∷ 96 ∷ 0 ∷ 1 ∷ []) (replicate 840 0) strangeNotes
 unfolding lastNonzero zeroFrame
-strange-listed codebook thresholds sc st index report hi hr =
-    listed strange row cut-strange (λ e. omega arith) settles-strange codebook thresholds sc st (replicate 60 0) (judged-strange codebook thresholds) (λ e. omega arith) index report
+strange-listed tables sc st index report hi hr =
+    listed strange row cut-strange (λ e. omega arith) settles-strange tables sc st (replicate 60 0) (judged-strange tables) (λ e. omega arith) index report
     hi hr (replicate 840 0) strangeNotes (ap (replaced (replicate 60 0)) frames-strange ∙ put-strange) says-strange refl refl
 
 pub table : Table

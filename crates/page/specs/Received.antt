@@ -9,7 +9,6 @@ use Prim.Native.Nat.{ℕ, zero, suc, _+_, _*_, _≤_, _<_}
 use native.Mathlib.Omega.{arith}
 use lib.Count.{ones, onesIn}
 use lib.Dec.{lit<}
-use lib.IntN.{ℤ}
 use lib.ListN.{length, drop, getD, replicate, List·getD-append, length-append, length-drop}
 use lib.Seq.{drop-at, getD-take, getD-drop}
 use borrow.Author.Tests.{eq-eqb, ne-eqb, lt-ltb, le-ltb}
@@ -17,6 +16,7 @@ use Rattle.polynomials.specs.Light.{ones-in}
 use Rattle.lists.specs.Parts.{part}
 use Rattle.lists.specs.Rows.{joined, each, length-each, each-at, same-each, length-joined, joined-part}
 use Rattle.layout.specs.Layout.{multiframeOctets, mostMultiframes, indexOctets, reportOctets, syncFirst, syncSecond}
+use Rattle.consistency.specs.Tables.{Tables}
 use Rattle.settings.specs.Settings.{settings}
 use Rattle.frames.specs.Frames.{zeroFrame}
 use Rattle.bits.specs.Bits.{value, bits, field, fields}
@@ -59,16 +59,16 @@ use Rattle.page.specs.Images.{spokenBehind, spoken-image}
 
 -- ---- what a line of the table says
 -- the reading is refused with this number and this place, which `readingNumber` and `readingPlace` give of its refusal, and both buffers are as they came
-pub record Refuses (octets : List ℕ) (codebook thresholds : List ℤ) (index report : List ℕ) (number place : ℕ) : Type 0 where
-  pub number-is : answerNumber (reading octets codebook thresholds index report .answer) ≡ number
-  pub place-is : answerValues (reading octets codebook thresholds index report .answer) ≡ place ∷ []
-  pub index-stays : reading octets codebook thresholds index report .index ≡ index
-  pub report-stays : reading octets codebook thresholds index report .report ≡ report
+pub record Refuses (octets : List ℕ) (tables : Tables) (index report : List ℕ) (number place : ℕ) : Type 0 where
+  pub number-is : answerNumber (reading octets tables index report .answer) ≡ number
+  pub place-is : answerValues (reading octets tables index report .answer) ≡ place ∷ []
+  pub index-stays : reading octets tables index report .index ≡ index
+  pub report-stays : reading octets tables index report .report ≡ report
 
 -- of a codebook of c numbers and t thresholds, whatever they are, and any buffers
 abbrev pub Tabled : List ℕ → ℕ → ℕ → ℕ → ℕ → Type 0
 Tabled octets c t number place =
-    (codebook thresholds : List ℤ) → length codebook ≡ c → length thresholds ≡ t → (index report : List ℕ) → Refuses octets codebook thresholds index report number place
+    (tables : Tables) → length (tables .codebook) ≡ c → length (tables .thresholds) ≡ t → (index report : List ℕ) → Refuses octets tables index report number place
 
 -- of 01's tables and any buffers
 abbrev pub Always : List ℕ → ℕ → ℕ → Type 0
@@ -77,21 +77,21 @@ Always octets number place = Tabled octets 1280 14 number place
 -- of 01's tables and buffers of i and r octets, whatever they hold
 abbrev pub Sized : List ℕ → ℕ → ℕ → ℕ → ℕ → Type 0
 Sized octets i r number place =
-    (codebook thresholds : List ℤ) → length codebook ≡ 1280 → length thresholds ≡ 14 → (index report : List ℕ) → length index ≡ i → length report ≡ r
-    → Refuses octets codebook thresholds index report number place
+    (tables : Tables) → length (tables .codebook) ≡ 1280 → length (tables .thresholds) ≡ 14 → (index report : List ℕ) → length index ≡ i → length report ≡ r
+    → Refuses octets tables index report number place
 
 -- the reading succeeds, with these values; frames and notes stand at the buffers' fronts, and octets beyond are as they came
-pub record Reads (octets : List ℕ) (codebook thresholds : List ℤ) (index report values frames notes : List ℕ) : Type 0 where
-  pub number-is : answerNumber (reading octets codebook thresholds index report .answer) ≡ 0
-  pub values-are : answerValues (reading octets codebook thresholds index report .answer) ≡ values
-  pub index-is : reading octets codebook thresholds index report .index ≡ frames ++ drop (length frames) index
-  pub report-is : reading octets codebook thresholds index report .report ≡ notes ++ drop (length notes) report
+pub record Reads (octets : List ℕ) (tables : Tables) (index report values frames notes : List ℕ) : Type 0 where
+  pub number-is : answerNumber (reading octets tables index report .answer) ≡ 0
+  pub values-are : answerValues (reading octets tables index report .answer) ≡ values
+  pub index-is : reading octets tables index report .index ≡ frames ++ drop (length frames) index
+  pub report-is : reading octets tables index report .report ≡ notes ++ drop (length notes) report
 
 -- with 01's tables and room
 abbrev pub Succeeds : List ℕ → List ℕ → List ℕ → List ℕ → Type 0
 Succeeds octets values frames notes =
-    (codebook thresholds : List ℤ) → length codebook ≡ 1280 → length thresholds ≡ 14 → (index report : List ℕ) → length frames ≤ length index
-    → length notes ≤ length report → Reads octets codebook thresholds index report values frames notes
+    (tables : Tables) → length (tables .codebook) ≡ 1280 → length (tables .thresholds) ≡ 14 → (index report : List ℕ) → length frames ≤ length index
+    → length notes ≤ length report → Reads octets tables index report values frames notes
 
 -- ---- the octets
 -- a whole multiframe: sync, header, and a stream of zeros
@@ -204,9 +204,9 @@ pub record Table : Type 0 where
   pub rate-3-type-1 : Succeeds (spokenBehind (0x0F ∷ 0x00 ∷ 0x0B ∷ 0xFB ∷ [])) (3 ∷ 1 ∷ 1 ∷ 1 ∷ 0 ∷ 1 ∷ []) (1 ∷ replicate 167 0) (replicate 13 0)
 
 -- ---- from an outcome to a line
-refuses : (s : List ℕ) (codebook thresholds : List ℤ) (index report : List ℕ) (r : Refusal) → reading s codebook thresholds index report ≡ outcome (Refused r) index report
-    → Refuses s codebook thresholds index report (readingNumber r) (readingPlace r)
-refuses s codebook thresholds index report r e =
+refuses : (s : List ℕ) (tables : Tables) (index report : List ℕ) (r : Refusal) → reading s tables index report ≡ outcome (Refused r) index report
+    → Refuses s tables index report (readingNumber r) (readingPlace r)
+refuses s tables index report r e =
     record {
       number-is = ap (λ (o : Outcome). answerNumber (o .answer)) e;
       place-is = ap (λ (o : Outcome). answerValues (o .answer)) e;
@@ -216,17 +216,17 @@ refuses s codebook thresholds index report r e =
 
 -- of any buffers is of buffers of some size
 sized : {s : List ℕ} {n p : ℕ} → Always s n p → (i r : ℕ) → Sized s i r n p
-sized a i r codebook thresholds sc st index report li lr = a codebook thresholds sc st index report
+sized a i r tables sc st index report li lr = a tables sc st index report
 
 -- ---- 11
 module _ (s : List ℕ) where
   no-codebook : (c t : ℕ) → (c ≡ 1280 → ⊥) → Tabled s c t 11 0
-  no-codebook c t h codebook thresholds sc st index report =
-      refuses s codebook thresholds index report WrongTables (sym (wrong-codebook s codebook thresholds index report (λ e. h (sym sc ∙ e))))
+  no-codebook c t h tables sc st index report =
+      refuses s tables index report WrongTables (sym (wrong-codebook s tables index report (λ e. h (sym sc ∙ e))))
 
   no-thresholds : (t : ℕ) → (t ≡ 14 → ⊥) → Tabled s 1280 t 11 0
-  no-thresholds t h codebook thresholds sc st index report =
-      refuses s codebook thresholds index report WrongTables (sym (wrong-thresholds s codebook thresholds index report sc (λ e. h (sym st ∙ e))))
+  no-thresholds t h tables sc st index report =
+      refuses s tables index report WrongTables (sym (wrong-thresholds s tables index report sc (λ e. h (sym st ∙ e))))
 
 -- ---- 12, 13 and 15: as cutting ends
 abbrev Cut : List ℕ → Ending → Type 0
@@ -235,60 +235,60 @@ Cut s (refused r) = Always s (readingNumber r) (readingPlace r)
 
 is-cut : (s : List ℕ) (e : Ending) → cutting s .ending ≡ e → Cut s e
 is-cut s whole h = tt
-is-cut s (refused r) h = λ codebook thresholds sc st index report.
-    refuses s codebook thresholds index report r (sym (not-cut s codebook thresholds index report sc st r h))
+is-cut s (refused r) h = λ tables sc st index report.
+    refuses s tables index report r (sym (not-cut s tables index report sc st r h))
 
 -- ---- 14 and 16 to 20, of octets that are cut into multiframes at places
 module _ (s ps : List ℕ) (cut : cutting s ≡ record { places = ps; ending = whole }) where
   is-14 : length ps ≡ 0 → Always s 14 (length s)
   unfolding wholeVerdict
-  is-14 z codebook thresholds sc st index report =
-      refuses s codebook thresholds index report (Empty (length s))
-      (sym (whole-reading s codebook thresholds index report sc st (outcome (Refused (Empty (length s))) index report) ps
+  is-14 z tables sc st index report =
+      refuses s tables index report (Empty (length s))
+      (sym (whole-reading s tables index report sc st (outcome (Refused (Empty (length s))) index report) ps
       (ap (λ (w : Cutting). w .ending) cut) (sym (ap (λ (w : Cutting). w .places) cut)) (rw (eq-eqb (length ps) 0 z))))
 
   module _ (some : length ps ≡ 0 → ⊥) (x : Settlement) (settles : settling (readings s ps) ≡ x) where
     -- past 11 to 15 the settings decide
-    next : (codebook thresholds : List ℤ) → length codebook ≡ 1280 → length thresholds ≡ 14 → (index report : List ℕ)
-        → reading s codebook thresholds index report
-        ≡ finished s codebook thresholds index report ps
-        (settledVerdict (length ps) (badPairs (receivedNotes s ps codebook thresholds)) (pairCount ps) (length index) (length report) x)
+    next : (tables : Tables) → length (tables .codebook) ≡ 1280 → length (tables .thresholds) ≡ 14 → (index report : List ℕ)
+        → reading s tables index report
+        ≡ finished s tables index report ps
+        (settledVerdict (length ps) (badPairs (receivedNotes s ps tables)) (pairCount ps) (length index) (length report) x)
     unfolding wholeVerdict
-    next codebook thresholds sc st index report =
-        sym (whole-reading s codebook thresholds index report sc st
-        (finished s codebook thresholds index report ps (settledVerdict (length ps) (badPairs (receivedNotes s ps codebook thresholds)) (pairCount ps) (length index) (length report) x)) ps
+    next tables sc st index report =
+        sym (whole-reading s tables index report sc st
+        (finished s tables index report ps (settledVerdict (length ps) (badPairs (receivedNotes s ps tables)) (pairCount ps) (length index) (length report) x)) ps
         (ap (λ (w : Cutting). w .ending) cut) (sym (ap (λ (w : Cutting). w .places) cut)) (rw (ne-eqb (length ps) 0 some, settles)))
 
   module _ (some : length ps ≡ 0 → ⊥) where
     is-16 : settling (readings s ps) ≡ S.Unsettled → Always s 16 0
     unfolding settledVerdict
-    is-16 e codebook thresholds sc st index report = refuses s codebook thresholds index report Unsettled (next some S.Unsettled e codebook thresholds sc st index report)
+    is-16 e tables sc st index report = refuses s tables index report Unsettled (next some S.Unsettled e tables sc st index report)
 
     module _ (c : ℕ) (e : settling (readings s ps) ≡ S.Settled c) where
       is-17-rate : rateOf c ≡ 2 → Always s 17 0
       unfolding settledVerdict
-      is-17-rate h codebook thresholds sc st index report =
-          refuses s codebook thresholds index report Unfit (next some (S.Settled c) e codebook thresholds sc st index report ∙ rw (eq-eqb (rateOf c) 2 h))
+      is-17-rate h tables sc st index report =
+          refuses s tables index report Unfit (next some (S.Settled c) e tables sc st index report ∙ rw (eq-eqb (rateOf c) 2 h))
 
       is-17-exp : (rateOf c ≡ 2 → ⊥) → (expOf c ≡ 0 → ⊥) → Always s 17 0
       unfolding settledVerdict
-      is-17-exp r h codebook thresholds sc st index report =
-          refuses s codebook thresholds index report Unfit
-          (next some (S.Settled c) e codebook thresholds sc st index report ∙ rw (ne-eqb (rateOf c) 2 r, ne-eqb (expOf c) 0 h))
+      is-17-exp r h tables sc st index report =
+          refuses s tables index report Unfit
+          (next some (S.Settled c) e tables sc st index report ∙ rw (ne-eqb (rateOf c) 2 r, ne-eqb (expOf c) 0 h))
 
       module _ (u : Usable c) (i r : ℕ) where
         is-18 : i < indexOctets * length ps → Sized s i r 18 (indexOctets * length ps)
         unfolding settledVerdict roomVerdict
-        is-18 h codebook thresholds sc st index report li lr =
-            refuses s codebook thresholds index report (IndexShort (indexOctets * length ps))
-            (next some (S.Settled c) e codebook thresholds sc st index report
+        is-18 h tables sc st index report li lr =
+            refuses s tables index report (IndexShort (indexOctets * length ps))
+            (next some (S.Settled c) e tables sc st index report
             ∙ rw (ne-eqb (rateOf c) 2 (u .rate), eq-eqb (expOf c) 0 (u .exp), lt-ltb (length index) (indexOctets * length ps) (omega arith)))
 
         is-19 : indexOctets * length ps ≤ i → r < reportOctets * length ps → Sized s i r 19 (reportOctets * length ps)
         unfolding settledVerdict roomVerdict
-        is-19 hi h codebook thresholds sc st index report li lr =
-            refuses s codebook thresholds index report (ReportShort (reportOctets * length ps))
-            (next some (S.Settled c) e codebook thresholds sc st index report
+        is-19 hi h tables sc st index report li lr =
+            refuses s tables index report (ReportShort (reportOctets * length ps))
+            (next some (S.Settled c) e tables sc st index report
             ∙ rw (
               ne-eqb (rateOf c) 2 (u .rate),
               eq-eqb (expOf c) 0 (u .exp),
@@ -297,17 +297,17 @@ module _ (s ps : List ℕ) (cut : cutting s ≡ record { places = ps; ending = w
             ))
 
         is-20 : indexOctets * length ps ≤ i → reportOctets * length ps ≤ r
-            → ((codebook thresholds : List ℤ) → badPairs (receivedNotes s ps codebook thresholds) ≡ pairCount ps) → Sized s i r 20 0
+            → ((tables : Tables) → badPairs (receivedNotes s ps tables) ≡ pairCount ps) → Sized s i r 20 0
         unfolding settledVerdict roomVerdict
-        is-20 hi hr bad codebook thresholds sc st index report li lr =
-            refuses s codebook thresholds index report AllBad
-            (next some (S.Settled c) e codebook thresholds sc st index report
+        is-20 hi hr bad tables sc st index report li lr =
+            refuses s tables index report AllBad
+            (next some (S.Settled c) e tables sc st index report
             ∙ rw (
               ne-eqb (rateOf c) 2 (u .rate),
               eq-eqb (expOf c) 0 (u .exp),
               le-ltb (length index) (indexOctets * length ps) (omega arith),
               le-ltb (length report) (reportOctets * length ps) (omega arith),
-              eq-eqb (badPairs (receivedNotes s ps codebook thresholds)) (pairCount ps) (bad codebook thresholds),
+              eq-eqb (badPairs (receivedNotes s ps tables)) (pairCount ps) (bad tables),
             ))
 
 -- ---- the headers, by the laws of their code: it is shut here
@@ -399,9 +399,9 @@ fails-bad : each (pairFails (received allBad (0 ∷ []))) 12 ≡ replicate 12 tr
 unfolding pairFails fields field right alike crc after xor
 fails-bad = refl
 
-bad-bad : (codebook thresholds : List ℤ) → badPairs (receivedNotes allBad (0 ∷ []) codebook thresholds) ≡ 12
+bad-bad : (tables : Tables) → badPairs (receivedNotes allBad (0 ∷ []) tables) ≡ 12
 unfolding pairNotes noteBy
-bad-bad codebook thresholds = ap (λ (l : List Bool). badPairs (notes l (each (pairInconsistent (received allBad (0 ∷ [])) codebook thresholds) 12))) fails-bad
+bad-bad tables = ap (λ (l : List Bool). badPairs (notes l (each (pairInconsistent (received allBad (0 ∷ [])) tables) 12))) fails-bad
 
 -- ---- behind n multiframes alike
 module _ (f : List ℕ) (size : length f ≡ multiframeOctets) where
@@ -498,11 +498,11 @@ many-lost n h few =
 -- ---- success, by the theorem "reads back"
 speaks : (rate kind : ℕ) (h : List ℕ) → header rate kind 1 ≡ h → verdict (settings rate kind) (lone 1) (needed (lone 1)) ≡ Written (needed (lone 1))
     → Succeeds (spokenBehind h) (rate ∷ kind ∷ 1 ∷ 1 ∷ 0 ∷ 1 ∷ []) (1 ∷ replicate 167 0) (replicate 13 0)
-speaks rate kind h x w codebook thresholds sc st index report hi hr =
+speaks rate kind h x w tables sc st index report hi hr =
     let u : Utterance = record { settings = settings rate kind; indices = lone 1; small = small-lone 1 (lit< tt); written = w } in
     let e =
-    ap (λ (i : List ℕ). reading i codebook thresholds index report) (sym (spoken-image rate kind h x))
-    ∙ reads-image u codebook thresholds index report record { codebook-size = sc; thresholds-size = st; index-room = hi; report-room = hr } in
+    ap (λ (i : List ℕ). reading i tables index report) (sym (spoken-image rate kind h x))
+    ∙ reads-image u tables index report record { codebook-size = sc; thresholds-size = st; index-room = hi; report-room = hr } in
     record {
       number-is = ap (λ (o : Outcome). answerNumber (o .answer)) e;
       values-are = ap (λ (o : Outcome). answerValues (o .answer)) e;

@@ -21,6 +21,7 @@ use Rattle.consistency.specs.Consistency.{exceeding, risen, flagged, flags, inc
 use Rattle.replacing.specs.Replacing.{source, sourceBy, runStart, leading}
 use Rattle.replacing.specs.Examples.{standIns}
 use Rattle.replacing.specs.Speech.{lastNonzero, speechOf, endOf}
+use Rattle.consistency.specs.Tables.{tablesOf}
 
 -- ---- tables
 -- k, k + 1, .., n of them: the number at place p of `upTo` is p
@@ -45,18 +46,18 @@ pairs14 a b = (pos a ∷ pos b ∷ pos a ∷ pos b ∷ []) ++ ((pos a ∷ pos b 
 pub record Consistency : Type 0 where
   -- "codebook c (0 to 5) begins at 128c and the seventh at 768; entry j is two numbers": the first number of codebook 1, both of its second entry, and the last
   -- number of the seventh, which is entry 255's second
-  pub codebook-1 : risen (nineAt 128) (all14 0) 1 5 0 0 ≡ true
-  pub entry-1-first : risen (nineAt 130) (all14 0) 1 5 1 0 ≡ true
-  pub entry-1-second : risen (nineAt 131) (all14 0) 1 5 1 1 ≡ true
-  pub seventh : risen (nineAt 768) (all14 0) 6 5 0 0 ≡ true
-  pub last-number : risen (nineAt 1279) (all14 0) 6 0 255 1 ≡ true
-  pub not-before-last : risen (nineAt 1279) (all14 0) 6 0 254 1 ≡ false
+  pub codebook-1 : risen (tablesOf (nineAt 128) (all14 0)) 1 5 0 0 ≡ true
+  pub entry-1-first : risen (tablesOf (nineAt 130) (all14 0)) 1 5 1 0 ≡ true
+  pub entry-1-second : risen (tablesOf (nineAt 131) (all14 0)) 1 5 1 1 ≡ true
+  pub seventh : risen (tablesOf (nineAt 768) (all14 0)) 6 5 0 0 ≡ true
+  pub last-number : risen (tablesOf (nineAt 1279) (all14 0)) 6 0 255 1 ≡ true
+  pub not-before-last : risen (tablesOf (nineAt 1279) (all14 0)) 6 0 254 1 ≡ false
   -- "2c and 2c+1 for the two elements of codebook c": of thresholds 0 to 13 those of codebook 3 are 6 and 7. The difference is 6, then 8
-  pub threshold-6 : risen (upTo 1280) (upTo 14) 3 0 3 0 ≡ false
-  pub past-threshold-6 : risen (upTo 1280) (upTo 14) 3 0 4 0 ≡ true
-  pub past-threshold-7 : risen (upTo 1280) (upTo 14) 3 0 4 1 ≡ true
-  pub threshold-11 : risen (upTo 1280) (upTo 14) 5 0 5 1 ≡ false
-  pub past-threshold-11 : risen (upTo 1280) (upTo 14) 5 0 6 1 ≡ true
+  pub threshold-6 : risen (tablesOf (upTo 1280) (upTo 14)) 3 0 3 0 ≡ false
+  pub past-threshold-6 : risen (tablesOf (upTo 1280) (upTo 14)) 3 0 4 0 ≡ true
+  pub past-threshold-7 : risen (tablesOf (upTo 1280) (upTo 14)) 3 0 4 1 ≡ true
+  pub threshold-11 : risen (tablesOf (upTo 1280) (upTo 14)) 5 0 5 1 ≡ false
+  pub past-threshold-11 : risen (tablesOf (upTo 1280) (upTo 14)) 5 0 6 1 ≡ true
   -- "exceeds": 2 does not exceed 2, and exceeds 1; a fall exceeds no threshold of 0 or more; nothing exceeds -1 but what is no fall
   pub two-not-two : exceeding (pos 2) (pos 5) (pos 7) ≡ false
   pub two-past-one : exceeding (pos 1) (pos 5) (pos 7) ≡ true
@@ -67,14 +68,14 @@ pub record Consistency : Type 0 where
   pub exact-difference : exceeding (pos 2147483647) (negsuc 2147483647) (pos 2147483647) ≡ true
   pub exact-fall : exceeding (negsuc 2147483647) (pos 2147483647) (negsuc 2147483647) ≡ false
   -- "for either of its two elements"
-  pub first-element : flagged (upTo 1280) (pairs14 0 100) 2 0 1 ≡ true
-  pub second-element : flagged (upTo 1280) (pairs14 100 0) 2 0 1 ≡ true
-  pub neither : flagged (upTo 1280) (pairs14 100 100) 2 0 1 ≡ false
+  pub first-element : flagged (tablesOf (upTo 1280) (pairs14 0 100)) 2 0 1 ≡ true
+  pub second-element : flagged (tablesOf (upTo 1280) (pairs14 100 0)) 2 0 1 ≡ true
+  pub neither : flagged (tablesOf (upTo 1280) (pairs14 100 100)) 2 0 1 ≡ false
   -- "if at least two of its seven index pairs are flagged": two, one, the last two, and two falls
-  pub two-flagged : inconsistent (upTo 1280) (all14 1) (replicate 7 0) (1 ∷ 1 ∷ 0 ∷ 0 ∷ 0 ∷ 0 ∷ 0 ∷ []) ≡ true
-  pub one-flagged : inconsistent (upTo 1280) (all14 1) (replicate 7 0) (1 ∷ 0 ∷ 0 ∷ 0 ∷ 0 ∷ 0 ∷ 0 ∷ []) ≡ false
-  pub last-two-flagged : inconsistent (upTo 1280) (all14 1) (replicate 7 0) (0 ∷ 0 ∷ 0 ∷ 0 ∷ 0 ∷ 1 ∷ 1 ∷ []) ≡ true
-  pub two-fallen : inconsistent (upTo 1280) (all14 1) (1 ∷ 1 ∷ 0 ∷ 0 ∷ 0 ∷ 0 ∷ 0 ∷ []) (replicate 7 0) ≡ false
+  pub two-flagged : inconsistent (tablesOf (upTo 1280) (all14 1)) (replicate 7 0) (1 ∷ 1 ∷ 0 ∷ 0 ∷ 0 ∷ 0 ∷ 0 ∷ []) ≡ true
+  pub one-flagged : inconsistent (tablesOf (upTo 1280) (all14 1)) (replicate 7 0) (1 ∷ 0 ∷ 0 ∷ 0 ∷ 0 ∷ 0 ∷ 0 ∷ []) ≡ false
+  pub last-two-flagged : inconsistent (tablesOf (upTo 1280) (all14 1)) (replicate 7 0) (0 ∷ 0 ∷ 0 ∷ 0 ∷ 0 ∷ 1 ∷ 1 ∷ []) ≡ true
+  pub two-fallen : inconsistent (tablesOf (upTo 1280) (all14 1)) (1 ∷ 1 ∷ 0 ∷ 0 ∷ 0 ∷ 0 ∷ 0 ∷ []) (replicate 7 0) ≡ false
 
 pub consistency : Consistency
 unfolding numbersFrom upTo nineAt all14 pairs14 flagged flags inconsistent

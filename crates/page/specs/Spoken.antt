@@ -34,7 +34,7 @@ use Rattle.writer.specs.Image.{Utterance, multiframesOf, pairsOf, imageOf, imag
 use Rattle.writer.specs.declared.Answer.the-variants.{Written}
 use Rattle.demands.specs.Damage.{headerFlips, Touched, sentMessage, differs, header-near}
 use Rattle.demands.specs.Received.{BadPair, Count, count-once, count-one, count-none}
-use Rattle.demands.specs.Met.{zeroBook, zeroThresholds, indexFor, reportFor, burstAt, doubleAt, distance, hurtWord, hurtStream, hurtImage, length-hurt, part-0, part-1, part-on, zero-consistent, small-ones, reads-back-met, names-met}
+use Rattle.demands.specs.Met.{zeroTables, indexFor, reportFor, burstAt, doubleAt, distance, hurtWord, hurtStream, hurtImage, length-hurt, part-0, part-1, part-on, zero-consistent, small-ones, reads-back-met, names-met}
 use Rattle.demands.specs.Whole.{headerNoteIn, pairNoteIn}
 use Rattle.demands.specs.ReadsBack as R
 use Rattle.demands.specs.NamesTheDamage as N
@@ -121,17 +121,17 @@ longest =
     record { settings = s .0; indices = s .1; multiframes = m; octets = ap (λ (k : ℕ). multiframeOctets * k) m }
 
 -- READS BACK and NAMES THE DAMAGE speak of it
-pub back6119 : R.Back says6119 zeroBook zeroThresholds (replicate (needed (says6119 .indices)) 0) (indexFor (multiframesOf says6119)) (reportFor (multiframesOf says6119))
+pub back6119 : R.Back says6119 zeroTables (replicate (needed (says6119 .indices)) 0) (indexFor (multiframesOf says6119)) (reportFor (multiframesOf says6119))
 back6119 =
-    R.reads-back says6119 zeroBook zeroThresholds (replicate (needed (says6119 .indices)) 0) (indexFor (multiframesOf says6119)) (reportFor (multiframesOf says6119))
+    R.reads-back says6119 zeroTables (replicate (needed (says6119 .indices)) 0) (indexFor (multiframesOf says6119)) (reportFor (multiframesOf says6119))
     (reads-back-met says6119)
 
-pub names-says6119 : N.Premises says6119 (hurtImage says6119) zeroBook zeroThresholds (indexFor (multiframesOf says6119)) (reportFor (multiframesOf says6119))
+pub names-says6119 : N.Premises says6119 (hurtImage says6119) zeroTables (indexFor (multiframesOf says6119)) (reportFor (multiframesOf says6119))
 names-says6119 = names-met says6119 (omega (arith, longest .multiframes))
 
-pub named6119 : N.Named says6119 (hurtImage says6119) zeroBook zeroThresholds (indexFor (multiframesOf says6119)) (reportFor (multiframesOf says6119))
+pub named6119 : N.Named says6119 (hurtImage says6119) zeroTables (indexFor (multiframesOf says6119)) (reportFor (multiframesOf says6119))
 named6119 =
-    N.names-the-damage says6119 (hurtImage says6119) zeroBook zeroThresholds (indexFor (multiframesOf says6119)) (reportFor (multiframesOf says6119)) names-says6119
+    N.names-the-damage says6119 (hurtImage says6119) zeroTables (indexFor (multiframesOf says6119)) (reportFor (multiframesOf says6119)) names-says6119
 
 -- ---- and that damage is in every one of its multiframes: two flips in the header, and its first two pairs
 module _ (u : Utterance) (k : ℕ) (h : k < multiframesOf u) where
@@ -175,7 +175,7 @@ module _ (u : Utterance) (k : ℕ) (h : k < multiframesOf u) where
 
 -- the report of that reading
 abbrev pub report6119 : List ℕ
-report6119 = N.result says6119 (hurtImage says6119) zeroBook zeroThresholds (indexFor (multiframesOf says6119)) (reportFor (multiframesOf says6119)) .report
+report6119 = N.result says6119 (hurtImage says6119) zeroTables (indexFor (multiframesOf says6119)) (reportFor (multiframesOf says6119)) .report
 
 -- it names all of it and no other pair, in each of the 255 multiframes
 pub record Noted (k : ℕ) : Type 0 where
@@ -207,7 +207,7 @@ noted6119 k h =
 -- ---- and counts it: two bad pairs in each multiframe, 510 in all
 module _ (u : Utterance) where
   abbrev Bad : ℕ → Type 0
-  Bad q = BadPair u (hurtImage u) zeroBook zeroThresholds q
+  Bad q = BadPair u (hurtImage u) zeroTables q
 
   none-bad : (k r : ℕ) → k < multiframesOf u → 1 < r → r < multiframePairs → Bad (firstPair k + r) → ⊥
   none-bad k r h o b x =

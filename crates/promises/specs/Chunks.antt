@@ -5,11 +5,11 @@ use mathlib.Core.Path.{_≡_, refl, sym, ap, ap₂, _∙_}
 use mathlib.Core.List.{List, [], _∷_, _++_, append-assoc}
 use Prim.Native.Nat.{ℕ, zero, suc, _+_, _*_, _≤_, _<_}
 use native.Mathlib.Omega.{arith}
-use lib.IntN.{ℤ}
 use lib.ListN.{length, take, drop, getD, length-append, length-drop, take-append-drop, List·getD-append}
 use lib.Seq.{length-take-le, drop-at, getD-take, ext-getD}
 use borrow.Author.Tests.{eq-eqb}
 use Rattle.layout.specs.Layout.{multiframeOctets, syncOctets, mostMultiframes, codebookNumbers, thresholdNumbers, syncFirst, syncSecond, inverseFirst, inverseSecond}
+use Rattle.consistency.specs.Tables.{Tables, RightTables}
 use Rattle.cutting.specs.declared.Piece.{Piece}
 use Rattle.cutting.specs.declared.Piece.the-variants.{End, Multiframe, Inverse, Unknown, CutShort, TooMany}
 use Rattle.cutting.specs.Cutting.{pieceOf, whole, refused, Cutting, prepend, step, walk, cutting}
@@ -148,34 +148,29 @@ pub record Refuses (o : Outcome) (index report : List ℕ) (number place : ℕ) 
   pub number-is : readingNumber refusal ≡ number
   pub place-is : readingPlace refusal ≡ place
 
--- 01's tables: any codebook of 1,280 numbers and any 14 thresholds
-pub record Tables (codebook thresholds : List ℤ) : Type 0 where
-  pub codebook-size : length codebook ≡ codebookNumbers
-  pub thresholds-size : length thresholds ≡ thresholdNumbers
-
-module _ (s : List ℕ) (codebook thresholds : List ℤ) (index report : List ℕ) (tables : Tables codebook thresholds) where
+module _ (s : List ℕ) (tables : Tables) (index report : List ℕ) (sized : RightTables tables) where
   -- with the tables right, cutting decides
-  cutting-decides : verdict s codebook thresholds (length index) (length report) ≡ endVerdict s codebook thresholds (length index) (length report) (cutting s .places) (cutting s .ending)
+  cutting-decides : verdict s tables (length index) (length report) ≡ endVerdict s tables (length index) (length report) (cutting s .places) (cutting s .ending)
   unfolding verdict
-  cutting-decides = rw (eq-eqb (length codebook) codebookNumbers (tables .codebook-size), eq-eqb (length thresholds) thresholdNumbers (tables .thresholds-size))
+  cutting-decides = rw (eq-eqb (length (tables .codebook)) codebookNumbers (sized .0), eq-eqb (length (tables .thresholds)) thresholdNumbers (sized .1))
 
   -- what cutting refuses is refused, with its number and place
-  pub cut-refuses : (x : Refusal) → cutting s .ending ≡ refused x → Refuses (reading s codebook thresholds index report) index report (readingNumber x) (readingPlace x)
+  pub cut-refuses : (x : Refusal) → cutting s .ending ≡ refused x → Refuses (reading s tables index report) index report (readingNumber x) (readingPlace x)
   cut-refuses x e = record {
     refusal = x;
-    is-refused = refused-keeps s codebook thresholds index report x
-        (cutting-decides ∙ ap (endVerdict s codebook thresholds (length index) (length report) (cutting s .places)) e);
+    is-refused = refused-keeps s tables index report x
+        (cutting-decides ∙ ap (endVerdict s tables (length index) (length report) (cutting s .places)) e);
     number-is = refl;
     place-is = refl;
   }
 
   -- and chunks without a multiframe are 14, at the number of octets
-  pub none-refuses : cutting s ≡ record { places = []; ending = whole } → Refuses (reading s codebook thresholds index report) index report 14 (length s)
+  pub none-refuses : cutting s ≡ record { places = []; ending = whole } → Refuses (reading s tables index report) index report 14 (length s)
   unfolding wholeVerdict
   none-refuses e = record {
     refusal = RR.Empty (length s);
-    is-refused = refused-keeps s codebook thresholds index report (RR.Empty (length s))
-        (cutting-decides ∙ ap (λ (w : Cutting). endVerdict s codebook thresholds (length index) (length report) (w .places) (w .ending)) e);
+    is-refused = refused-keeps s tables index report (RR.Empty (length s))
+        (cutting-decides ∙ ap (λ (w : Cutting). endVerdict s tables (length index) (length report) (w .places) (w .ending)) e);
     number-is = refl;
     place-is = refl;
   }

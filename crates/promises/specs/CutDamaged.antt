@@ -7,11 +7,11 @@ use mathlib.Core.List.{List, []}
 use mathlib.Core.Logic.{inr, inl}
 use Prim.Native.Nat.{ℕ, zero, _-_, _*_, _/_, _≤_, _<_}
 use native.Mathlib.Omega.{arith}
-use lib.IntN.{ℤ}
 use lib.ListN.{length, take, drop, getD}
 use Rattle.lists.specs.Tests.{true-false, not-false, when}
 use Rattle.lists.specs.Parts.{part, over}
 use Rattle.layout.specs.Layout.{dataBits, multiframePairs, multiframeFrames, multiframeOctets, indexOctets, reportOctets, frameIndices}
+use Rattle.consistency.specs.Tables.{Tables}
 use Rattle.frames.specs.Frames.{zeroFrame, allZero}
 use Rattle.crc.specs.Crc.{right}
 use Rattle.packet.specs.Packet.{packetOf}
@@ -32,24 +32,24 @@ use Rattle.writer.specs.Image.{Utterance, multiframesOf, pairsOf, imageOf}
 use Rattle.demands.specs.Damage.{Damage, Fate, whole, hit, fate, not-touched}
 use Rattle.demands.specs.Whole.{rowOf, pairNoteIn, pair-note-is}
 use Rattle.demands.specs.Headers.{sentCommon}
-use Rattle.demands.specs.Met.{zeroBook, zeroThresholds, indexFor, reportFor, lent-zeros, zero-consistent}
+use Rattle.demands.specs.Met.{zeroTables, indexFor, reportFor, lent-zeros, zero-consistent}
 use Rattle.demands.specs.WritesAgain as A
 use Rattle.promises.specs.First as F
 use Rattle.promises.specs.Said.{ones24, gap24, zero-22}
 use Rattle.promises.specs.Hit.{hitImage, hits, is-hit, not-hit, clean-header}
 
 -- ---- they are read, and the last pair that came, q, has note 0
-module _ (u : Utterance) (s : List ℕ) (d : Damage (multiframesOf u) (imageOf u) s) (k : ℕ) (less : k < multiframesOf u) (codebook thresholds : List ℤ) (index report : List ℕ)
-    (given : Summary) (e : reading (take (multiframeOctets * k) s) codebook thresholds index report .answer ≡ Read given)
-    (note : pairNoteIn (reading (take (multiframeOctets * k) s) codebook thresholds index report .report) (multiframePairs * k - 1) ≡ 0) where
+module _ (u : Utterance) (s : List ℕ) (d : Damage (multiframesOf u) (imageOf u) s) (k : ℕ) (less : k < multiframesOf u) (tables : Tables) (index report : List ℕ)
+    (given : Summary) (e : reading (take (multiframeOctets * k) s) tables index report .answer ≡ Read given)
+    (note : pairNoteIn (reading (take (multiframeOctets * k) s) tables index report .report) (multiframePairs * k - 1) ≡ 0) where
   within : k ≤ multiframesOf u
   within = omega arith
 
   abbrev came : List ℕ
   came = take (multiframeOctets * k) s
 
-  w : A.WasRead came codebook thresholds index report [] given
-  w = A.was-read came codebook thresholds index report [] given e
+  w : A.WasRead came tables index report [] given
+  w = A.was-read came tables index report [] given e
 
   cut : cutting came .places ≡ rowOf k
   cut = ap (λ (x : Cutting). x .places) (F.cut-first u s d k within)
@@ -58,10 +58,10 @@ module _ (u : Utterance) (s : List ℕ) (d : Damage (multiframesOf u) (imageOf u
   rows = F.rows u s d k within
 
   abbrev ns : List ℕ
-  ns = receivedNotes came (rowOf k) codebook thresholds
+  ns = receivedNotes came (rowOf k) tables
 
   size : length ns ≡ pairCount (rowOf k)
-  size = length-notes (received came (rowOf k)) (pairCount (rowOf k)) codebook thresholds
+  size = length-notes (received came (rowOf k)) (pairCount (rowOf k)) tables
 
   some : 0 < k
   some = by k (λ z. w .reader-accepts .some (ap length cut ∙ rows ∙ z))
@@ -80,10 +80,10 @@ module _ (u : Utterance) (s : List ℕ) (d : Damage (multiframesOf u) (imageOf u
 
   last-note : getD ns q 0 ≡ 0
   last-note =
-      ap (λ (l : List ℕ). getD (receivedNotes came l codebook thresholds) q 0) (sym cut)
+      ap (λ (l : List ℕ). getD (receivedNotes came l tables) q 0) (sym cut)
       ∙ sym (ap (λ (o : Outcome). pairNoteIn (o .report) q) (w .result-is)
-      ∙ pair-note-is came (cutting came .places) (receivedNotes came (cutting came .places) codebook thresholds) report (w .common) (reportOctets * length (cutting came .places))
-      (length-notes (received came (cutting came .places)) (pairCount (cutting came .places)) codebook thresholds) q (omega (arith, ap length cut, rows, in-first)))
+      ∙ pair-note-is came (cutting came .places) (receivedNotes came (cutting came .places) tables) report (w .common) (reportOctets * length (cutting came .places))
+      (length-notes (received came (cutting came .places)) (pairCount (cutting came .places)) tables) q (omega (arith, ap length cut, rows, in-first)))
       ∙ note
 
   -- so it is not damaged
@@ -94,7 +94,7 @@ module _ (u : Utterance) (s : List ℕ) (d : Damage (multiframesOf u) (imageOf u
       passed : right dataBits (packetIn s q) ≡ true
       passed =
           ap (right dataBits) (sym (F.packet-first u s d k within q in-first))
-          ∙ not-false (right dataBits (received came (rowOf k) q)) (F.zero-passed came (rowOf k) codebook thresholds q (omega (arith, rows, in-first)) last-note)
+          ∙ not-false (right dataBits (received came (rowOf k) q)) (F.zero-passed came (rowOf k) tables q (omega (arith, rows, in-first)) last-note)
 
       by : Fate u s d q in-image → packetIn s q ≡ packetOf (u .indices) q
       by (whole x r) = x
@@ -113,21 +113,21 @@ module _ (u : Utterance) (s : List ℕ) (d : Damage (multiframesOf u) (imageOf u
   ends : given .end ≡ 0
   ends =
       ap (λ (g : Summary). g .end) (w .given-is)
-      ∙ ap (λ (l : List ℕ). endOf (length l) (indexPart came l (receivedNotes came l codebook thresholds))) cut ∙ ap (λ (n : ℕ). endOf n (indexPart came (rowOf k) ns)) rows
+      ∙ ap (λ (l : List ℕ). endOf (length l) (indexPart came l (receivedNotes came l tables))) cut ∙ ap (λ (n : ℕ). endOf n (indexPart came (rowOf k) ns)) rows
       ∙ rw speaks
 
 -- THE LAST PAIR'S NOTE DECIDES: if the first k multiframes are read, and the last of their pairs has note 0, end is 0
 pub cut-off-told-damaged : (u : Utterance) (s : List ℕ) → Damage (multiframesOf u) (imageOf u) s → (k : ℕ) → k < multiframesOf u
-    → (codebook thresholds : List ℤ) (index report : List ℕ) (given : Summary) → reading (take (multiframeOctets * k) s) codebook thresholds index report .answer ≡ Read given
-    → pairNoteIn (reading (take (multiframeOctets * k) s) codebook thresholds index report .report) (multiframePairs * k - 1) ≡ 0 → given .end ≡ 0
-cut-off-told-damaged u s d k less codebook thresholds index report given e note = ends u s d k less codebook thresholds index report given e note
+    → (tables : Tables) (index report : List ℕ) (given : Summary) → reading (take (multiframeOctets * k) s) tables index report .answer ≡ Read given
+    → pairNoteIn (reading (take (multiframeOctets * k) s) tables index report .report) (multiframePairs * k - 1) ≡ 0 → given .end ≡ 0
+cut-off-told-damaged u s d k less tables index report given e note = ends u s d k less tables index report given e note
 
 -- ---- examples: pair p of the first multiframe is damaged, and that multiframe alone came; tables of zeros
 abbrev pub rest : Utterance → ℕ → List ℕ
 rest u p = take multiframeOctets (hitImage u p)
 
 abbrev pub restRead : Utterance → ℕ → Outcome
-restRead u p = reading (rest u p) zeroBook zeroThresholds (indexFor 1) (reportFor 1)
+restRead u p = reading (rest u p) zeroTables (indexFor 1) (reportFor 1)
 
 -- there are more, it is read, and the notes of pair p and of the last pair that came, and the end, are these
 pub record Rest (u : Utterance) (p named last end : ℕ) : Type 0 where
@@ -140,7 +140,7 @@ pub record Rest (u : Utterance) (p named last end : ℕ) : Type 0 where
   pub end-is : given .end ≡ end
 
 abbrev restNotes : Utterance → ℕ → List ℕ
-restNotes u p = receivedNotes (rest u p) (rowOf 1) zeroBook zeroThresholds
+restNotes u p = receivedNotes (rest u p) (rowOf 1) zeroTables
 
 abbrev restGiven : Utterance → ℕ → Summary
 restGiven u p = summary (rest u p) (rowOf 1) (restNotes u p) (sentCommon u)
@@ -176,16 +176,16 @@ module _ (u : Utterance) (two : 2 ≤ multiframesOf u) (p : ℕ) (inside : p < m
 
   -- its note is 1, and the others have 0
   hit-one : getD (restNotes u p) p 0 ≡ 1
-  hit-one = F.failed-note (rest u p) (rowOf 1) zeroBook zeroThresholds p (omega arith) hit-fails
+  hit-one = F.failed-note (rest u p) (rowOf 1) zeroTables p (omega arith) hit-fails
 
   else-zero : (q : ℕ) → q < multiframePairs → (q ≡ p → ⊥) → getD (restNotes u p) q 0 ≡ 0
   unfolding pairInconsistent
   else-zero q h n =
-      F.consistent-note (rest u p) (rowOf 1) zeroBook zeroThresholds q (omega arith) (else-passes q h n)
+      F.consistent-note (rest u p) (rowOf 1) zeroTables q (omega arith) (else-passes q h n)
       (zero-consistent (take frameIndices (framesOf (received (rest u p) (rowOf 1)) q)) (drop frameIndices (framesOf (received (rest u p) (rowOf 1)) q)))
 
   notes-12 : length (restNotes u p) ≡ multiframePairs
-  notes-12 = length-notes (received (rest u p) (rowOf 1)) (pairCount (rowOf 1)) zeroBook zeroThresholds
+  notes-12 = length-notes (received (rest u p) (rowOf 1)) (pairCount (rowOf 1)) zeroTables
 
   -- with a good pair besides it is read
   module _ (g : ℕ) (other : g < multiframePairs) (differs : g ≡ p → ⊥) where
@@ -196,7 +196,7 @@ module _ (u : Utterance) (two : 2 ≤ multiframesOf u) (p : ℕ) (inside : p < m
         ≡ outcome (Read (restGiven u p)) (over (indexFor 1) 0 (indexOctets * length (rowOf 1)) (indexPart (rest u p) (rowOf 1) (restNotes u p)))
         (over (reportFor 1) 0 (reportOctets * length (rowOf 1)) (reportPart (rest u p) (rowOf 1) (restNotes u p) (sentCommon u)))
     outcome-is =
-        F.read-first u s (hits u p) 1 (omega arith) zeroBook zeroThresholds (indexFor 1) (reportFor 1) (omega arith) (inr (clean-header u p 0 (omega arith))) one-good (lent-zeros 1)
+        F.read-first u s (hits u p) 1 (omega arith) zeroTables (indexFor 1) (reportFor 1) (omega arith) (inr (clean-header u p 0 (omega arith))) one-good (lent-zeros 1)
 
     noted : (q : ℕ) → q < multiframePairs → pairNoteIn (restRead u p .report) q ≡ getD (restNotes u p) q 0
     noted q h =
@@ -223,7 +223,7 @@ told =
     let apart : _≡_ {A = ℕ} 0 3 → ⊥ = λ e. omega arith in
     let z : getD (restNotes ones24 3) 11 0 ≡ 0 = else-zero ones24 two 3 in12 11 (omega arith) (λ e. omega arith) in
     make-rest ones24 two 3 in12 0 other apart 0 0 z
-    (cut-off-told-damaged ones24 (hitImage ones24 3) (hits ones24 3) 1 (omega arith) zeroBook zeroThresholds (indexFor 1) (reportFor 1) (restGiven ones24 3)
+    (cut-off-told-damaged ones24 (hitImage ones24 3) (hits ones24 3) 1 (omega arith) zeroTables (indexFor 1) (reportFor 1) (restGiven ones24 3)
     (ap (λ (o : Outcome). o .answer) (outcome-is ones24 two 3 in12 0 other apart)) (noted ones24 two 3 in12 0 other apart 11 (omega arith) ∙ z))
 
 -- THE NOTE IS NEEDED: of 24 frames of ones, but frame 22 of zeros, the twelfth pair is damaged, which is the last that came. Frames 23 and 24 are replaced by

@@ -8,12 +8,12 @@ use mathlib.Core.Logic.{_⊎_, inl, inr}
 use Prim.Native.Nat.{ℕ, zero, suc, _+_, _-_, _*_, _/_, _≤_, _<_}
 use native.Mathlib.Decide.{ℕ-discrete, decLt}
 use native.Mathlib.Omega.{arith}
-use lib.IntN.{ℤ}
 use lib.ListN.{length, take, drop, getD, take-append-drop}
 use lib.Seq.{length-take-le, take-at, take-all}
 use Rattle.lists.specs.Parts.{part, over, part-left, part-right}
 use Rattle.lists.specs.Rows.{each, length-each, each-at, same-each}
 use Rattle.layout.specs.Layout.{widths, frameIndices, multiframeFrames, multiframePairs, streamOctets, multiframeOctets, mostMultiframes, indexOctets, reportOctets, pairOf, firstFrame, secondFrame, sync}
+use Rattle.consistency.specs.Tables.{Tables}
 use Rattle.frames.specs.Frames.{allZero, zeroFrame, all-zero-at, Nonzero}
 use Rattle.bits.specs.Bits.{value, bits}
 use Rattle.packet.specs.Packet.{apart, frameAt, packetOf}
@@ -69,30 +69,30 @@ border-speaks u k some less =
     boundary-speaks (u .settings) (u .indices) (needed (u .indices)) (needed (u .indices)) (is-accepted u) (multiframeFrames * k - 1) (omega arith) (omega arith)
 
 -- ---- a pair's note: by the pair before it, its own CRC and consistency, and the next pair's CRC
-module _ (octets places : List ℕ) (codebook thresholds : List ℤ) (q : ℕ) (inside : q < pairCount places) where
+module _ (octets places : List ℕ) (tables : Tables) (q : ℕ) (inside : q < pairCount places) where
   abbrev before : Bool
-  before = badBefore false (receivedNotes octets places codebook thresholds) q
+  before = badBefore false (receivedNotes octets places tables) q
 
   abbrev after : Bool
   after = getD (each (pairFails (received octets places)) (pairCount places)) (suc q) false
 
-  note-is : getD (receivedNotes octets places codebook thresholds) q 0 ≡ noteBy before (pairFails (received octets places) q) (pairInconsistent (received octets places) codebook thresholds q) after
+  note-is : getD (receivedNotes octets places tables) q 0 ≡ noteBy before (pairFails (received octets places) q) (pairInconsistent (received octets places) tables q) after
   unfolding pairNotes
   note-is =
       let c = pairCount places in
       let fs = each (pairFails (received octets places)) c in
-      let os = each (pairInconsistent (received octets places) codebook thresholds) c in
+      let os = each (pairInconsistent (received octets places) tables) c in
       note-at false fs os q (omega (arith, length-each (pairFails (received octets places)) c))
       ∙ ap₂ (λ (f o : Bool). noteBy (badBefore false (notes fs os) q) f o (getD fs (suc q) false)) (each-at (pairFails (received octets places)) c q false inside)
-      (each-at (pairInconsistent (received octets places) codebook thresholds) c q false inside)
+      (each-at (pairInconsistent (received octets places) tables) c q false inside)
 
   -- 1 if its CRC fails
-  pub failed-note : pairFails (received octets places) q ≡ true → getD (receivedNotes octets places codebook thresholds) q 0 ≡ 1
+  pub failed-note : pairFails (received octets places) q ≡ true → getD (receivedNotes octets places tables) q 0 ≡ 1
   failed-note e =
-      note-is ∙ ap (λ (f : Bool). noteBy before f (pairInconsistent (received octets places) codebook thresholds q) after) e ∙ failed-is-1 before (pairInconsistent (received octets places) codebook thresholds q) after
+      note-is ∙ ap (λ (f : Bool). noteBy before f (pairInconsistent (received octets places) tables q) after) e ∙ failed-is-1 before (pairInconsistent (received octets places) tables q) after
 
   -- so its CRC passed if it is 0
-  pub zero-passed : getD (receivedNotes octets places codebook thresholds) q 0 ≡ 0 → pairFails (received octets places) q ≡ false
+  pub zero-passed : getD (receivedNotes octets places tables) q 0 ≡ 0 → pairFails (received octets places) q ≡ false
   zero-passed z = by (pairFails (received octets places) q) refl
     where
       by : (t : Bool) → pairFails (received octets places) q ≡ t → pairFails (received octets places) q ≡ false
@@ -100,7 +100,7 @@ module _ (octets places : List ℕ) (codebook thresholds : List ℤ) (q : ℕ) (
       by true e = let y : _≡_ {A = ℕ} 0 1 = sym z ∙ failed-note e in absurd (omega arith)
 
   -- 0 if the CRC passes and the pair is consistent
-  pub consistent-note : pairFails (received octets places) q ≡ false → pairInconsistent (received octets places) codebook thresholds q ≡ false → getD (receivedNotes octets places codebook thresholds) q 0 ≡ 0
+  pub consistent-note : pairFails (received octets places) q ≡ false → pairInconsistent (received octets places) tables q ≡ false → getD (receivedNotes octets places tables) q 0 ≡ 0
   consistent-note e o = note-is ∙ ap₂ (λ (f x : Bool). noteBy before f x after) e o ∙ consistent-is-good before after
 
 -- ---- the first k of m multiframes
@@ -196,20 +196,20 @@ module _ (u : Utterance) (s : List ℕ) (d : Damage (multiframesOf u) (imageOf u
             ∙ take-all frameIndices g (omega arith) ∙ ap (frameAt (u .indices)) b
       ]
 
-  module _ (codebook thresholds : List ℤ) where
+  module _ (tables : Tables) where
     abbrev pub ns : List ℕ
-    ns = receivedNotes first (rowOf k) codebook thresholds
+    ns = receivedNotes first (rowOf k) tables
 
     pub notes-size : length ns ≡ pairCount (rowOf k)
-    notes-size = length-notes (received first (rowOf k)) (pairCount (rowOf k)) codebook thresholds
+    notes-size = length-notes (received first (rowOf k)) (pairCount (rowOf k)) tables
 
     -- with a good pair, settings and room it is read
-    pub read-first : (index report : List ℕ) → 0 < k → (2 ≤ k) ⊎ (flips 0 ≡ 0) → Good ns → Lent k codebook thresholds index report
-        → reading first codebook thresholds index report
+    pub read-first : (index report : List ℕ) → 0 < k → (2 ≤ k) ⊎ (flips 0 ≡ 0) → Good ns → Lent k tables index report
+        → reading first tables index report
         ≡ outcome (Read (summary first (rowOf k) ns (sentCommon u))) (over index 0 (indexOctets * length (rowOf k)) (indexPart first (rowOf k) ns))
         (over report 0 (reportOctets * length (rowOf k)) (reportPart first (rowOf k) ns (sentCommon u)))
     read-first index report some heads good lent =
-        reads-as first k (omega (arith, few)) size-first syncs-first codebook thresholds index report (sentCommon u) some lent
+        reads-as first k (omega (arith, few)) size-first syncs-first tables index report (sentCommon u) some lent
         record {
           settles = settles-first some heads;
           usable = record { rate = λ e. rate-not-2 u (sym (rate-sent u) ∙ e); exp = exp-sent u };

@@ -12,7 +12,6 @@ use native.Mathlib.Omega.{arith}
 use lib.Bits.{bitAnd, bitXor, xor-lt, xor-self, xor-zero-r, xor-block, and-mask}
 use lib.Count.{ones, onesIn}
 use lib.Dec.{eqb, lit<}
-use lib.IntN.{ℤ}
 use lib.ListN.{length, getD, take, drop}
 use borrow.Author.Tests.{eq-eqb, ne-eqb, le-ltb}
 use Rattle.polynomials.specs.Light.{ones-in}
@@ -21,6 +20,7 @@ use Rattle.lists.specs.Tests.{when, by-test, true-false}
 use Rattle.lists.specs.Parts.{over}
 use Rattle.lists.specs.Rows.{each, length-each, each-at, joined, length-joined, joined-part, same-joined}
 use Rattle.layout.specs.Layout.{frameIndices, dataBits, packetBits, multiframePairs, streamOctets, indexOctets, reportOctets, multiframeOf, firstPair, firstFrame, secondFrame}
+use Rattle.consistency.specs.Tables.{Tables}
 use Rattle.settings.specs.Settings.{settings, settingsRight}
 use Rattle.crc.specs.Crc.{right, flip, Damaged}
 use Rattle.crc.specs.Damage.{length-flip, flip-burst}
@@ -59,7 +59,7 @@ use Rattle.demands.specs.Whole.{rowOf, Lent, pairNoteIn, packet-at, readings-ar
 use Rattle.demands.specs.Headers.{sentCommon, common-sent, rate-sent, exp-sent}
 use Rattle.demands.specs.Received.{ByRule, BadPair}
 use Rattle.demands.specs.NamesTheDamage as N
-use Rattle.demands.specs.Met.{zeroBook, zeroThresholds, indexFor, reportFor, zero-consistent}
+use Rattle.demands.specs.Met.{zeroTables, indexFor, reportFor, zero-consistent}
 
 -- ---- how many bits these numbers flip
 pub none-flipped : ones 0 ≡ 0
@@ -325,39 +325,39 @@ usable u = record { rate = λ e. rate-not-2 u (sym (rate-sent u) ∙ e); exp = e
 
 -- ---- a reading with any headers that settle settings, and a good pair
 module _ (u : Utterance) (s : List ℕ) (size : length s ≡ length (imageOf u)) (syncs : (k : ℕ) → k < multiframesOf u → syncIn s k ≡ syncIn (imageOf u) k)
-    (codebook thresholds : List ℤ) (index report : List ℕ) (lent : Lent (multiframesOf u) codebook thresholds index report) (c : ℕ) where
+    (tables : Tables) (index report : List ℕ) (lent : Lent (multiframesOf u) tables index report) (c : ℕ) where
   abbrev m : ℕ
   m = multiframesOf u
 
   abbrev ns : List ℕ
-  ns = receivedNotes s (rowOf m) codebook thresholds
+  ns = receivedNotes s (rowOf m) tables
 
   -- it succeeds, and this is what it gives
-  pub reads-settled : settling (readings s (rowOf (multiframesOf u))) ≡ Settled c → Usable c → Good (receivedNotes s (rowOf (multiframesOf u)) codebook thresholds)
-      → reading s codebook thresholds index report
-      ≡ outcome (Read (summary s (rowOf (multiframesOf u)) (receivedNotes s (rowOf (multiframesOf u)) codebook thresholds) c))
-      (over index 0 (indexOctets * length (rowOf (multiframesOf u))) (indexPart s (rowOf (multiframesOf u)) (receivedNotes s (rowOf (multiframesOf u)) codebook thresholds)))
-      (over report 0 (reportOctets * length (rowOf (multiframesOf u))) (reportPart s (rowOf (multiframesOf u)) (receivedNotes s (rowOf (multiframesOf u)) codebook thresholds) c))
+  pub reads-settled : settling (readings s (rowOf (multiframesOf u))) ≡ Settled c → Usable c → Good (receivedNotes s (rowOf (multiframesOf u)) tables)
+      → reading s tables index report
+      ≡ outcome (Read (summary s (rowOf (multiframesOf u)) (receivedNotes s (rowOf (multiframesOf u)) tables) c))
+      (over index 0 (indexOctets * length (rowOf (multiframesOf u))) (indexPart s (rowOf (multiframesOf u)) (receivedNotes s (rowOf (multiframesOf u)) tables)))
+      (over report 0 (reportOctets * length (rowOf (multiframesOf u))) (reportPart s (rowOf (multiframesOf u)) (receivedNotes s (rowOf (multiframesOf u)) tables) c))
   reads-settled settled usable good =
       let rows : length (rowOf m) ≡ m = every-length 0 m in
       reads-as s m (few-multiframes (u .settings) (u .indices) (is-accepted u .sizes)) (size ∙ length-image (u .settings) (u .indices) m)
-      (λ k h. syncs k h ∙ image-sync (u .settings) (u .indices) m k h) codebook thresholds index report c (omega arith) lent
+      (λ k h. syncs k h ∙ image-sync (u .settings) (u .indices) m k h) tables index report c (omega arith) lent
       record {
         settles = settled;
         usable = usable;
         roomy = record {
           index-room = subst (λ (n : ℕ). indexOctets * n ≤ length index) (sym rows) (lent .index-room);
           report-room = subst (λ (n : ℕ). reportOctets * n ≤ length report) (sym rows) (lent .report-room);
-          not-all = λ e. none-good ns (e ∙ sym (length-notes (received s (rowOf m)) (pairCount (rowOf m)) codebook thresholds)) (good .pair) (good .within) (good .good);
+          not-all = λ e. none-good ns (e ∙ sym (length-notes (received s (rowOf m)) (pairCount (rowOf m)) tables)) (good .pair) (good .within) (good .good);
         };
       }
 
 -- ---- tables of zeros, and just enough room
 abbrev pub zeroRead : Utterance → List ℕ → Outcome
-zeroRead u s = reading s zeroBook zeroThresholds (indexFor (multiframesOf u)) (reportFor (multiframesOf u))
+zeroRead u s = reading s zeroTables (indexFor (multiframesOf u)) (reportFor (multiframesOf u))
 
 abbrev pub zeroNotes : Utterance → List ℕ → List ℕ
-zeroNotes u s = receivedNotes s (rowOf (multiframesOf u)) zeroBook zeroThresholds
+zeroNotes u s = receivedNotes s (rowOf (multiframesOf u)) zeroTables
 
 -- a pair whose CRC is right has note 0, whatever stands around it
 module _ (s : List ℕ) (m q : ℕ) (h : q < multiframePairs * m) (whole : right dataBits (packetIn s q) ≡ true) where
@@ -365,37 +365,37 @@ module _ (s : List ℕ) (m q : ℕ) (h : q < multiframePairs * m) (whole : right
   unfolding pairFails
   never-fails = ap (λ (p : List Bool). not (right dataBits p)) (packet-at s m q h) ∙ ap not whole
 
-  never-inconsistent : pairInconsistent (received s (rowOf m)) zeroBook zeroThresholds q ≡ false
+  never-inconsistent : pairInconsistent (received s (rowOf m)) zeroTables q ≡ false
   unfolding pairInconsistent
   never-inconsistent = zero-consistent (take frameIndices (framesOf (received s (rowOf m)) q)) (drop frameIndices (framesOf (received s (rowOf m)) q))
 
-  pub right-good : getD (receivedNotes s (rowOf m) zeroBook zeroThresholds) q 0 ≡ 0
+  pub right-good : getD (receivedNotes s (rowOf m) zeroTables) q 0 ≡ 0
   unfolding pairNotes
   right-good =
       let n = pairCount (rowOf m) in
       let fs = each (pairFails (received s (rowOf m))) n in
-      let os = each (pairInconsistent (received s (rowOf m)) zeroBook zeroThresholds) n in
+      let os = each (pairInconsistent (received s (rowOf m)) zeroTables) n in
       let l : q < n = omega (arith, every-length 0 m) in
       note-at false fs os q (omega (arith, length-each (pairFails (received s (rowOf m))) n))
       ∙ ap₂ (λ (x y : Bool). noteBy (badBefore false (notes fs os) q) x y (getD fs (suc q) false)) (each-at (pairFails (received s (rowOf m))) n q false l ∙ never-fails)
-      (each-at (pairInconsistent (received s (rowOf m)) zeroBook zeroThresholds) n q false l ∙ never-inconsistent)
+      (each-at (pairInconsistent (received s (rowOf m)) zeroTables) n q false l ∙ never-inconsistent)
       ∙ consistent-is-good (badBefore false (notes fs os) q) (getD fs (suc q) false)
 
   -- so there is a good one
-  pub good-pair : Good (receivedNotes s (rowOf m) zeroBook zeroThresholds)
-  good-pair = record { pair = q; within = omega (arith, length-notes (received s (rowOf m)) (pairCount (rowOf m)) zeroBook zeroThresholds, every-length 0 m); good = right-good }
+  pub good-pair : Good (receivedNotes s (rowOf m) zeroTables)
+  good-pair = record { pair = q; within = omega (arith, length-notes (received s (rowOf m)) (pairCount (rowOf m)) zeroTables, every-length 0 m); good = right-good }
 
 -- so a pair that is as it was sent is not bad, and is not named
 module _ (u : Utterance) (s : List ℕ) (q : ℕ) (whole : packetIn s q ≡ packetIn (imageOf u) q) where
-  never-ruled : ByRule u s zeroBook zeroThresholds q → ⊥
+  never-ruled : ByRule u s zeroTables q → ⊥
   never-ruled r = true-false (sym (r .0) ∙ zero-consistent (frameAt (u .indices) (firstFrame q)) (frameAt (u .indices) (secondFrame q)))
 
-  pub zero-not-bad : BadPair u s zeroBook zeroThresholds q → ⊥
+  pub zero-not-bad : BadPair u s zeroTables q → ⊥
   zero-not-bad b = ⊎-elim (λ t. t whole) never-ruled b
 
-  pub zero-unnamed : q < pairsOf u → N.Wider u s zeroBook zeroThresholds (indexFor (multiframesOf u)) (reportFor (multiframesOf u)) → pairNoteIn (zeroRead u s .report) q ≡ 0
+  pub zero-unnamed : q < pairsOf u → N.Wider u s zeroTables (indexFor (multiframesOf u)) (reportFor (multiframesOf u)) → pairNoteIn (zeroRead u s .report) q ≡ 0
   zero-unnamed h p =
-      let x = N.names-wider u s zeroBook zeroThresholds (indexFor (multiframesOf u)) (reportFor (multiframesOf u)) p in
+      let x = N.names-wider u s zeroTables (indexFor (multiframesOf u)) (reportFor (multiframesOf u)) p in
       elim (ℕ-discrete (pairNoteIn (zeroRead u s .report) q) 0) [
         | yes y ↦ y
         | no n ↦ absurd (never-ruled (x .names .others q h (λ t. t whole) .0 n))

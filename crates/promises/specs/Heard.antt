@@ -6,11 +6,11 @@ use mathlib.Core.Bool.{Bool}
 use mathlib.Core.List.{List}
 use Prim.Native.Nat.{ℕ, zero, suc, _+_, _-_, _*_, _/_, _≤_, _<_}
 use native.Mathlib.Omega.{arith}
-use lib.IntN.{ℤ}
 use lib.ListN.{length}
 use Rattle.lists.specs.Tests.{when}
 use Rattle.lists.specs.Parts.{over}
 use Rattle.layout.specs.Layout.{multiframeFrames, indexOctets, reportOctets, pairOf, firstPair}
+use Rattle.consistency.specs.Tables.{Tables}
 use Rattle.frames.specs.Frames.{allZero, zeroFrame}
 use Rattle.cutting.specs.Laws.{every-length}
 use Rattle.replacing.specs.Speech.{lastNonzero, speechOf, endOf}
@@ -34,9 +34,9 @@ same-place l r i zero same = refl
 same-place l r i (suc n) same =
     ap₂ (λ (t : Bool) (x : ℕ). when t x (suc n)) (same n (omega arith)) (same-place l r i n (λ k h. same k (omega arith)))
 
-module _ (u : Utterance) (s : List ℕ) (codebook thresholds : List ℤ) (index report : List ℕ) (p : N.Wider u s codebook thresholds index report) where
+module _ (u : Utterance) (s : List ℕ) (tables : Tables) (index report : List ℕ) (p : N.Wider u s tables index report) where
   abbrev result : Outcome
-  result = reading s codebook thresholds index report
+  result = reading s tables index report
 
   -- a pair that is not named is as it was sent
   unnamed : (q : ℕ) → q < pairsOf u → pairNoteIn (result .report) q ≡ 0 → packetIn s q ≡ packetIn (imageOf u) q
@@ -45,24 +45,24 @@ module _ (u : Utterance) (s : List ℕ) (codebook thresholds : List ℤ) (index 
       by : Fate u s (p .damage) q h → packetIn s q ≡ packetIn (imageOf u) q
       by (whole e r) = e ∙ sym (image-packet (u .settings) (u .indices) (multiframesOf u) q h)
       by (hit t r) =
-          let y : _≡_ {A = ℕ} 0 1 = sym z ∙ N.pair-note u s codebook thresholds index report p q h ∙ touched-note u s (p .damage) codebook thresholds q h t in
+          let y : _≡_ {A = ℕ} 0 1 = sym z ∙ N.pair-note u s tables index report p q h ∙ touched-note u s (p .damage) tables q h t in
           absurd (omega arith)
 
   -- HEARD WHOLE: "frames, then zeros, speech = n, end = 1"; the header notes are the flips, three for a lost one
-  pub heard-whole : ((q : ℕ) → q < pairsOf u → pairNoteIn (reading s codebook thresholds index report .report) q ≡ 0)
-      → reading s codebook thresholds index report
+  pub heard-whole : ((q : ℕ) → q < pairsOf u → pairNoteIn (reading s tables index report .report) q ≡ 0)
+      → reading s tables index report
       ≡ outcome (Read (spoken u)) (over index 0 (indexOctets * multiframesOf u) (padded u)) (over report 0 (reportOctets * multiframesOf u) (mendedReport u s))
-  heard-whole none = reads-undamaged u s (p .damage) (λ q h. unnamed q h (none q h)) (p .headers) codebook thresholds index report (p .lent)
+  heard-whole none = reads-undamaged u s (p .damage) (λ q h. unnamed q h (none q h)) (p .headers) tables index report (p .lent)
 
   -- ---- "the last multiframe wholly unnamed"
   abbrev pub LastUnnamed : Type 0
-  LastUnnamed = (q : ℕ) → firstPair (multiframesOf u - 1) ≤ q → q < pairsOf u → pairNoteIn (reading s codebook thresholds index report .report) q ≡ 0
+  LastUnnamed = (q : ℕ) → firstPair (multiframesOf u - 1) ≤ q → q < pairsOf u → pairNoteIn (reading s tables index report .report) q ≡ 0
 
   abbrev m : ℕ
   m = multiframesOf u
 
   abbrev all : List ℕ
-  all = indexPart s (rowOf m) (receivedNotes s (rowOf m) codebook thresholds)
+  all = indexPart s (rowOf m) (receivedNotes s (rowOf m) tables)
 
   rows : length (rowOf m) ≡ m
   rows = every-length 0 m
@@ -72,8 +72,8 @@ module _ (u : Utterance) (s : List ℕ) (codebook thresholds : List ℤ) (index 
   last-zero none k l h =
       let q : k / 2 < pairsOf u = omega arith in
       ap allZero
-      (N.index-frame u s codebook thresholds index report p k h
-      (sym (N.pair-note u s codebook thresholds index report p (pairOf k) q) ∙ none (pairOf k) (omega arith) q)
+      (N.index-frame u s tables index report p k h
+      (sym (N.pair-note u s tables index report p (pairOf k) q) ∙ none (pairOf k) (omega arith) q)
       ∙ sym (padded-frame u k h))
 
   last-speech : LastUnnamed → speechOf (length (rowOf m)) all ≡ frameCount (u .indices)
@@ -89,10 +89,10 @@ module _ (u : Utterance) (s : List ℕ) (codebook thresholds : List ℤ) (index 
       ∙ ap (λ (t : Bool). when t 1 0) (last-zero none (multiframeFrames * m - 1) (omega arith) (omega arith)) ∙ end-is-1 u
 
   -- LAST HEARD: speech and end are as sent, whatever was named before
-  pub last-heard : LastUnnamed → (given : Summary) → reading s codebook thresholds index report .answer ≡ Read given
+  pub last-heard : LastUnnamed → (given : Summary) → reading s tables index report .answer ≡ Read given
       → (given .speech ≡ frameCount (u .indices)) × (given .end ≡ 1)
   last-heard none given e =
-      let r : Read given ≡ Read (summary s (rowOf m) (receivedNotes s (rowOf m) codebook thresholds) (sentCommon u)) =
-      sym e ∙ ap (λ (o : Outcome). o .answer) (N.read-is u s codebook thresholds index report p) in
-      let g : given ≡ summary s (rowOf m) (receivedNotes s (rowOf m) codebook thresholds) (sentCommon u) = cc in
+      let r : Read given ≡ Read (summary s (rowOf m) (receivedNotes s (rowOf m) tables) (sentCommon u)) =
+      sym e ∙ ap (λ (o : Outcome). o .answer) (N.read-is u s tables index report p) in
+      let g : given ≡ summary s (rowOf m) (receivedNotes s (rowOf m) tables) (sentCommon u) = cc in
       (ap (λ (x : Summary). x .speech) g ∙ last-speech none, ap (λ (x : Summary). x .end) g ∙ last-end none)

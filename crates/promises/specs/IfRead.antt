@@ -7,11 +7,11 @@ use mathlib.Core.Logic.{inl, inr}
 use Prim.Native.Nat.{ℕ, _*_, _≤_, _<_}
 use native.Mathlib.Decide.{ℕ-discrete, decLt}
 use native.Mathlib.Omega.{arith}
-use lib.IntN.{ℤ}
 use lib.ListN.{length, getD}
 use Rattle.lists.specs.Tests.{true-false}
 use Rattle.lists.specs.Parts.{over}
 use Rattle.layout.specs.Layout.{indexOctets, reportOctets, sync}
+use Rattle.consistency.specs.Tables.{Tables}
 use Rattle.cutting.specs.Cutting.{Cutting, cutting}
 use Rattle.cutting.specs.Laws.{every-length}
 use Rattle.settling.specs.Settling.{readings, settling}
@@ -36,13 +36,13 @@ use Rattle.demands.specs.ReadsBack.{spoken, padded, mendedReport}
 use Rattle.demands.specs.WritesAgain as A
 use Rattle.promises.specs.Heard as H
 
-module _ (u : Utterance) (s : List ℕ) (d : DamageUpTo 3 (multiframesOf u) (imageOf u) s) (codebook thresholds : List ℤ) (index report : List ℕ) (given : Summary)
-    (e : reading s codebook thresholds index report .answer ≡ Read given) where
+module _ (u : Utterance) (s : List ℕ) (d : DamageUpTo 3 (multiframesOf u) (imageOf u) s) (tables : Tables) (index report : List ℕ) (given : Summary)
+    (e : reading s tables index report .answer ≡ Read given) where
   abbrev m : ℕ
   m = multiframesOf u
 
-  w : A.WasRead s codebook thresholds index report [] given
-  w = A.was-read s codebook thresholds index report [] given e
+  w : A.WasRead s tables index report [] given
+  w = A.was-read s tables index report [] given e
 
   syncs : (k : ℕ) → k < m → syncIn s k ≡ sync
   syncs k h = d .syncs k h ∙ image-sync (u .settings) (u .indices) m k h
@@ -71,31 +71,31 @@ module _ (u : Utterance) (s : List ℕ) (d : DamageUpTo 3 (multiframesOf u) (ima
       ]
 
   abbrev ns : List ℕ
-  ns = receivedNotes s (rowOf m) codebook thresholds
+  ns = receivedNotes s (rowOf m) tables
 
   -- a pair that is not bad
   good : Good ns
   good =
       some-good ns
       (below (badPairs ns) (length ns) (few-bad ns)
-      (λ x. subst (λ (ps : List ℕ). badPairs (receivedNotes s ps codebook thresholds) ≡ pairCount ps → ⊥) cut (w .reader-accepts .fitting .roomy .not-all)
-      (x ∙ length-notes (received s (rowOf m)) (pairCount (rowOf m)) codebook thresholds)))
+      (λ x. subst (λ (ps : List ℕ). badPairs (receivedNotes s ps tables) ≡ pairCount ps → ⊥) cut (w .reader-accepts .fitting .roomy .not-all)
+      (x ∙ length-notes (received s (rowOf m)) (pairCount (rowOf m)) tables)))
     where
       below : (a b : ℕ) → a ≤ b → (a ≡ b → ⊥) → a < b
       below a b h n = omega arith
 
   inside : good .pair < pairsOf u
-  inside = let l = good .within in omega (arith, length-notes (received s (rowOf m)) (pairCount (rowOf m)) codebook thresholds, every-length 0 m)
+  inside = let l = good .within in omega (arith, length-notes (received s (rowOf m)) (pairCount (rowOf m)) tables, every-length 0 m)
 
-  not-bad : BadPair u s codebook thresholds (good .pair) → ⊥
-  not-bad b = by (tells-bad u s d codebook thresholds (good .pair) inside)
+  not-bad : BadPair u s tables (good .pair) → ⊥
+  not-bad b = by (tells-bad u s d tables (good .pair) inside)
     where
-      by : Tells (BadPair u s codebook thresholds (good .pair)) (bad (getD ns (good .pair) 0)) → ⊥
+      by : Tells (BadPair u s tables (good .pair)) (bad (getD ns (good .pair) 0)) → ⊥
       by (is-so x t) = true-false (sym t ∙ ap bad (good .good))
       by (not-so n t) = n b
 
   -- so the premises hold
-  pub wider-if-read : N.Wider u s codebook thresholds index report
+  pub wider-if-read : N.Wider u s tables index report
   wider-if-read = record {
     damage = d;
     headers = heads;
@@ -111,22 +111,22 @@ module _ (u : Utterance) (s : List ℕ) (d : DamageUpTo 3 (multiframesOf u) (ima
   }
 
   abbrev result : Outcome
-  result = reading s codebook thresholds index report
+  result = reading s tables index report
 
   -- NAMES THE DAMAGE, IF IT IS READ
-  pub names-if-read : N.Names u s codebook thresholds given (reading s codebook thresholds index report .index) (reading s codebook thresholds index report .report)
+  pub names-if-read : N.Names u s tables given (reading s tables index report .index) (reading s tables index report .report)
   names-if-read =
-      let n = N.names-wider u s codebook thresholds index report wider-if-read in
+      let n = N.names-wider u s tables index report wider-if-read in
       let r : Read (n .given) ≡ Read given = sym (n .succeeds) ∙ e in
       let g : n .given ≡ given = cc in
-      subst (λ (x : Summary). N.Names u s codebook thresholds x (result .index) (result .report)) g (n .names)
+      subst (λ (x : Summary). N.Names u s tables x (result .index) (result .report)) g (n .names)
 
   -- HEARD WHOLE, IF IT IS READ: no pair named
-  pub heard-if-read : ((q : ℕ) → q < pairsOf u → pairNoteIn (reading s codebook thresholds index report .report) q ≡ 0)
-      → reading s codebook thresholds index report
+  pub heard-if-read : ((q : ℕ) → q < pairsOf u → pairNoteIn (reading s tables index report .report) q ≡ 0)
+      → reading s tables index report
       ≡ outcome (Read (spoken u)) (over index 0 (indexOctets * multiframesOf u) (padded u)) (over report 0 (reportOctets * multiframesOf u) (mendedReport u s))
-  heard-if-read = H.heard-whole u s codebook thresholds index report wider-if-read
+  heard-if-read = H.heard-whole u s tables index report wider-if-read
 
   -- LAST HEARD, IF IT IS READ: no pair of the last multiframe named
-  pub last-if-read : H.LastUnnamed u s codebook thresholds index report wider-if-read → (given .speech ≡ frameCount (u .indices)) × (given .end ≡ 1)
-  last-if-read none = H.last-heard u s codebook thresholds index report wider-if-read none given e
+  pub last-if-read : H.LastUnnamed u s tables index report wider-if-read → (given .speech ≡ frameCount (u .indices)) × (given .end ≡ 1)
+  last-if-read none = H.last-heard u s tables index report wider-if-read none given e

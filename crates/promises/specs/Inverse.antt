@@ -5,11 +5,11 @@ use mathlib.Core.Path.{_≡_, refl, sym, ap, ap₂, _∙_, subst}
 use mathlib.Core.List.{List, [], _∷_, _++_, append-nil, append-assoc}
 use Prim.Native.Nat.{ℕ, zero, suc, _+_, _-_, _*_, _≤_, _<_}
 use native.Mathlib.Omega.{arith}
-use lib.IntN.{ℤ}
 use lib.ListN.{length, take, drop, getD, replicate, length-append, length-drop, take-append-drop}
 use lib.Seq.{take-at, drop-length, drop-drop, getD-take}
 use Rattle.lists.specs.Parts.{part, part-right, length-part}
 use Rattle.layout.specs.Layout.{multiframeOctets, syncOctets, headerOctets, streamOctets, mostMultiframes, sync, syncFirst, syncSecond, inverseFirst, inverseSecond}
+use Rattle.consistency.specs.Tables.{Tables, RightTables}
 use Rattle.cutting.specs.declared.Piece.the-variants.{CutShort, TooMany}
 use Rattle.cutting.specs.Cutting.{pieceOf, Cutting, whole, cutting}
 use Rattle.cutting.specs.Laws.{one-too-many, lone-sync, every-length, Chunk, multiframe, inverse, octetsOf, placesOf, Proper, cut-chunks, places-placed}
@@ -23,11 +23,11 @@ use Rattle.writer.specs.Made.{syncIn}
 use Rattle.writer.specs.Image.{image-sync, Utterance, multiframesOf, imageOf, is-accepted}
 use Rattle.demands.specs.Damage.{Damage}
 use Rattle.demands.specs.Whole.{rowOf, cut-is}
-use Rattle.demands.specs.Met.{zeroBook, zeroThresholds, indexFor, reportFor, lent-zeros, hurtImage, hurts, says24, two-multiframes, names-says24}
+use Rattle.demands.specs.Met.{zeroTables, indexFor, reportFor, lent-zeros, hurtImage, hurts, says24, two-multiframes, names-says24}
 use Rattle.demands.specs.NamesTheDamage as N
 use Rattle.promises.specs.Same.{same-read}
 use Rattle.promises.specs.First as F
-use Rattle.promises.specs.Chunks.{multiframesIn, multiframeCount, inverseCount, places-count, chunk-octets, refused-behind, chunked, Refuses, Tables, cut-refuses, none-refuses}
+use Rattle.promises.specs.Chunks.{multiframesIn, multiframeCount, inverseCount, places-count, chunk-octets, refused-behind, chunked, Refuses, cut-refuses, none-refuses}
 
 -- ---- chunks without their inverse syncs
 abbrev pub plain : List Chunk → List Chunk
@@ -64,15 +64,15 @@ at-places (inverse ∷ cs) pre k ok h =
 
 -- ---- THE THEOREM: whole multiframes, 1 to 255 of them, with any inverse syncs anywhere among them, are read as without them
 pub inverses-change-nothing : (cs : List Chunk) → Proper cs → 0 < multiframeCount cs → multiframeCount cs ≤ mostMultiframes
-    → (codebook thresholds : List ℤ) (index report : List ℕ)
-    → reading (octetsOf cs) codebook thresholds index report ≡ reading (octetsOf (plain cs)) codebook thresholds index report
-inverses-change-nothing cs ok some few codebook thresholds index report =
+    → (tables : Tables) (index report : List ℕ)
+    → reading (octetsOf cs) tables index report ≡ reading (octetsOf (plain cs)) tables index report
+inverses-change-nothing cs ok some few tables index report =
     same-read (octetsOf cs) (placesOf 0 cs) (octetsOf (plain cs)) (placesOf 0 (plain cs)) count
     (λ k h. at-places cs [] k ok h ∙ sym (ap (λ (l : List (List ℕ)). getD l k []) (same-multiframes cs))
     ∙ sym (at-places (plain cs) [] k (plain-proper cs ok) (omega (arith, count))))
     (λ k h. subst (λ (w : Cutting). k < length (w .places) → getD (w .places) k 0 + multiframeOctets ≤ length (octetsOf cs)) c₁ (places-placed (octetsOf cs) k) h)
     (λ k h. subst (λ (w : Cutting). k < length (w .places) → getD (w .places) k 0 + multiframeOctets ≤ length (octetsOf (plain cs))) c₂ (places-placed (octetsOf (plain cs)) k) h)
-    codebook thresholds index report c₁ c₂ (omega (arith, places-count cs 0))
+    tables index report c₁ c₂ (omega (arith, places-count cs 0))
   where
     count : length (placesOf 0 cs) ≡ length (placesOf 0 (plain cs))
     count = places-count cs 0 ∙ sym (ap length (same-multiframes cs)) ∙ sym (places-count (plain cs) 0)
@@ -111,9 +111,9 @@ found s = length (cutting s .places)
 
 -- it changes nothing between any octets a and b, each of which is cut to its end
 pub one-inverse : (a b : List ℕ) → cutting a .ending ≡ whole → cutting b .ending ≡ whole → 0 < found a + found b → found a + found b ≤ mostMultiframes
-    → (codebook thresholds : List ℤ) (index report : List ℕ)
-    → reading (a ++ (inverseFirst ∷ inverseSecond ∷ b)) codebook thresholds index report ≡ reading (a ++ b) codebook thresholds index report
-one-inverse a b ca cb some few codebook thresholds index report =
+    → (tables : Tables) (index report : List ℕ)
+    → reading (a ++ (inverseFirst ∷ inverseSecond ∷ b)) tables index report ≡ reading (a ++ b) tables index report
+one-inverse a b ca cb some few tables index report =
     let x = chunked a ca in
     let y = chunked b cb in
     let cs = x .chunks in
@@ -123,20 +123,20 @@ one-inverse a b ca cb some few codebook thresholds index report =
     let without : octetsOf (cs ++ ds) ≡ a ++ b = octets-append cs ds ∙ ap₂ (λ (l m : List ℕ). l ++ m) (x .octets) (y .octets) in
     let n : multiframeCount (cs ++ ds) ≡ found a + found b = count-append cs ds ∙ ap₂ _+_ (x .counted) (y .counted) in
     let n1 : multiframeCount (cs ++ (inverse ∷ ds)) ≡ found a + found b = count-append cs (inverse ∷ ds) ∙ ap₂ _+_ (x .counted) (y .counted) in
-    ap (λ (s : List ℕ). reading s codebook thresholds index report) (sym with-one)
-    ∙ inverses-change-nothing (cs ++ (inverse ∷ ds)) (proper-append cs (inverse ∷ ds) (x .proper) (y .proper)) (omega (arith, n1)) (omega (arith, n1)) codebook thresholds index report
-    ∙ ap (λ (l : List Chunk). reading (octetsOf l) codebook thresholds index report) (plain-append cs (inverse ∷ ds) ∙ sym (plain-append cs ds))
-    ∙ sym (inverses-change-nothing (cs ++ ds) (proper-append cs ds (x .proper) (y .proper)) (omega (arith, n)) (omega (arith, n)) codebook thresholds index report)
-    ∙ ap (λ (s : List ℕ). reading s codebook thresholds index report) without
+    ap (λ (s : List ℕ). reading s tables index report) (sym with-one)
+    ∙ inverses-change-nothing (cs ++ (inverse ∷ ds)) (proper-append cs (inverse ∷ ds) (x .proper) (y .proper)) (omega (arith, n1)) (omega (arith, n1)) tables index report
+    ∙ ap (λ (l : List Chunk). reading (octetsOf l) tables index report) (plain-append cs (inverse ∷ ds) ∙ sym (plain-append cs ds))
+    ∙ sym (inverses-change-nothing (cs ++ ds) (proper-append cs ds (x .proper) (y .proper)) (omega (arith, n)) (omega (arith, n)) tables index report)
+    ∙ ap (λ (s : List ℕ). reading s tables index report) without
 
 -- so before any multiframe of an image of any accepted utterance, with any damage that demand 3 counts, and behind the last
-pub one-in-image : (u : Utterance) (s : List ℕ) → Damage (multiframesOf u) (imageOf u) s → (k : ℕ) → k ≤ multiframesOf u → (codebook thresholds : List ℤ) (index report : List ℕ)
-    → reading (take (multiframeOctets * k) s ++ (inverseFirst ∷ inverseSecond ∷ drop (multiframeOctets * k) s)) codebook thresholds index report
-    ≡ reading s codebook thresholds index report
-one-in-image u s d k within codebook thresholds index report =
+pub one-in-image : (u : Utterance) (s : List ℕ) → Damage (multiframesOf u) (imageOf u) s → (k : ℕ) → k ≤ multiframesOf u → (tables : Tables) (index report : List ℕ)
+    → reading (take (multiframeOctets * k) s ++ (inverseFirst ∷ inverseSecond ∷ drop (multiframeOctets * k) s)) tables index report
+    ≡ reading s tables index report
+one-in-image u s d k within tables index report =
     one-inverse (take (multiframeOctets * k) s) (drop (multiframeOctets * k) s) (ap (λ (w : Cutting). w .ending) front) (ap (λ (w : Cutting). w .ending) back) (omega (arith, n)) (omega (arith, n, few))
-    codebook thresholds index report
-    ∙ ap (λ (l : List ℕ). reading l codebook thresholds index report) (take-append-drop (multiframeOctets * k) s)
+    tables index report
+    ∙ ap (λ (l : List ℕ). reading l tables index report) (take-append-drop (multiframeOctets * k) s)
   where
     few : multiframesOf u ≤ mostMultiframes
     few = F.few u s d k within
@@ -249,18 +249,18 @@ module _ (g : ℕ → ℕ) (s : List ℕ) where
 
 -- they change nothing of the reading of m multiframes, each with its sync
 pub spaced-same : (s : List ℕ) (m : ℕ) → 0 < m → m ≤ mostMultiframes → length s ≡ multiframeOctets * m
-    → ((k : ℕ) → k < m → syncIn s k ≡ sync) → (g : ℕ → ℕ) (codebook thresholds : List ℤ) (index report : List ℕ)
-    → reading (spaced g s m) codebook thresholds index report ≡ reading s codebook thresholds index report
-spaced-same s m some few size syncs g codebook thresholds index report =
+    → ((k : ℕ) → k < m → syncIn s k ≡ sync) → (g : ℕ → ℕ) (tables : Tables) (index report : List ℕ)
+    → reading (spaced g s m) tables index report ≡ reading s tables index report
+spaced-same s m some few size syncs g tables index report =
     let z : 0 + m ≡ m = omega arith in
     let n = spaced-count g s 0 m in
-    ap (λ (l : List ℕ). reading l codebook thresholds index report) (sym (spaced-octets g s 0 m))
-    ∙ inverses-change-nothing (spacedChunks g s 0 m) (spaced-proper g s m size syncs 0 m z) (omega (arith, n)) (omega (arith, n)) codebook thresholds index report
-    ∙ ap (λ (l : List ℕ). reading l codebook thresholds index report) (spaced-plain g s 0 m (omega arith))
+    ap (λ (l : List ℕ). reading l tables index report) (sym (spaced-octets g s 0 m))
+    ∙ inverses-change-nothing (spacedChunks g s 0 m) (spaced-proper g s m size syncs 0 m z) (omega (arith, n)) (omega (arith, n)) tables index report
+    ∙ ap (λ (l : List ℕ). reading l tables index report) (spaced-plain g s 0 m (omega arith))
 
 -- nor of an image of any accepted utterance, with any damage that demand 3 counts
-pub spaced-image : (u : Utterance) (s : List ℕ) → Damage (multiframesOf u) (imageOf u) s → (g : ℕ → ℕ) (codebook thresholds : List ℤ) (index report : List ℕ)
-    → reading (spaced g s (multiframesOf u)) codebook thresholds index report ≡ reading s codebook thresholds index report
+pub spaced-image : (u : Utterance) (s : List ℕ) → Damage (multiframesOf u) (imageOf u) s → (g : ℕ → ℕ) (tables : Tables) (index report : List ℕ)
+    → reading (spaced g s (multiframesOf u)) tables index report ≡ reading s tables index report
 spaced-image u s d =
     let m = multiframesOf u in
     spaced-same s m (omega arith) (few-multiframes (u .settings) (u .indices) (is-accepted u .sizes))
@@ -274,9 +274,9 @@ apart24 =
 
 pub record Apart24 (index report : List ℕ) : Type 0 where
   pub longer : length apart24 ≡ length (hurtImage says24) + 12
-  pub same : reading apart24 zeroBook zeroThresholds index report ≡ reading (hurtImage says24) zeroBook zeroThresholds index report
+  pub same : reading apart24 zeroTables index report ≡ reading (hurtImage says24) zeroTables index report
   pub given : Summary
-  pub is-read : reading apart24 zeroBook zeroThresholds index report .answer ≡ Read given
+  pub is-read : reading apart24 zeroTables index report .answer ≡ Read given
   pub multiframes-2 : given .multiframes ≡ 2
 
 pub apart-24 : Apart24 (indexFor 2) (reportFor 2)
@@ -300,14 +300,14 @@ apart-24 = record {
         let lb : length b ≡ multiframeOctets = length-part (hurtImage says24) multiframeOctets multiframeOctets (omega (arith, size)) in
         omega (arith, length-append a (0x78 ∷ 0x4D ∷ 0x78 ∷ 0x4D ∷ (b ++ three)), length-append b three, size)
 
-    same : reading apart24 zeroBook zeroThresholds (indexFor 2) (reportFor 2) ≡ reading (hurtImage says24) zeroBook zeroThresholds (indexFor 2) (reportFor 2)
+    same : reading apart24 zeroTables (indexFor 2) (reportFor 2) ≡ reading (hurtImage says24) zeroTables (indexFor 2) (reportFor 2)
     same =
-        ap (λ (n : ℕ). reading (spaced suc (hurtImage says24) n) zeroBook zeroThresholds (indexFor 2) (reportFor 2)) (sym two-multiframes)
-        ∙ spaced-image says24 (hurtImage says24) (hurts says24) suc zeroBook zeroThresholds (indexFor 2) (reportFor 2)
+        ap (λ (n : ℕ). reading (spaced suc (hurtImage says24) n) zeroTables (indexFor 2) (reportFor 2)) (sym two-multiframes)
+        ∙ spaced-image says24 (hurtImage says24) (hurts says24) suc zeroTables (indexFor 2) (reportFor 2)
 
-    named : N.Named says24 (hurtImage says24) zeroBook zeroThresholds (indexFor 2) (reportFor 2)
-    named = N.names-the-damage says24 (hurtImage says24) zeroBook zeroThresholds (indexFor 2) (reportFor 2)
-        (subst (λ (n : ℕ). N.Premises says24 (hurtImage says24) zeroBook zeroThresholds (indexFor n) (reportFor n)) two-multiframes names-says24)
+    named : N.Named says24 (hurtImage says24) zeroTables (indexFor 2) (reportFor 2)
+    named = N.names-the-damage says24 (hurtImage says24) zeroTables (indexFor 2) (reportFor 2)
+        (subst (λ (n : ℕ). N.Premises says24 (hurtImage says24) zeroTables (indexFor n) (reportFor n)) two-multiframes names-says24)
 
 -- ---- the premises are needed
 -- outcomes that are refused at different places are different
@@ -317,9 +317,9 @@ moved o₁ o₂ index report n p q x y d e =
     let f : x .refusal ≡ y .refusal = cc in
     d (sym (x .place-is) ∙ ap readingPlace f ∙ y .place-is)
 
-module _ (codebook thresholds : List ℤ) (index report : List ℕ) (tables : Tables codebook thresholds) where
+module _ (tables : Tables) (index report : List ℕ) (sized : RightTables tables) where
   abbrev pub read : List ℕ → Outcome
-  read s = reading s codebook thresholds index report
+  read s = reading s tables index report
 
   -- NO MULTIFRAME: refusal 14 gives the number of octets, so inverse syncs alone change it
   pub none-moves : (n : ℕ) → Refuses (read (inverses n)) index report 14 (syncOctets * n)
@@ -328,7 +328,7 @@ module _ (codebook thresholds : List ℤ) (index report : List ℕ) (tables : Ta
       let c : cutting (inverses n) ≡ record { places = []; ending = whole } =
       ap cutting (sym e) ∙ cut-chunks (quiet n []) (quiet-proper n [] tt) (omega (arith, ap length (quiet-places n 0)))
       ∙ ap (λ (l : List ℕ). record { places = l; ending = whole }) (quiet-places n 0) in
-      subst (Refuses (read (inverses n)) index report 14) (inverses-length n) (none-refuses (inverses n) codebook thresholds index report tables c)
+      subst (Refuses (read (inverses n)) index report 14) (inverses-length n) (none-refuses (inverses n) tables index report sized c)
 
   -- one inverse sync is refused at place 2, nothing at place 0, and these outcomes differ
   pub one-sync-14 : Refuses (read (0x78 ∷ 0x4D ∷ [])) index report 14 2
@@ -348,7 +348,7 @@ module _ (codebook thresholds : List ℤ) (index report : List ℕ) (tables : Ta
       let n : length (octetsOf cs) ≡ 36720 + 2 * inverseCount cs = chunk-octets cs ok ∙ omega arith in
       let bad : pieceOf (syncFirst ∷ syncSecond ∷ r) (multiframeCount cs) ≡ TooMany = rw all (one-too-many (length (syncFirst ∷ syncSecond ∷ r)) (omega arith)) in
       subst (Refuses (read s) index report 15) n
-      (cut-refuses s codebook thresholds index report tables (RR.TooMany (length (octetsOf cs)))
+      (cut-refuses s tables index report sized (RR.TooMany (length (octetsOf cs)))
       (refused-behind cs (syncFirst ∷ syncSecond ∷ r) TooMany (RR.TooMany (length (octetsOf cs))) ok (omega arith) bad (λ v w. refl)))
 
   -- of 255 multiframes and a sync it is 36,720, with one inverse sync in front 36,722, and these outcomes differ
@@ -373,7 +373,7 @@ module _ (codebook thresholds : List ℤ) (index report : List ℕ) (tables : Ta
   lone-moves cs ok few =
       let s = octetsOf cs ++ (syncFirst ∷ []) in
       subst (Refuses (read s) index report 13) (chunk-octets cs ok)
-      (cut-refuses s codebook thresholds index report tables (RR.CutShort (length (octetsOf cs)))
+      (cut-refuses s tables index report sized (RR.CutShort (length (octetsOf cs)))
       (refused-behind cs (syncFirst ∷ []) CutShort (RR.CutShort (length (octetsOf cs))) ok few (lone-sync 0 (multiframeCount cs)) (λ v w. refl)))
 
   -- 78 4D 87 is refused at place 2, and 87 at place 0
@@ -396,8 +396,8 @@ blanks-count (suc n) = (ap suc (blanks-count n .0), blanks-count n .1)
 
 -- so with 255 of them and a sync an inverse sync changes the outcome
 pub past-255 : (index report : List ℕ)
-    → reading (inverseFirst ∷ inverseSecond ∷ (octetsOf (blanks mostMultiframes) ++ sync)) zeroBook zeroThresholds index report
-    ≡ reading (octetsOf (blanks mostMultiframes) ++ sync) zeroBook zeroThresholds index report → ⊥
+    → reading (inverseFirst ∷ inverseSecond ∷ (octetsOf (blanks mostMultiframes) ++ sync)) zeroTables index report
+    ≡ reading (octetsOf (blanks mostMultiframes) ++ sync) zeroTables index report → ⊥
 past-255 index report =
-    not-past-255 zeroBook zeroThresholds index report (record { codebook-size = lent-zeros 1 .codebook-size; thresholds-size = lent-zeros 1 .thresholds-size }) (blanks mostMultiframes) []
+    not-past-255 zeroTables index report (lent-zeros 1 .codebook-size, lent-zeros 1 .thresholds-size) (blanks mostMultiframes) []
     (blanks-proper mostMultiframes) (blanks-count mostMultiframes .0) (blanks-count mostMultiframes .1)

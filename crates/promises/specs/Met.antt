@@ -11,13 +11,13 @@ use native.Mathlib.Omega.{arith}
 use lib.Bits.{bitXor}
 use lib.Count.{ones}
 use lib.Dec.{eqb, ltb, lit<}
-use lib.IntN.{ℤ}
 use lib.ListN.{length, getD, replicate, length-replicate}
 use borrow.Author.Tests.{ne-eqb, lt-ltb, le-ltb}
 use Rattle.lists.specs.Tests.{when, by-test}
 use Rattle.lists.specs.Parts.{over}
 use Rattle.lists.specs.Rows.{same-joined}
 use Rattle.layout.specs.Layout.{widths, frameIndices, dataBits, packetBits, multiframePairs, indexOctets, reportOctets, firstFrame, secondFrame, firstPair}
+use Rattle.consistency.specs.Tables.{Tables}
 use Rattle.settings.specs.declared.Settings.{Settings}
 use Rattle.settings.specs.Settings.{settings}
 use Rattle.frames.specs.Frames.{zeroFrame}
@@ -52,7 +52,7 @@ use Rattle.demands.specs.NamesTheDamage as N
 use Rattle.demands.specs.Whole.{rowOf, Lent, front-at, headerNoteIn, pairNoteIn, header-note-is}
 use Rattle.demands.specs.ToldApart.{Near}
 use Rattle.demands.specs.Instances.{says1}
-use Rattle.demands.specs.Met.{zeroBook, zeroThresholds, indexFor, reportFor, lent-zeros, distance, small-ones, says24, two-multiframes}
+use Rattle.demands.specs.Met.{zeroTables, indexFor, reportFor, lent-zeros, distance, small-ones, says24, two-multiframes}
 use Rattle.promises.specs.Misled as M
 use Rattle.promises.specs.Trusted as T
 use Rattle.promises.specs.Heard as S
@@ -152,17 +152,17 @@ module _ (u : Utterance) (b c : ℕ) (lb : b < 2 ^ 32) (lc : c < 2 ^ 32) (f : �
       ≡ outcome (Read (summary s (rowOf m) (zeroNotes u s) (sentCommon u))) (over (indexFor m) 0 (indexOctets * length (rowOf m)) (indexPart s (rowOf m) (zeroNotes u s)))
       (over (reportFor m) 0 (reportOctets * length (rowOf m)) (reportPart s (rowOf m) (zeroNotes u s) (sentCommon u)))
   read-is =
-      reads-settled u s (flipped-size u (inSecond b c) f) (flipped-syncs u (inSecond b c) f) zeroBook zeroThresholds (indexFor m) (reportFor m) (lent-zeros m) (sentCommon u)
+      reads-settled u s (flipped-size u (inSecond b c) f) (flipped-syncs u (inSecond b c) f) zeroTables (indexFor m) (reportFor m) (lent-zeros m) (sentCommon u)
       settled (usable u) (good-pair s m q within whole)
 
   pub harmless : Harmless u (flipped u (inSecond b c) f) n
   harmless = record {
     given = summary s (rowOf m) (zeroNotes u s) (sentCommon u);
     succeeds = ap (λ (o : Outcome). o .answer) read-is;
-    sent = M.never-misled u s (misled-met u b c lb lc f (omega arith) (omega arith)) zeroBook zeroThresholds (indexFor m) (reportFor m)
+    sent = M.never-misled u s (misled-met u b c lb lc f (omega arith) (omega arith)) zeroTables (indexFor m) (reportFor m)
         (summary s (rowOf m) (zeroNotes u s) (sentCommon u)) (ap (λ (o : Outcome). o .answer) read-is);
     noted = ap (λ (o : Outcome). headerNoteIn (o .report) 1) read-is
-        ∙ header-note-is s (rowOf m) (zeroNotes u s) (reportFor m) (sentCommon u) (reportOctets * length (rowOf m)) (length-notes (received s (rowOf m)) (pairCount (rowOf m)) zeroBook zeroThresholds) 1
+        ∙ header-note-is s (rowOf m) (zeroNotes u s) (reportFor m) (sentCommon u) (reportOctets * length (rowOf m)) (length-notes (received s (rowOf m)) (pairCount (rowOf m)) zeroTables) 1
         (omega (arith, every-length 0 m))
         ∙ ap (headerNote (sentCommon u) 1) second ∙ noted-11 u eight 1 (wordIn s 1) ∙ ap (λ (x : ℕ). x + 8) (header-near (at11 u) s 1 (omega arith) ∙ far-11);
   }
@@ -190,11 +190,11 @@ pub only-five : (f : ℕ → List Bool) → M.Premises says1 (flipped says1 (λ 
 only-five f = (only-met says1 refl 31 (lit< tt) f (le-of-eq five-flipped), flips-are says1 (λ k. 31) f (λ k. lit< tt) 0 (lit< tt) ∙ five-flipped)
 
 -- ---- TRUSTED: every image as it was written is read without a warning, whatever the tables; the theorem says that no other damaged image is
-module _ (u : Utterance) (codebook thresholds : List ℤ) (index report : List ℕ) (lent : Lent (multiframesOf u) codebook thresholds index report) where
-  pub without-warning : T.WithoutWarning (imageOf u) codebook thresholds index report (spoken u)
+module _ (u : Utterance) (tables : Tables) (index report : List ℕ) (lent : Lent (multiframesOf u) tables index report) where
+  pub without-warning : T.WithoutWarning (imageOf u) tables index report (spoken u)
   without-warning =
       let n = reportOctets * multiframesOf u in
-      let r = reads-image u codebook thresholds index report lent in
+      let r = reads-image u tables index report lent in
       record {
         succeeds = ap (λ (o : Outcome). o .answer) r;
         notes-0 = λ i h.
@@ -203,8 +203,8 @@ module _ (u : Utterance) (codebook thresholds : List ℤ) (index report : List �
 
 -- both premises, with tables of zeros
 pub trusted-met : (u : Utterance) → Damage (multiframesOf u) (imageOf u) (imageOf u)
-    × T.WithoutWarning (imageOf u) zeroBook zeroThresholds (indexFor (multiframesOf u)) (reportFor (multiframesOf u)) (spoken u)
-trusted-met u = (unharmed u, without-warning u zeroBook zeroThresholds (indexFor (multiframesOf u)) (reportFor (multiframesOf u)) (lent-zeros (multiframesOf u)))
+    × T.WithoutWarning (imageOf u) zeroTables (indexFor (multiframesOf u)) (reportFor (multiframesOf u)) (spoken u)
+trusted-met u = (unharmed u, without-warning u zeroTables (indexFor (multiframesOf u)) (reportFor (multiframesOf u)) (lent-zeros (multiframesOf u)))
 
 -- the premises of trusted-by-one alone leave more: one header has five flips and the others seven, and every pair is damaged
 abbrev pub fiveElse : ℕ → ℕ
@@ -256,22 +256,22 @@ abbrev pub lostOne : Utterance → List ℕ
 lostOne u = flipped u lostSecond (packetOf (u .indices))
 
 -- so it is heard whole: the frames, then zeros, speech n, end 1; and the notes of the headers are 2, 3 and 1
-pub record Heard (u : Utterance) (codebook thresholds : List ℤ) (index report : List ℕ) : Type 0 where
-  pub succeeds : reading (lostOne u) codebook thresholds index report .answer ≡ Read (spoken u)
-  pub frames : reading (lostOne u) codebook thresholds index report .index ≡ over index 0 (indexOctets * multiframesOf u) (padded u)
-  pub first : headerNoteIn (reading (lostOne u) codebook thresholds index report .report) 0 ≡ 2
-  pub second : headerNoteIn (reading (lostOne u) codebook thresholds index report .report) 1 ≡ 3
-  pub third : headerNoteIn (reading (lostOne u) codebook thresholds index report .report) 2 ≡ 1
+pub record Heard (u : Utterance) (tables : Tables) (index report : List ℕ) : Type 0 where
+  pub succeeds : reading (lostOne u) tables index report .answer ≡ Read (spoken u)
+  pub frames : reading (lostOne u) tables index report .index ≡ over index 0 (indexOctets * multiframesOf u) (padded u)
+  pub first : headerNoteIn (reading (lostOne u) tables index report .report) 0 ≡ 2
+  pub second : headerNoteIn (reading (lostOne u) tables index report .report) 1 ≡ 3
+  pub third : headerNoteIn (reading (lostOne u) tables index report .report) 2 ≡ 1
 
 -- whatever the tables
-module _ (u : Utterance) (three : 3 ≤ multiframesOf u) (codebook thresholds : List ℤ) (index report : List ℕ) (lent : Lent (multiframesOf u) codebook thresholds index report) where
+module _ (u : Utterance) (three : 3 ≤ multiframesOf u) (tables : Tables) (index report : List ℕ) (lent : Lent (multiframesOf u) tables index report) where
   damage-3 : DamageUpTo 3 (multiframesOf u) (imageOf u) (lostOne u)
   damage-3 = sent-damage u lostSecond lost-lt 3 (λ k h. lost-three k)
 
-  not-one-bad : (q : ℕ) → q < pairsOf u → BadPair u (lostOne u) codebook thresholds q → ⊥
-  not-one-bad = never-bad u (lostOne u) damage-3 (sent-whole u lostSecond lost-lt) (inl (two-readable u three (packetOf (u .indices)))) codebook thresholds index report lent
+  not-one-bad : (q : ℕ) → q < pairsOf u → BadPair u (lostOne u) tables q → ⊥
+  not-one-bad = never-bad u (lostOne u) damage-3 (sent-whole u lostSecond lost-lt) (inl (two-readable u three (packetOf (u .indices)))) tables index report lent
 
-  pub heard-met : N.Wider u (lostOne u) codebook thresholds index report
+  pub heard-met : N.Wider u (lostOne u) tables index report
   heard-met = record {
     damage = damage-3;
     headers = inl (two-readable u three (packetOf (u .indices)));
@@ -281,19 +281,19 @@ module _ (u : Utterance) (three : 3 ≤ multiframesOf u) (codebook thresholds : 
     lent = lent;
   }
 
-  named : N.Named u (lostOne u) codebook thresholds index report
-  named = N.names-wider u (lostOne u) codebook thresholds index report heard-met
+  named : N.Named u (lostOne u) tables index report
+  named = N.names-wider u (lostOne u) tables index report heard-met
 
-  pub none-named : (q : ℕ) → q < pairsOf u → pairNoteIn (reading (lostOne u) codebook thresholds index report .report) q ≡ 0
+  pub none-named : (q : ℕ) → q < pairsOf u → pairNoteIn (reading (lostOne u) tables index report .report) q ≡ 0
   none-named q h =
-      elim (ℕ-discrete (pairNoteIn (reading (lostOne u) codebook thresholds index report .report) q) 0) [
+      elim (ℕ-discrete (pairNoteIn (reading (lostOne u) tables index report .report) q) 0) [
         | yes y ↦ y
         | no n ↦ absurd (not-one-bad q h (inr (named .names .others q h (λ t. t (sent-whole u lostSecond lost-lt q h)) .0 n)))
       ]
 
-  pub heard : Heard u codebook thresholds index report
+  pub heard : Heard u tables index report
   heard =
-      let r = S.heard-whole u (lostOne u) codebook thresholds index report heard-met none-named in
+      let r = S.heard-whole u (lostOne u) tables index report heard-met none-named in
       let note = named .names .flips in
       let flips = lost-flips u three (packetOf (u .indices)) in
       record {
@@ -305,8 +305,8 @@ module _ (u : Utterance) (three : 3 ≤ multiframesOf u) (codebook thresholds : 
       }
 
 -- so of 48 frames
-pub heard-48 : Heard says48 zeroBook zeroThresholds (indexFor (multiframesOf says48)) (reportFor (multiframesOf says48))
-heard-48 = heard says48 (le-of-eq (sym three-multiframes)) zeroBook zeroThresholds (indexFor (multiframesOf says48)) (reportFor (multiframesOf says48)) (lent-zeros (multiframesOf says48))
+pub heard-48 : Heard says48 zeroTables (indexFor (multiframesOf says48)) (reportFor (multiframesOf says48))
+heard-48 = heard says48 (le-of-eq (sym three-multiframes)) zeroTables (indexFor (multiframesOf says48)) (reportFor (multiframesOf says48)) (lent-zeros (multiframesOf says48))
 
 -- ---- NAMES THE DAMAGE WIDER: the same headers, a burst in the first packet of every multiframe, and two flips at distance 14 in the second
 module _ (u : Utterance) (q : ℕ) where
@@ -365,7 +365,7 @@ module _ (u : Utterance) (three : 3 ≤ multiframesOf u) where
   touched : (q : ℕ) → q < pairsOf u → Damaged (packetOf (u .indices) q) (hurtPacket u q) → Touched (imageOf u) (allHurt u) q
   touched q h d e = differs (packetOf (u .indices) q) (hurtPacket u q) d (sym (packet-is q h) ∙ e ∙ sent q h)
 
-  pub wider-met : N.Wider u (allHurt u) zeroBook zeroThresholds (indexFor (multiframesOf u)) (reportFor (multiframesOf u))
+  pub wider-met : N.Wider u (allHurt u) zeroTables (indexFor (multiframesOf u)) (reportFor (multiframesOf u))
   wider-met = record {
     damage = flipped-damage u lostSecond (hurtPacket u) lost-lt (length-hurt u) 3 (λ k h. lost-three k) (λ q h. fates u q);
     headers = inl (two-readable u three (hurtPacket u));
@@ -377,7 +377,7 @@ module _ (u : Utterance) (three : 3 ≤ multiframesOf u) where
 
   pub hurt : Hurt u
   hurt =
-      let names = N.names-wider u (allHurt u) zeroBook zeroThresholds (indexFor (multiframesOf u)) (reportFor (multiframesOf u)) wider-met .names in
+      let names = N.names-wider u (allHurt u) zeroTables (indexFor (multiframesOf u)) (reportFor (multiframesOf u)) wider-met .names in
       record {
         lost = names .flips 1 (omega arith) ∙ lost-flips u three (hurtPacket u) 1 (omega arith) ∙ three-flipped;
         first = names .damaged 0 (omega arith) .1 (touched 0 (omega arith) (burst-hurts u 0));
@@ -411,7 +411,7 @@ module _ (u : Utterance) (two : 2 ≤ multiframesOf u) where
   flips : (k : ℕ) → k < multiframesOf u → headerFlips (imageOf u) (earlierHurt u) k ≡ 2
   flips k h = flips-are u (λ k. 3) (hit u (earlier u)) (λ k. lit< tt) k h ∙ two-flipped
 
-  pub last-met : N.Wider u (earlierHurt u) zeroBook zeroThresholds (indexFor (multiframesOf u)) (reportFor (multiframesOf u))
+  pub last-met : N.Wider u (earlierHurt u) zeroTables (indexFor (multiframesOf u)) (reportFor (multiframesOf u))
   last-met = record {
     damage = flipped-damage u (λ k. 3) (hit u (earlier u)) (λ k. lit< tt) (length-hit u (earlier u)) 3 (λ k h. omega (arith, two-flipped)) (λ q h. hit-fates u (earlier u) q);
     headers = inl (record {
@@ -428,13 +428,13 @@ module _ (u : Utterance) (two : 2 ≤ multiframesOf u) where
     lent = lent-zeros (multiframesOf u);
   }
 
-  pub last-unnamed : S.LastUnnamed u (earlierHurt u) zeroBook zeroThresholds (indexFor (multiframesOf u)) (reportFor (multiframesOf u)) last-met
+  pub last-unnamed : S.LastUnnamed u (earlierHurt u) zeroTables (indexFor (multiframesOf u)) (reportFor (multiframesOf u)) last-met
   last-unnamed q l h = zero-unnamed u (earlierHurt u) q (last-whole q l h) h last-met
 
   pub last-is-heard : LastHeard u
   last-is-heard =
-      let x = N.names-wider u (earlierHurt u) zeroBook zeroThresholds (indexFor (multiframesOf u)) (reportFor (multiframesOf u)) last-met in
-      let s = S.last-heard u (earlierHurt u) zeroBook zeroThresholds (indexFor (multiframesOf u)) (reportFor (multiframesOf u)) last-met last-unnamed (x .given) (x .succeeds) in
+      let x = N.names-wider u (earlierHurt u) zeroTables (indexFor (multiframesOf u)) (reportFor (multiframesOf u)) last-met in
+      let s = S.last-heard u (earlierHurt u) zeroTables (indexFor (multiframesOf u)) (reportFor (multiframesOf u)) last-met last-unnamed (x .given) (x .succeeds) in
       record {
         named = λ q h.
             x .names .damaged q (omega arith) .1 (told-touched u (earlier u) (λ k. 3) (λ k. lit< tt) q (omega arith) (lt-ltb q (firstPair (multiframesOf u - 1)) h));

@@ -7,9 +7,9 @@ use mathlib.Core.Logic.{_⊎_, ⊎-elim}
 use Prim.Native.Nat.{ℕ, _≤_, _<_}
 use native.Mathlib.Decide.{ℕ-discrete}
 use native.Mathlib.Omega.{arith}
-use lib.IntN.{ℤ}
 use lib.ListN.{length}
 use Rattle.lists.specs.Rows.{each}
+use Rattle.consistency.specs.Tables.{Tables}
 use Rattle.cutting.specs.Cutting.{Cutting, cutting}
 use Rattle.cutting.specs.Laws.{every-length}
 use Rattle.header_code.specs.Code.Distance.{far-from-one}
@@ -93,9 +93,9 @@ module _ (u : Utterance) (s : List ℕ) where
     settled-sent : (d : ℕ) → settling (readings s (rowOf m)) ≡ Settled d → d ≡ sentCommon u
     settled-sent d e = ⊎-elim (λ a. settles-nothing-else u s (a .but) (a .others) d (a .two) e) (λ o. only-sent o d e) (p .headers)
 
-    module _ (codebook thresholds : List ℤ) (index report : List ℕ) (given : Summary) (e : reading s codebook thresholds index report .answer ≡ Read given) where
-      w : A.WasRead s codebook thresholds index report [] given
-      w = A.was-read s codebook thresholds index report [] given e
+    module _ (tables : Tables) (index report : List ℕ) (given : Summary) (e : reading s tables index report .answer ≡ Read given) where
+      w : A.WasRead s tables index report [] given
+      w = A.was-read s tables index report [] given e
 
       common : w .common ≡ sentCommon u
       common = settled-sent (w .common) (sym (ap (λ (ps : List ℕ). settling (readings s ps)) cut) ∙ w .reader-accepts .fitting .settles)
@@ -106,6 +106,6 @@ module _ (u : Utterance) (s : List ℕ) where
         multiframes = ap (λ (g : Summary). g .multiframes) (w .given-is) ∙ ap length cut ∙ every-length 0 m;
       }
 
-pub never-misled : (u : Utterance) (s : List ℕ) → Premises u s → (codebook thresholds : List ℤ) (index report : List ℕ) (given : Summary)
-    → reading s codebook thresholds index report .answer ≡ Read given → AsSent u s given
+pub never-misled : (u : Utterance) (s : List ℕ) → Premises u s → (tables : Tables) (index report : List ℕ) (given : Summary)
+    → reading s tables index report .answer ≡ Read given → AsSent u s given
 never-misled = proof

@@ -11,7 +11,6 @@ use native.Mathlib.Omega.{arith}
 use lib.Bits.{bitXor, xor-comm, xor-self}
 use lib.Count.{ones, onesIn}
 use lib.Dec.{eqb, leb, lit<}
-use lib.IntN.{ℤ}
 use borrow.Author.Tests.{eq-eqb, ne-eqb, le-leb, lt-leb}
 use lib.ListN.{length, getD, drop, replicate, length-append}
 use lib.Seq.{getD-take}
@@ -21,6 +20,7 @@ use Rattle.lists.specs.Tests.{when, by-test, true-false}
 use Rattle.lists.specs.Parts.{part, part-left, part-right}
 use Rattle.lists.specs.Rows.{each}
 use Rattle.layout.specs.Layout.{frameIndices, dataBits, multiframeFrames, multiframePairs, multiframeOctets, syncOctets, headerOctets, streamOctets, packetBits, pairOf, firstFrame, secondFrame, firstPair, sync, inverseFirst, inverseSecond}
+use Rattle.consistency.specs.Tables.{Tables}
 use Rattle.settings.specs.Settings.{settings}
 use Rattle.settings.specs.declared.Settings.{Settings}
 use Rattle.frames.specs.Frames.{allZero, zeroFrame, all-zero-at, Nonzero}
@@ -64,7 +64,7 @@ use Rattle.demands.specs.NamesTheDamage as N
 use Rattle.demands.specs.ReadsBack.{spoken, reads-image, reads-mended}
 use Rattle.demands.specs.ToldApart.{Alike}
 use Rattle.demands.specs.Instances.{lone, says1}
-use Rattle.demands.specs.Met.{zeroBook, zeroThresholds, indexFor, reportFor, lent-zeros, says24, two-multiframes, settings-24, frames-24}
+use Rattle.demands.specs.Met.{zeroTables, indexFor, reportFor, lent-zeros, says24, two-multiframes, settings-24, frames-24}
 use Rattle.demands.specs.Needed.{eighth, saysEighth, Passes15, passes-15, halfway}
 use Rattle.promises.specs.Misled as M
 use Rattle.promises.specs.Trusted as T
@@ -74,13 +74,13 @@ use Rattle.promises.specs.Flipped.{zeroRead, zeroNotes, right-good, good
 use Rattle.promises.specs.Met.{says48, three-multiframes, rate-48, without-warning, lostOne, heard-met, none-named, heard, inSecond, in-second-lt, flips-in-second, flips-in-others, Harmless, harmless}
 
 -- ---- NEVER MISLED NEEDS ITS LIMITS ON FLIPS: all premises hold but that on headers, not even a packet is damaged, and 8 kHz is read as 11 kHz
-pub record Misleads (u : Utterance) (s : List ℕ) (flips : ℕ) (codebook thresholds : List ℤ) (index report : List ℕ) : Type 0 where
+pub record Misleads (u : Utterance) (s : List ℕ) (flips : ℕ) (tables : Tables) (index report : List ℕ) : Type 0 where
   pub size : length s ≡ length (imageOf u)
   pub syncs : (k : ℕ) → k < multiframesOf u → syncIn s k ≡ syncIn (imageOf u) k
   pub packets : (q : ℕ) → q < pairsOf u → packetIn s q ≡ packetIn (imageOf u) q
   pub each-header : (k : ℕ) → k < multiframesOf u → headerFlips (imageOf u) s k ≡ flips
   pub unmet : M.AllButOne u s ⊎ M.OnlyFive u s → ⊥
-  pub succeeds : reading s codebook thresholds index report .answer ≡ Read (spoken (at11 u))
+  pub succeeds : reading s tables index report .answer ≡ Read (spoken (at11 u))
   pub misled : M.AsSent u s (spoken (at11 u)) → ⊥
 
 -- four of the six bits in which the two rates differ: so two are left to 11 kHz
@@ -103,18 +103,18 @@ module _ (u : Utterance) (eight : u .settings .rate ≡ 0) where
   not-sent : (s : List ℕ) → M.AsSent u s (spoken (at11 u)) → ⊥
   not-sent s x = let z : _≡_ {A = ℕ} 1 0 = ap (λ (s : Settings). s .rate) (x .settings) ∙ eight in omega arith
 
-  module _ (codebook thresholds : List ℤ) (index report : List ℕ) (lent : Lent (multiframesOf u) codebook thresholds index report) where
-    four-read : 2 ≤ multiframesOf u → reading (fourOff u) codebook thresholds index report .answer ≡ Read (spoken (at11 u))
+  module _ (tables : Tables) (index report : List ℕ) (lent : Lent (multiframesOf u) tables index report) where
+    four-read : 2 ≤ multiframesOf u → reading (fourOff u) tables index report .answer ≡ Read (spoken (at11 u))
     four-read two =
         let e : ℕ → ℕ = λ k. bitXor fourBits rateBits in
         let lt : (k : ℕ) → e k < 2 ^ 32 = λ k. lit< tt in
-        ap (λ (s : List ℕ). reading s codebook thresholds index report .answer) (seen-at-11 u eight (λ k. fourBits) (packetOf (u .indices)))
+        ap (λ (s : List ℕ). reading s tables index report .answer) (seen-at-11 u eight (λ k. fourBits) (packetOf (u .indices)))
         ∙ ap (λ (o : Outcome). o .answer)
         (reads-mended (at11 u) (flipped (at11 u) e (packetOf (u .indices))) (sent-damage (at11 u) e lt 2 (λ k h. le-of-eq four-to-11)) (sent-whole (at11 u) e lt) (inl two)
-        codebook thresholds index report lent)
+        tables index report lent)
 
     -- HEADERS OF FOUR FLIPS MISLEAD: two multiframes or more
-    pub four-mislead : 2 ≤ multiframesOf u → Misleads u (fourOff u) 4 codebook thresholds index report
+    pub four-mislead : 2 ≤ multiframesOf u → Misleads u (fourOff u) 4 tables index report
     four-mislead two =
         let size = flipped-size u (λ k. fourBits) (packetOf (u .indices)) in
         let syncs = flipped-syncs u (λ k. fourBits) (packetOf (u .indices)) in
@@ -125,13 +125,13 @@ module _ (u : Utterance) (eight : u .settings .rate ≡ 0) where
           each-header = λ k h. flips-are u (λ k. fourBits) (packetOf (u .indices)) (λ k. lit< tt) k h ∙ four-flipped;
           unmet = λ x.
               not-sent (fourOff u)
-              (M.never-misled u (fourOff u) (record { size = size; syncs = syncs; headers = x }) codebook thresholds index report (spoken (at11 u)) (four-read two));
+              (M.never-misled u (fourOff u) (record { size = size; syncs = syncs; headers = x }) tables index report (spoken (at11 u)) (four-read two));
           succeeds = four-read two;
           misled = not-sent (fourOff u);
         }
 
-    six-read : reading (imageOf (at11 u)) codebook thresholds index report .answer ≡ Read (spoken (at11 u))
-    six-read = ap (λ (o : Outcome). o .answer) (reads-image (at11 u) codebook thresholds index report lent)
+    six-read : reading (imageOf (at11 u)) tables index report .answer ≡ Read (spoken (at11 u))
+    six-read = ap (λ (o : Outcome). o .answer) (reads-image (at11 u) tables index report lent)
 
     six-each : (k : ℕ) → k < multiframesOf u → headerFlips (imageOf u) (imageOf (at11 u)) k ≡ 6
     six-each k h =
@@ -141,7 +141,7 @@ module _ (u : Utterance) (eight : u .settings .rate ≡ 0) where
         ∙ ap ones (ap (λ (x : ℕ). bitXor x a) (xor-comm a rateBits) ∙ xor-twice rateBits a) ∙ six-flipped
 
     -- HEADERS OF SIX FLIPS MISLEAD: the image of 11 kHz itself, six flips from that of 8 kHz in each header and else the same
-    pub six-mislead : Misleads u (imageOf (at11 u)) 6 codebook thresholds index report
+    pub six-mislead : Misleads u (imageOf (at11 u)) 6 tables index report
     six-mislead =
         let m = multiframesOf u in
         let idx = u .indices in
@@ -155,29 +155,29 @@ module _ (u : Utterance) (eight : u .settings .rate ≡ 0) where
           each-header = six-each;
           unmet = λ x.
               not-sent (imageOf (at11 u))
-              (M.never-misled u (imageOf (at11 u)) (record { size = size; syncs = syncs; headers = x }) codebook thresholds index report (spoken (at11 u)) six-read);
+              (M.never-misled u (imageOf (at11 u)) (record { size = size; syncs = syncs; headers = x }) tables index report (spoken (at11 u)) six-read);
           succeeds = six-read;
           misled = not-sent (imageOf (at11 u));
         }
 
 -- so two headers of four flips do, of two multiframes
-pub two-of-four : Misleads says24 (fourOff says24) 4 zeroBook zeroThresholds (indexFor (multiframesOf says24)) (reportFor (multiframesOf says24))
+pub two-of-four : Misleads says24 (fourOff says24) 4 zeroTables (indexFor (multiframesOf says24)) (reportFor (multiframesOf says24))
 two-of-four =
-    four-mislead says24 (ap (λ (s : Settings). s .rate) settings-24) zeroBook zeroThresholds (indexFor (multiframesOf says24)) (reportFor (multiframesOf says24)) (lent-zeros (multiframesOf says24)) (le-of-eq (sym two-multiframes))
+    four-mislead says24 (ap (λ (s : Settings). s .rate) settings-24) zeroTables (indexFor (multiframesOf says24)) (reportFor (multiframesOf says24)) (lent-zeros (multiframesOf says24)) (le-of-eq (sym two-multiframes))
 
 -- and an only header of six
-pub one-of-six : Misleads says1 (imageOf (at11 says1)) 6 zeroBook zeroThresholds (indexFor 1) (reportFor 1)
-one-of-six = six-mislead says1 refl zeroBook zeroThresholds (indexFor 1) (reportFor 1) (lent-zeros 1)
+pub one-of-six : Misleads says1 (imageOf (at11 says1)) 6 zeroTables (indexFor 1) (reportFor 1)
+one-of-six = six-mislead says1 refl zeroTables (indexFor 1) (reportFor 1) (lent-zeros 1)
 
 -- ---- NEVER MISLED NEEDS THE LENGTH: the image of a longer utterance with the same settings. All other premises hold, and it has more multiframes
-pub record Lengthens (u v : Utterance) (codebook thresholds : List ℤ) (index report : List ℕ) : Type 0 where
+pub record Lengthens (u v : Utterance) (tables : Tables) (index report : List ℕ) : Type 0 where
   pub syncs : (k : ℕ) → k < multiframesOf u → syncIn (imageOf v) k ≡ syncIn (imageOf u) k
   pub headers : M.AllButOne u (imageOf v) ⊎ M.OnlyFive u (imageOf v)
-  pub succeeds : reading (imageOf v) codebook thresholds index report .answer ≡ Read (spoken v)
+  pub succeeds : reading (imageOf v) tables index report .answer ≡ Read (spoken v)
   pub misled : M.AsSent u (imageOf v) (spoken v) → ⊥
 
-module _ (u v : Utterance) (same : u .settings ≡ v .settings) (longer : multiframesOf u < multiframesOf v) (codebook thresholds : List ℤ) (index report : List ℕ)
-    (lent : Lent (multiframesOf v) codebook thresholds index report) where
+module _ (u v : Utterance) (same : u .settings ≡ v .settings) (longer : multiframesOf u < multiframesOf v) (tables : Tables) (index report : List ℕ)
+    (lent : Lent (multiframesOf v) tables index report) where
   same-headers : (k : ℕ) → k < multiframesOf u → headerFlips (imageOf u) (imageOf v) k ≡ 0
   same-headers k h =
       ap₂ (λ (a b : ℕ). ones (bitXor a b)) (image-word (v .settings) (v .indices) (multiframesOf v) k (omega arith))
@@ -188,31 +188,31 @@ module _ (u v : Utterance) (same : u .settings ≡ v .settings) (longer : multif
   near-headers (yes l) = inr (record { single = omega arith; five = omega (arith, same-headers 0 (omega arith)) })
   near-headers (no n) = inl (record { two = omega arith; but = 0; others = λ k h d. omega (arith, same-headers k h) })
 
-  pub length-misleads : Lengthens u v codebook thresholds index report
+  pub length-misleads : Lengthens u v tables index report
   length-misleads = record {
     syncs = λ k h. image-sync (v .settings) (v .indices) (multiframesOf v) k (omega arith) ∙ sym (image-sync (u .settings) (u .indices) (multiframesOf u) k h);
     headers = near-headers (decLt (multiframesOf u) 2);
-    succeeds = ap (λ (o : Outcome). o .answer) (reads-image v codebook thresholds index report lent);
+    succeeds = ap (λ (o : Outcome). o .answer) (reads-image v tables index report lent);
     misled = λ x. let e = x .multiframes in omega arith;
   }
 
 -- so one multiframe is taken for two
-pub longer-24 : Lengthens says1 says24 zeroBook zeroThresholds (indexFor (multiframesOf says24)) (reportFor (multiframesOf says24))
+pub longer-24 : Lengthens says1 says24 zeroTables (indexFor (multiframesOf says24)) (reportFor (multiframesOf says24))
 longer-24 =
-    length-misleads says1 says24 (sym settings-24) (omega (arith, two-multiframes)) zeroBook zeroThresholds (indexFor (multiframesOf says24)) (reportFor (multiframesOf says24))
+    length-misleads says1 says24 (sym settings-24) (omega (arith, two-multiframes)) zeroTables (indexFor (multiframesOf says24)) (reportFor (multiframesOf says24))
     (lent-zeros (multiframesOf says24))
 
 -- ---- TRUSTED NEEDS ITS LIMITS: read without a warning, and not of the image as written
 pub record Mistrusted (u : Utterance) (s : List ℕ) (given : Summary) : Type 0 where
-  pub warned-of-nothing : T.WithoutWarning s zeroBook zeroThresholds (indexFor (multiframesOf u)) (reportFor (multiframesOf u)) given
-  pub not-written : T.AsWritten u s zeroBook zeroThresholds (indexFor (multiframesOf u)) (reportFor (multiframesOf u)) given → ⊥
+  pub warned-of-nothing : T.WithoutWarning s zeroTables (indexFor (multiframesOf u)) (reportFor (multiframesOf u)) given
+  pub not-written : T.AsWritten u s zeroTables (indexFor (multiframesOf u)) (reportFor (multiframesOf u)) given → ⊥
 
 -- FIVE: with six flips in each header, and no other damage
 pub six-mistrusted : (u : Utterance) → u .settings .rate ≡ 0
     → DamageUpTo 6 (multiframesOf u) (imageOf u) (imageOf (at11 u)) × Mistrusted u (imageOf (at11 u)) (spoken (at11 u))
 six-mistrusted u eight =
     let m = multiframesOf u in
-    let x = six-mislead u eight zeroBook zeroThresholds (indexFor m) (reportFor m) (lent-zeros m) in (
+    let x = six-mislead u eight zeroTables (indexFor m) (reportFor m) (lent-zeros m) in (
       record {
         size = x .size;
         small = image-small (at11 u .settings) (u .indices) m;
@@ -221,7 +221,7 @@ six-mistrusted u eight =
         packets = λ q h. inl (x .packets q h);
       },
       record {
-        warned-of-nothing = without-warning (at11 u) zeroBook zeroThresholds (indexFor m) (reportFor m) (lent-zeros m);
+        warned-of-nothing = without-warning (at11 u) zeroTables (indexFor m) (reportFor m) (lent-zeros m);
         not-written = λ w. let z : _≡_ {A = ℕ} 1 0 = ap (λ (g : Summary). g .settings .rate) (w .sent) ∙ eight in omega arith;
       },
     )
@@ -231,7 +231,7 @@ pub fifteen-mistrusted : Passes15 × Mistrusted says1 (imageOf saysEighth) (spok
 fifteen-mistrusted = (
   passes-15,
   record {
-    warned-of-nothing = without-warning saysEighth zeroBook zeroThresholds (indexFor 1) (reportFor 1) (lent-zeros 1);
+    warned-of-nothing = without-warning saysEighth zeroTables (indexFor 1) (reportFor 1) (lent-zeros 1);
     not-written = λ w.
         passes-15 .different
         (sym (image-packet (settings 0 0) eighth 1 0 (lit< tt)) ∙ ap (λ (s : List ℕ). packetIn s 0) (w .image) ∙ image-packet (settings 0 0) (lone 1) 1 0 (lit< tt));
@@ -243,18 +243,18 @@ pub record Unlooked (u : Utterance) : Type 0 where
   pub premises : T.Premises u (lostOne u)
   pub succeeds : zeroRead u (lostOne u) .answer ≡ Read (spoken u)
   pub pair-notes : (q : ℕ) → q < pairsOf u → pairNoteIn (zeroRead u (lostOne u) .report) q ≡ 0
-  pub not-written : T.AsWritten u (lostOne u) zeroBook zeroThresholds (indexFor (multiframesOf u)) (reportFor (multiframesOf u)) (spoken u) → ⊥
+  pub not-written : T.AsWritten u (lostOne u) zeroTables (indexFor (multiframesOf u)) (reportFor (multiframesOf u)) (spoken u) → ⊥
 
 pub headers-unlooked : (u : Utterance) → 3 ≤ multiframesOf u → Unlooked u
 headers-unlooked u three =
     let m = multiframesOf u in
-    let wider = heard-met u three zeroBook zeroThresholds (indexFor m) (reportFor m) (lent-zeros m) in
-    let note = heard u three zeroBook zeroThresholds (indexFor m) (reportFor m) (lent-zeros m) in
-    let flips = N.names-wider u (lostOne u) zeroBook zeroThresholds (indexFor m) (reportFor m) wider .names .flips 0 (omega arith) in
+    let wider = heard-met u three zeroTables (indexFor m) (reportFor m) (lent-zeros m) in
+    let note = heard u three zeroTables (indexFor m) (reportFor m) (lent-zeros m) in
+    let flips = N.names-wider u (lostOne u) zeroTables (indexFor m) (reportFor m) wider .names .flips 0 (omega arith) in
     record {
       premises = record { damage = loosened (lit< tt) (wider .damage); header = 0; within = omega arith; five = let l = wider .damage .headers 0 (omega arith) in omega arith };
       succeeds = note .succeeds;
-      pair-notes = none-named u three zeroBook zeroThresholds (indexFor m) (reportFor m) (lent-zeros m);
+      pair-notes = none-named u three zeroTables (indexFor m) (reportFor m) (lent-zeros m);
       not-written = λ w.
           let z : _≡_ {A = ℕ} 2 0 =
           sym (sym flips ∙ note .first) ∙ ap (λ (s : List ℕ). headerFlips (imageOf u) s 0) (w .image) ∙ ap ones (xor-self (wordIn (imageOf u) 0)) ∙ none-flipped in
@@ -279,9 +279,9 @@ pub record Unsettles (u : Utterance) (s : List ℕ) : Type 0 where
   pub damage : DamageUpTo 3 (multiframesOf u) (imageOf u) s
   pub first : headerFlips (imageOf u) s 0 ≡ 2
   pub second : headerFlips (imageOf u) s 1 ≡ 3
-  pub none-bad : (q : ℕ) → q < pairsOf u → BadPair u s zeroBook zeroThresholds q → ⊥
+  pub none-bad : (q : ℕ) → q < pairsOf u → BadPair u s zeroTables q → ⊥
   pub refused : zeroRead u s ≡ outcome (Refused Unsettled) (indexFor (multiframesOf u)) (reportFor (multiframesOf u))
-  pub not-named : N.Named u s zeroBook zeroThresholds (indexFor (multiframesOf u)) (reportFor (multiframesOf u)) → ⊥
+  pub not-named : N.Named u s zeroTables (indexFor (multiframesOf u)) (reportFor (multiframesOf u)) → ⊥
 
 one-settles-nothing : (d : Decoded) → settling (Codeword d ∷ Lost ∷ []) ≡ Set.Unsettled
 unfolding settling firstAgreeing onlyOne
@@ -315,7 +315,7 @@ module _ (u : Utterance) (two : multiframesOf u ≡ 2) where
   refused : zeroRead u s ≡ outcome (Refused Unsettled) (indexFor m) (reportFor m)
   refused =
       refuses-16 s m (few-multiframes (u .settings) (u .indices) (is-accepted u .sizes)) (damaged .size ∙ length-image (u .settings) (u .indices) m)
-      (λ k h. damaged .syncs k h ∙ image-sync (u .settings) (u .indices) m k h) zeroBook zeroThresholds (indexFor m) (reportFor m) (omega arith) (lent-zeros m) unsettled
+      (λ k h. damaged .syncs k h ∙ image-sync (u .settings) (u .indices) m k h) zeroTables (indexFor m) (reportFor m) (omega arith) (lent-zeros m) unsettled
 
   pub one-readable-unsettles : Unsettles u (otherLost u)
   one-readable-unsettles = record {
@@ -339,13 +339,13 @@ unsettled-24 = one-readable-unsettles says24 two-multiframes
 pub record Misnotes (u : Utterance) (s : List ℕ) : Type 0 where
   pub damage : DamageUpTo 4 (multiframesOf u) (imageOf u) s
   pub headers : TwoReadable u s
-  pub none-bad : (q : ℕ) → q < pairsOf u → BadPair u s zeroBook zeroThresholds q → ⊥
+  pub none-bad : (q : ℕ) → q < pairsOf u → BadPair u s zeroTables q → ⊥
   pub four : headerFlips (imageOf u) s 1 ≡ 4
   pub note-is-10 : headerNoteIn (zeroRead u s .report) 1 ≡ 10
   pub given : Summary
   pub succeeds : zeroRead u s .answer ≡ Read given
   pub sent : M.AsSent u s given
-  pub not-named : N.Named u s zeroBook zeroThresholds (indexFor (multiframesOf u)) (reportFor (multiframesOf u)) → ⊥
+  pub not-named : N.Named u s zeroTables (indexFor (multiframesOf u)) (reportFor (multiframesOf u)) → ⊥
 
 abbrev pub secondFour : Utterance → List ℕ
 secondFour u = flipped u (inSecond fourBits 0) (packetOf (u .indices))
@@ -472,7 +472,7 @@ module _ (u : Utterance) (two : 2 ≤ multiframesOf u) (full : frameCount (u .in
   as-sent : (q : ℕ) → q < pairsOf u → t q ≡ false → packetIn got q ≡ packetIn (imageOf u) q
   as-sent = untold-whole u t (λ k. 0) (λ k. lit< tt)
 
-  wide : N.Wider u (flipped u (λ k. 0) (hit u t)) zeroBook zeroThresholds (indexFor (multiframesOf u)) (reportFor (multiframesOf u))
+  wide : N.Wider u (flipped u (λ k. 0) (hit u t)) zeroTables (indexFor (multiframesOf u)) (reportFor (multiframesOf u))
   wide = record {
     damage = flipped-damage u (λ k. 0) (hit u t) (λ k. lit< tt) (length-hit u t) 3 (λ k h. omega (arith, none-flipped)) (λ q h. hit-fates u t q);
     headers = inl (record {
@@ -490,14 +490,14 @@ module _ (u : Utterance) (two : 2 ≤ multiframesOf u) (full : frameCount (u .in
   }
 
   notes-size : length ns ≡ pairsOf u
-  notes-size = length-notes (received got (rowOf ms)) (pairCount (rowOf ms)) zeroBook zeroThresholds ∙ ap (λ (n : ℕ). multiframePairs * n) (every-length 0 ms)
+  notes-size = length-notes (received got (rowOf ms)) (pairCount (rowOf ms)) zeroTables ∙ ap (λ (n : ℕ). multiframePairs * n) (every-length 0 ms)
 
   good-at : (q : ℕ) → q < pairsOf u → t q ≡ false → getD ns q 0 ≡ 0
   good-at q h e =
       right-good got ms q h (ap (right dataBits) (as-sent q h e ∙ image-packet (u .settings) (u .indices) ms q h) ∙ packetOf-good (u .indices) q)
 
   bad-at : (q : ℕ) → q < pairsOf u → t q ≡ true → getD ns q 0 ≡ 1
-  bad-at q h e = touched-note u got (wide .damage) zeroBook zeroThresholds q h (told-touched u t (λ k. 0) (λ k. lit< tt) q h e)
+  bad-at q h e = touched-note u got (wide .damage) zeroTables q h (told-touched u t (λ k. 0) (λ k. lit< tt) q h e)
 
   run : Run ns r b
   run = record {
@@ -523,7 +523,7 @@ module _ (u : Utterance) (two : 2 ≤ multiframesOf u) (full : frameCount (u .in
       let z : frameBefore r ≡ secondFrame (r - 1) = omega arith in
       ap allZero
       (frame-is i h ∙ ap (λ (k : ℕ). part (frameIndices * k) frameIndices (receivedFrames got (rowOf ms))) (e ∙ z)
-      ∙ N.frame-in-pair u got zeroBook zeroThresholds (indexFor ms) (reportFor ms) wide (r - 1) (omega arith) (good-at (r - 1) (omega arith) (before (r - 1) (omega arith))) .1)
+      ∙ N.frame-in-pair u got zeroTables (indexFor ms) (reportFor ms) wide (r - 1) (omega arith) (good-at (r - 1) (omega arith) (before (r - 1) (omega arith))) .1)
       ∙ speaks u (secondFrame (r - 1)) (omega arith)
 
   -- and zero where it is taken from behind, or is a good pair's
@@ -532,18 +532,18 @@ module _ (u : Utterance) (two : 2 ≤ multiframesOf u) (full : frameCount (u .in
   from-behind i h e l =
       ap allZero
       (frame-is i h ∙ ap (λ (k : ℕ). part (frameIndices * k) frameIndices (receivedFrames got (rowOf ms))) e
-      ∙ N.frame-in-pair u got zeroBook zeroThresholds (indexFor ms) (reportFor ms) wide b l (good-at b l (behind b (omega arith) l)) .0
+      ∙ N.frame-in-pair u got zeroTables (indexFor ms) (reportFor ms) wide b l (good-at b l (behind b (omega arith) l)) .0
       ∙ row-past (u .indices) (frameIndices * firstFrame b) frameIndices (omega (arith, whole-frames u)))
 
   good-silent : (i : ℕ) → firstFrame b ≤ i → i < multiframeFrames * ms → zeroFrame all i ≡ true
   unfolding zeroFrame
   good-silent i l h =
       ap allZero
-      (N.index-frame u got zeroBook zeroThresholds (indexFor ms) (reportFor ms) wide i h (good-at (pairOf i) (omega arith) (behind (pairOf i) (omega arith) (omega arith)))
+      (N.index-frame u got zeroTables (indexFor ms) (reportFor ms) wide i h (good-at (pairOf i) (omega arith) (behind (pairOf i) (omega arith) (omega arith)))
       ∙ row-past (u .indices) (frameIndices * i) frameIndices (omega (arith, whole-frames u)))
 
   given-is : zeroRead u got .answer ≡ Read (summary got (rowOf ms) ns (sentCommon u))
-  given-is = ap (λ (o : Outcome). o .answer) (N.read-is u got zeroBook zeroThresholds (indexFor ms) (reportFor ms) wide)
+  given-is = ap (λ (o : Outcome). o .answer) (N.read-is u got zeroTables (indexFor ms) (reportFor ms) wide)
 
   speech-is : (n : ℕ) → lastNonzero all (multiframeFrames * (ms - 1)) multiframeFrames ≡ n → summary got (rowOf ms) ns (sentCommon u) .speech ≡ frameCount (u .indices) + n
   speech-is n e =
@@ -576,7 +576,7 @@ abbrev pub endHurt : Utterance → List ℕ
 endHurt u = flipped u (λ k. 0) (hit u (λ q. eqb q (lastFirst u)))
 
 pub record OneMore (u : Utterance) : Type 0 where
-  pub wider : N.Wider u (endHurt u) zeroBook zeroThresholds (indexFor (multiframesOf u)) (reportFor (multiframesOf u))
+  pub wider : N.Wider u (endHurt u) zeroTables (indexFor (multiframesOf u)) (reportFor (multiframesOf u))
   pub named : pairNoteIn (zeroRead u (endHurt u) .report) (lastFirst u) ≡ 1
   pub others : (q : ℕ) → q < pairsOf u → (q ≡ lastFirst u → ⊥) → pairNoteIn (zeroRead u (endHurt u) .report) q ≡ 0
   pub given : Summary
@@ -588,7 +588,7 @@ module _ (u : Utterance) (two : 2 ≤ multiframesOf u) (full : frameCount (u .in
   pub one-more : OneMore u
   one-more = record {
     wider = w;
-    named = N.names-wider u (endHurt u) zeroBook zeroThresholds (indexFor (multiframesOf u)) (reportFor (multiframesOf u)) w .names .damaged (lastFirst u) (omega arith) .1
+    named = N.names-wider u (endHurt u) zeroTables (indexFor (multiframesOf u)) (reportFor (multiframesOf u)) w .names .damaged (lastFirst u) (omega arith) .1
         (told-touched u is (λ k. 0) (λ k. lit< tt) (lastFirst u) (omega arith) (eq-eqb (lastFirst u) (lastFirst u) refl));
     others = λ q h n. zero-unnamed u (endHurt u) q (untold-whole u is (λ k. 0) (λ k. lit< tt) q h (ne-eqb q (lastFirst u) n)) h w;
     given = summary (endHurt u) (rowOf (multiframesOf u)) (zeroNotes u (endHurt u)) (sentCommon u);
@@ -617,7 +617,7 @@ module _ (u : Utterance) (two : 2 ≤ multiframesOf u) (full : frameCount (u .in
       behind : (q : ℕ) → b ≤ q → q < pairsOf u → is q ≡ false
       behind q h l = ne-eqb q (lastFirst u) (λ e. omega arith)
 
-      w : N.Wider u (endHurt u) zeroBook zeroThresholds (indexFor (multiframesOf u)) (reportFor (multiframesOf u))
+      w : N.Wider u (endHurt u) zeroTables (indexFor (multiframesOf u)) (reportFor (multiframesOf u))
       w = wide u two full is b some most inside before behind
 
 -- so of 24 frames 25 are heard
@@ -635,7 +635,7 @@ abbrev pub endGone : Utterance → List ℕ
 endGone u = flipped u (λ k. 0) (hit u (λ q. leb (lastFirst u) q))
 
 pub record NoEnd (u : Utterance) : Type 0 where
-  pub wider : N.Wider u (endGone u) zeroBook zeroThresholds (indexFor (multiframesOf u)) (reportFor (multiframesOf u))
+  pub wider : N.Wider u (endGone u) zeroTables (indexFor (multiframesOf u)) (reportFor (multiframesOf u))
   pub others : (q : ℕ) → q < lastFirst u → pairNoteIn (zeroRead u (endGone u) .report) q ≡ 0
   pub given : Summary
   pub succeeds : zeroRead u (endGone u) .answer ≡ Read given
@@ -681,7 +681,7 @@ module _ (u : Utterance) (two : 2 ≤ multiframesOf u) (full : frameCount (u .in
           → zeroFrame (indexPart (endGone u) (rowOf (multiframesOf u)) (zeroNotes u (endGone u))) i ≡ false
       last = all-heard u two full is b some most inside before behind refl
 
-      w : N.Wider u (endGone u) zeroBook zeroThresholds (indexFor (multiframesOf u)) (reportFor (multiframesOf u))
+      w : N.Wider u (endGone u) zeroTables (indexFor (multiframesOf u)) (reportFor (multiframesOf u))
       w = wide u two full is b some most inside before behind
 
 -- so of 24 frames 48 are heard, and no end
@@ -761,17 +761,17 @@ module _ (u : Utterance) (twice : multiframesOf u ≡ 2) where
       ∙ ap (λ (h : Header). settling (h ∷ [])) (header-read u cutUp 0 (omega arith) (omega (arith, no-flip)))
       ∙ only-clean (decodedAs (wordIn cutUp 0) (sentMessage u 0)) (header-near u cutUp 0 (omega arith) ∙ no-flip) ∙ ap Set.Settled (common-sent u 0)
 
-  good-once : Good (receivedNotes cutUp (rowOf 1) zeroBook zeroThresholds)
+  good-once : Good (receivedNotes cutUp (rowOf 1) zeroTables)
   good-once = good-pair cutUp 1 0 (lit< tt) (ap (right dataBits) packet-there ∙ packetOf-good (u .indices) 0)
 
-  read-once : zeroRead u cutUp .answer ≡ Read (summary cutUp (rowOf 1) (receivedNotes cutUp (rowOf 1) zeroBook zeroThresholds) (sentCommon u))
+  read-once : zeroRead u cutUp .answer ≡ Read (summary cutUp (rowOf 1) (receivedNotes cutUp (rowOf 1) zeroTables) (sentCommon u))
   unfolding reading
   read-once =
       let i = indexFor (multiframesOf u) in
       let r = reportFor (multiframesOf u) in
       let lent = lent-zeros (multiframesOf u) in
       let pl : cutting cutUp .places ≡ rowOf 1 = ap (λ (w : Cutting). w .places) cut-once in
-      let ns = receivedNotes cutUp (rowOf 1) zeroBook zeroThresholds in
+      let ns = receivedNotes cutUp (rowOf 1) zeroTables in
       let fit : Fitting 1 (badPairs ns) (pairCount (rowOf 1)) (length i) (length r) (settling (readings cutUp (rowOf 1))) (sentCommon u) =
       record {
         settles = settled-once;
@@ -779,18 +779,18 @@ module _ (u : Utterance) (twice : multiframesOf u ≡ 2) where
         roomy = record {
           index-room = omega (arith, lent .index-room);
           report-room = omega (arith, lent .report-room);
-          not-all = λ e. none-good ns (e ∙ sym (length-notes (received cutUp (rowOf 1)) (pairCount (rowOf 1)) zeroBook zeroThresholds)) (good-once .pair) (good-once .within) (good-once .good);
+          not-all = λ e. none-good ns (e ∙ sym (length-notes (received cutUp (rowOf 1)) (pairCount (rowOf 1)) zeroTables)) (good-once .pair) (good-once .within) (good-once .good);
         };
       } in
-      ap₂ (λ (ps : List ℕ) (v : Verdict). finished cutUp zeroBook zeroThresholds i r ps v .answer) pl
-      (accepting cutUp zeroBook zeroThresholds (length i) (length r) (sentCommon u)
+      ap₂ (λ (ps : List ℕ) (v : Verdict). finished cutUp zeroTables i r ps v .answer) pl
+      (accepting cutUp zeroTables (length i) (length r) (sentCommon u)
       record {
         codebook-size = lent .codebook-size;
         thresholds-size = lent .thresholds-size;
         uncut = ap (λ (w : Cutting). w .ending) cut-once;
         some = λ e. omega (arith, ap length pl);
         fitting = subst
-            (λ (ps : List ℕ). Fitting (length ps) (badPairs (receivedNotes cutUp ps zeroBook zeroThresholds)) (pairCount ps) (length i) (length r) (settling (readings cutUp ps)) (sentCommon u))
+            (λ (ps : List ℕ). Fitting (length ps) (badPairs (receivedNotes cutUp ps zeroTables)) (pairCount ps) (length i) (length r) (settling (readings cutUp ps)) (sentCommon u))
             (sym pl) fit;
       })
 
@@ -805,7 +805,7 @@ module _ (u : Utterance) (twice : multiframesOf u ≡ 2) where
     first-sync = front-part 0 syncOctets (lit< tt) ∙ image-sync (u .settings) (u .indices) 1 0 (lit< tt)
         ∙ sym (image-sync (u .settings) (u .indices) (multiframesOf u) 0 (omega arith));
     second-sync = part-right front (inverses 72) multiframeOctets syncOctets front-size;
-    given = summary cutUp (rowOf 1) (receivedNotes cutUp (rowOf 1) zeroBook zeroThresholds) (sentCommon u);
+    given = summary cutUp (rowOf 1) (receivedNotes cutUp (rowOf 1) zeroTables) (sentCommon u);
     succeeds = read-once;
     count = refl;
     misled = λ x. let e : 1 ≡ multiframesOf u = x .multiframes in omega arith;

@@ -8,8 +8,8 @@ use mathlib.Core.Logic.{inl, inr, ⊎-elim}
 use Prim.Native.Nat.{ℕ, zero, suc, _+_, _-_, _≤_, _<_}
 use native.Mathlib.Decide.{ℕ-discrete, decLt}
 use native.Mathlib.Omega.{arith}
-use lib.IntN.{ℤ}
 use Rattle.lists.specs.Tests.{true-false}
+use Rattle.consistency.specs.Tables.{Tables}
 use Rattle.bad_pairs.specs.BadPairs.{bad}
 use Rattle.reader.specs.Reading.{outcome, reading}
 use Rattle.reader.specs.declared.Summary.{Summary}
@@ -23,19 +23,19 @@ use Rattle.demands.specs.Met.{indexFor, reportFor}
 use Rattle.demands.specs.Needed.{all-bad-refuses}
 use Rattle.demands.specs.NamesTheDamage as N
 use Rattle.promises.specs.Hit.{hitImage, hits, is-hit, not-hit, clean-header}
-use Rattle.promises.specs.Said.{rises23, rises47, rises7, stairBook, fours, lent-stairs, inconsistent-23, inconsistent-47, inconsistent-7, consistent-7}
+use Rattle.promises.specs.Said.{rises23, rises47, rises7, stairs, lent-stairs, inconsistent-23, inconsistent-47, inconsistent-7, consistent-7}
 
 -- ---- which pairs are bad where pair p alone is damaged, whatever the utterance and the tables
-module _ (u : Utterance) (p : ℕ) (inside : p < pairsOf u) (codebook thresholds : List ℤ) where
+module _ (u : Utterance) (p : ℕ) (inside : p < pairsOf u) (tables : Tables) where
   abbrev s : List ℕ
   s = hitImage u p
 
   -- the pair before it, if it is inconsistent
-  pub ruled-before : (q : ℕ) → suc q ≡ p → Inconsistent u s codebook thresholds q → ByRule u s codebook thresholds q
+  pub ruled-before : (q : ℕ) → suc q ≡ p → Inconsistent u s tables q → ByRule u s tables q
   ruled-before q e inconsistent = (inconsistent, inl (omega arith, subst (λ (x : ℕ). Touched (imageOf u) s x) (sym e) (is-hit u p inside)))
 
   -- THE CHAIN: each pair behind it, if that and all between are inconsistent
-  bad-behind : (q : ℕ) → p < q → ((i : ℕ) → p < i → i < q → Inconsistent u s codebook thresholds i) → BadBefore u s codebook thresholds q
+  bad-behind : (q : ℕ) → p < q → ((i : ℕ) → p < i → i < q → Inconsistent u s tables i) → BadBefore u s tables q
   unfolding BadBefore
   bad-behind zero h inconsistent = absurd (omega arith)
   bad-behind (suc q) h inconsistent =
@@ -44,41 +44,41 @@ module _ (u : Utterance) (p : ℕ) (inside : p < pairsOf u) (codebook thresholds
         | no n ↦ inr (inconsistent q (omega arith) (omega arith), inr (bad-behind q (omega arith) (λ i a b. inconsistent i a (omega arith))))
       ]
 
-  pub ruled-behind : (q : ℕ) → p < q → ((i : ℕ) → p < i → i ≤ q → Inconsistent u s codebook thresholds i) → ByRule u s codebook thresholds q
+  pub ruled-behind : (q : ℕ) → p < q → ((i : ℕ) → p < i → i ≤ q → Inconsistent u s tables i) → ByRule u s tables q
   ruled-behind q h inconsistent = (inconsistent q h (omega arith), inr (bad-behind q h (λ i a b. inconsistent i a (omega arith))))
 
   -- no pair before that is bad, however inconsistent
-  none-from : (q : ℕ) → q < p → BadBefore u s codebook thresholds q → ⊥
+  none-from : (q : ℕ) → q < p → BadBefore u s tables q → ⊥
   unfolding BadBefore
   none-from zero h b = b
   none-from (suc q) h b =
       ⊎-elim (not-hit u p q (omega arith) (λ e. omega arith))
       (λ r. ⊎-elim (λ t. not-hit u p (suc q) (t .0) (λ e. omega arith) (t .1)) (none-from q (omega arith)) (r .1)) b
 
-  pub good-before : (q : ℕ) → suc q < p → BadPair u s codebook thresholds q → ⊥
+  pub good-before : (q : ℕ) → suc q < p → BadPair u s tables q → ⊥
   good-before q h b =
       ⊎-elim (not-hit u p q (omega arith) (λ e. omega arith))
       (λ r. ⊎-elim (λ t. not-hit u p (suc q) (t .0) (λ e. omega arith) (t .1)) (none-from q (omega arith)) (r .1)) b
 
   -- and the chain stops at the first consistent pair r: neither it nor any behind it is bad
-  none-past : (r : ℕ) → p < r → (Inconsistent u s codebook thresholds r → ⊥) → (q : ℕ) → r < q → q ≤ pairsOf u → BadBefore u s codebook thresholds q → ⊥
+  none-past : (r : ℕ) → p < r → (Inconsistent u s tables r → ⊥) → (q : ℕ) → r < q → q ≤ pairsOf u → BadBefore u s tables q → ⊥
   unfolding BadBefore
   none-past r h consistent zero l i b = absurd (omega arith)
   none-past r h consistent (suc q) l i b =
       ⊎-elim (not-hit u p q (omega arith) (λ e. omega arith))
       (λ x. ⊎-elim (λ t. not-hit u p (suc q) (t .0) (λ e. omega arith) (t .1))
       (λ y. elim (ℕ-discrete q r) [
-        | yes e ↦ consistent (subst (λ (j : ℕ). Inconsistent u s codebook thresholds j) e (x .0))
+        | yes e ↦ consistent (subst (λ (j : ℕ). Inconsistent u s tables j) e (x .0))
         | no n ↦ none-past r h consistent q (omega arith) (omega arith) y
       ]) (x .1)) b
 
-  pub good-past : (r : ℕ) → p < r → (Inconsistent u s codebook thresholds r → ⊥) → (q : ℕ) → r ≤ q → q < pairsOf u → BadPair u s codebook thresholds q → ⊥
+  pub good-past : (r : ℕ) → p < r → (Inconsistent u s tables r → ⊥) → (q : ℕ) → r ≤ q → q < pairsOf u → BadPair u s tables q → ⊥
   unfolding BadBefore
   good-past r h consistent q l i = none-past r h consistent (suc q) (omega arith) (omega arith)
 
   -- any pair that is not bad meets the premises of NAMES THE DAMAGE, also of one multiframe, since no header is touched
-  pub met : (index report : List ℕ) → Lent (multiframesOf u) codebook thresholds index report → (q : ℕ) → q < pairsOf u → (BadPair u s codebook thresholds q → ⊥)
-      → N.Premises u s codebook thresholds index report
+  pub met : (index report : List ℕ) → Lent (multiframesOf u) tables index report → (q : ℕ) → q < pairsOf u → (BadPair u s tables q → ⊥)
+      → N.Premises u s tables index report
   met index report lent q h good = record { damage = hits u p; headers = inr (clean-header u p 0 (omega arith)); pair = q; within = h; not-bad = good; lent = lent }
 
 -- the first a numbers are not so, and the b behind them are
@@ -95,107 +95,107 @@ count-behind P a (suc b) f g =
     (count-one P (b + a) b (count-behind P a b f (λ q h l. g q h (omega arith))) (g (b + a) (omega arith) (omega arith)))
 
 -- ---- THE CHAIN, READ: every pair is inconsistent, and pair p alone is damaged
-pub record Chain (u : Utterance) (p : ℕ) (codebook thresholds : List ℤ) (index report : List ℕ) : Type 0 where
+pub record Chain (u : Utterance) (p : ℕ) (tables : Tables) (index report : List ℕ) : Type 0 where
   pub alone : (q : ℕ) → q < pairsOf u → (q ≡ p → ⊥) → Touched (imageOf u) (hitImage u p) q → ⊥
-  pub premises : N.Premises u (hitImage u p) codebook thresholds index report
+  pub premises : N.Premises u (hitImage u p) tables index report
   pub given : Summary
-  pub is-read : reading (hitImage u p) codebook thresholds index report .answer ≡ Read given
+  pub is-read : reading (hitImage u p) tables index report .answer ≡ Read given
   -- the note of the damaged pair is 1
-  pub hit : pairNoteIn (reading (hitImage u p) codebook thresholds index report .report) p ≡ 1
+  pub hit : pairNoteIn (reading (hitImage u p) tables index report .report) p ≡ 1
   -- that of the pair before it and of each pair behind it is 2: they are bad by the rule alone
-  pub before : (q : ℕ) → suc q ≡ p → pairNoteIn (reading (hitImage u p) codebook thresholds index report .report) q ≡ 2
-  pub behind : (q : ℕ) → p < q → q < pairsOf u → pairNoteIn (reading (hitImage u p) codebook thresholds index report .report) q ≡ 2
+  pub before : (q : ℕ) → suc q ≡ p → pairNoteIn (reading (hitImage u p) tables index report .report) q ≡ 2
+  pub behind : (q : ℕ) → p < q → q < pairsOf u → pairNoteIn (reading (hitImage u p) tables index report .report) q ≡ 2
   -- and that of every pair before those is 0: inconsistent too, and good
-  pub earlier : (q : ℕ) → suc q < p → pairNoteIn (reading (hitImage u p) codebook thresholds index report .report) q ≡ 0
+  pub earlier : (q : ℕ) → suc q < p → pairNoteIn (reading (hitImage u p) tables index report .report) q ≡ 0
   -- `bad` counts the damaged pair, the one before it and all behind it
   pub count : p - 1 + given .bad ≡ pairsOf u
 
 -- if it is not one of the first two pairs, so that one is good
-pub chain : (u : Utterance) (p : ℕ) (codebook thresholds : List ℤ) (index report : List ℕ) → ((q : ℕ) → q < pairsOf u → Inconsistent u (hitImage u p) codebook thresholds q)
-    → 2 ≤ p → p < pairsOf u → Lent (multiframesOf u) codebook thresholds index report → Chain u p codebook thresholds index report
-chain u p codebook thresholds index report inconsistent two inside lent = record {
+pub chain : (u : Utterance) (p : ℕ) (tables : Tables) (index report : List ℕ) → ((q : ℕ) → q < pairsOf u → Inconsistent u (hitImage u p) tables q)
+    → 2 ≤ p → p < pairsOf u → Lent (multiframesOf u) tables index report → Chain u p tables index report
+chain u p tables index report inconsistent two inside lent = record {
   alone = not-hit u p;
   premises = premises;
   given = named .given;
   is-read = named .succeeds;
   hit = named .names .damaged p inside .1 (is-hit u p inside);
-  before = λ q e. note-2 q (omega arith) (λ x. omega arith) (ruled-before u p inside codebook thresholds q e (inconsistent q (omega arith)));
-  behind = λ q h l. note-2 q l (λ x. omega arith) (ruled-behind u p inside codebook thresholds q h (λ i a b. inconsistent i (omega arith)));
+  before = λ q e. note-2 q (omega arith) (λ x. omega arith) (ruled-before u p inside tables q e (inconsistent q (omega arith)));
+  behind = λ q h l. note-2 q l (λ x. omega arith) (ruled-behind u p inside tables q h (λ i a b. inconsistent i (omega arith)));
   earlier = λ q h. elim (ℕ-discrete (note q) 0) [
     | yes z ↦ z
-    | no z ↦ absurd (good-before u p inside codebook thresholds q h (inr (named .names .others q (omega arith) (not-hit u p q (omega arith) (λ e. omega arith)) .0 z)))
+    | no z ↦ absurd (good-before u p inside tables q h (inr (named .names .others q (omega arith) (not-hit u p q (omega arith) (λ e. omega arith)) .0 z)))
   ];
-  count = omega (arith, count-once (BadPair u (hitImage u p) codebook thresholds) (pairsOf u) (named .given .bad) (pairsOf u - (p - 1)) (named .names .counted) all-behind);
+  count = omega (arith, count-once (BadPair u (hitImage u p) tables) (pairsOf u) (named .given .bad) (pairsOf u - (p - 1)) (named .names .counted) all-behind);
 }
   where
-    premises : N.Premises u (hitImage u p) codebook thresholds index report
-    premises = met u p inside codebook thresholds index report lent 0 (omega arith) (good-before u p inside codebook thresholds 0 (omega arith))
+    premises : N.Premises u (hitImage u p) tables index report
+    premises = met u p inside tables index report lent 0 (omega arith) (good-before u p inside tables 0 (omega arith))
 
-    named : N.Named u (hitImage u p) codebook thresholds index report
-    named = N.names-the-damage u (hitImage u p) codebook thresholds index report premises
+    named : N.Named u (hitImage u p) tables index report
+    named = N.names-the-damage u (hitImage u p) tables index report premises
 
     note : ℕ → ℕ
-    note q = pairNoteIn (reading (hitImage u p) codebook thresholds index report .report) q
+    note q = pairNoteIn (reading (hitImage u p) tables index report .report) q
 
-    note-2 : (q : ℕ) → q < pairsOf u → (q ≡ p → ⊥) → ByRule u (hitImage u p) codebook thresholds q
-        → pairNoteIn (reading (hitImage u p) codebook thresholds index report .report) q ≡ 2
+    note-2 : (q : ℕ) → q < pairsOf u → (q ≡ p → ⊥) → ByRule u (hitImage u p) tables q
+        → pairNoteIn (reading (hitImage u p) tables index report .report) q ≡ 2
     note-2 q h n r = named .names .ruled q h (not-hit u p q h n) r
 
-    bad-from : (q : ℕ) → p - 1 ≤ q → q < pairsOf u → BadPair u (hitImage u p) codebook thresholds q
+    bad-from : (q : ℕ) → p - 1 ≤ q → q < pairsOf u → BadPair u (hitImage u p) tables q
     bad-from q l h = by (decLt q p) (decLt p q)
       where
-        by : Dec (q < p) → Dec (p < q) → BadPair u (hitImage u p) codebook thresholds q
-        by (yes a) b = inr (ruled-before u p inside codebook thresholds q (omega arith) (inconsistent q h))
-        by (no a) (yes b) = inr (ruled-behind u p inside codebook thresholds q b (λ i x y. inconsistent i (omega arith)))
+        by : Dec (q < p) → Dec (p < q) → BadPair u (hitImage u p) tables q
+        by (yes a) b = inr (ruled-before u p inside tables q (omega arith) (inconsistent q h))
+        by (no a) (yes b) = inr (ruled-behind u p inside tables q b (λ i x y. inconsistent i (omega arith)))
         by (no a) (no b) = let e : p ≡ q = omega arith in inl (subst (λ (x : ℕ). Touched (imageOf u) (hitImage u p) x) e (is-hit u p inside))
 
-    all-behind : Count (BadPair u (hitImage u p) codebook thresholds) (pairsOf u) (pairsOf u - (p - 1))
+    all-behind : Count (BadPair u (hitImage u p) tables) (pairsOf u) (pairsOf u - (p - 1))
     all-behind =
         let e : pairsOf u - (p - 1) + (p - 1) ≡ pairsOf u = omega arith in
-        subst (λ (n : ℕ). Count (BadPair u (hitImage u p) codebook thresholds) n (pairsOf u - (p - 1))) e
-        (count-behind (BadPair u (hitImage u p) codebook thresholds) (p - 1) (pairsOf u - (p - 1)) (λ q h. good-before u p inside codebook thresholds q (omega arith))
+        subst (λ (n : ℕ). Count (BadPair u (hitImage u p) tables) n (pairsOf u - (p - 1))) e
+        (count-behind (BadPair u (hitImage u p) tables) (p - 1) (pairsOf u - (p - 1)) (λ q h. good-before u p inside tables q (omega arith))
         (λ q l h. bad-from q l (omega arith)))
 
 -- it is so of one multiframe
-pub chain-23 : Chain rises23 5 stairBook fours (indexFor 1) (reportFor 1)
-chain-23 = chain rises23 5 stairBook fours (indexFor 1) (reportFor 1) inconsistent-23 (omega arith) (omega arith) (lent-stairs 1)
+pub chain-23 : Chain rises23 5 stairs (indexFor 1) (reportFor 1)
+chain-23 = chain rises23 5 stairs (indexFor 1) (reportFor 1) inconsistent-23 (omega arith) (omega arith) (lent-stairs 1)
 
 -- of two, where the chain runs on from the first into the second
-pub chain-47 : Chain rises47 10 stairBook fours (indexFor 2) (reportFor 2)
-chain-47 = chain rises47 10 stairBook fours (indexFor 2) (reportFor 2) inconsistent-47 (omega arith) (omega arith) (lent-stairs 2)
+pub chain-47 : Chain rises47 10 stairs (indexFor 2) (reportFor 2)
+chain-47 = chain rises47 10 stairs (indexFor 2) (reportFor 2) inconsistent-47 (omega arith) (omega arith) (lent-stairs 2)
 
 -- and a chain that stops: of 7 frames the first pair is damaged, the three behind it are bad by the rule, and the padding behind them is good
 pub record Stops : Type 0 where
-  pub premises : N.Premises rises7 (hitImage rises7 0) stairBook fours (indexFor 1) (reportFor 1)
+  pub premises : N.Premises rises7 (hitImage rises7 0) stairs (indexFor 1) (reportFor 1)
   pub hit : Touched (imageOf rises7) (hitImage rises7 0) 0
-  pub ruled : (q : ℕ) → 0 < q → q < 4 → ByRule rises7 (hitImage rises7 0) stairBook fours q
-  pub good : (q : ℕ) → 4 ≤ q → q < 12 → BadPair rises7 (hitImage rises7 0) stairBook fours q → ⊥
+  pub ruled : (q : ℕ) → 0 < q → q < 4 → ByRule rises7 (hitImage rises7 0) stairs q
+  pub good : (q : ℕ) → 4 ≤ q → q < 12 → BadPair rises7 (hitImage rises7 0) stairs q → ⊥
 
 pub stops-7 : Stops
 stops-7 = record {
-  premises = met rises7 0 (omega arith) stairBook fours (indexFor 1) (reportFor 1) (lent-stairs 1) 4 (omega arith) (good 4 (omega arith) (omega arith));
+  premises = met rises7 0 (omega arith) stairs (indexFor 1) (reportFor 1) (lent-stairs 1) 4 (omega arith) (good 4 (omega arith) (omega arith));
   hit = is-hit rises7 0 (omega arith);
-  ruled = λ q h l. ruled-behind rises7 0 (omega arith) stairBook fours q h (λ i a b. inconsistent-7 i (omega arith));
+  ruled = λ q h l. ruled-behind rises7 0 (omega arith) stairs q h (λ i a b. inconsistent-7 i (omega arith));
   good = good;
 }
   where
-    good : (q : ℕ) → 4 ≤ q → q < 12 → BadPair rises7 (hitImage rises7 0) stairBook fours q → ⊥
-    good = good-past rises7 0 (omega arith) stairBook fours 4 (omega arith) (λ e. true-false (sym e ∙ consistent-7))
+    good : (q : ℕ) → 4 ≤ q → q < 12 → BadPair rises7 (hitImage rises7 0) stairs q → ⊥
+    good = good-past rises7 0 (omega arith) stairs 4 (omega arith) (λ e. true-false (sym e ∙ consistent-7))
 
 -- ---- ONE UNDAMAGED PAIR IS NOT ENOUGH: only the first pair is damaged, every other is bad by the rule, and the reading is refused, 20
-pub undamaged-not-enough : (u : Utterance) (codebook thresholds : List ℤ) (index report : List ℕ) → ((q : ℕ) → q < pairsOf u → Inconsistent u (hitImage u 0) codebook thresholds q)
-    → Lent (multiframesOf u) codebook thresholds index report
+pub undamaged-not-enough : (u : Utterance) (tables : Tables) (index report : List ℕ) → ((q : ℕ) → q < pairsOf u → Inconsistent u (hitImage u 0) tables q)
+    → Lent (multiframesOf u) tables index report
     → ((q : ℕ) → 0 < q → q < pairsOf u → Touched (imageOf u) (hitImage u 0) q → ⊥)
-    × (reading (hitImage u 0) codebook thresholds index report ≡ outcome (Refused AllBad) index report)
-undamaged-not-enough u codebook thresholds index report inconsistent lent = (
+    × (reading (hitImage u 0) tables index report ≡ outcome (Refused AllBad) index report)
+undamaged-not-enough u tables index report inconsistent lent = (
   (λ q h l. not-hit u 0 q l (λ e. omega arith)),
-  all-bad-refuses u (hitImage u 0) (hits u 0) codebook thresholds index report lent (inr (clean-header u 0 0 (omega arith))) every,
+  all-bad-refuses u (hitImage u 0) (hits u 0) tables index report lent (inr (clean-header u 0 0 (omega arith))) every,
 )
   where
-    every : (q : ℕ) → q < pairsOf u → BadPair u (hitImage u 0) codebook thresholds q
+    every : (q : ℕ) → q < pairsOf u → BadPair u (hitImage u 0) tables q
     every zero h = inl (is-hit u 0 h)
-    every (suc q) h = inr (ruled-behind u 0 (omega arith) codebook thresholds (suc q) (omega arith) (λ i a b. inconsistent i (omega arith)))
+    every (suc q) h = inr (ruled-behind u 0 (omega arith) tables (suc q) (omega arith) (λ i a b. inconsistent i (omega arith)))
 
 -- it is so of one multiframe
-pub all-but-one : reading (hitImage rises23 0) stairBook fours (indexFor 1) (reportFor 1) ≡ outcome (Refused AllBad) (indexFor 1) (reportFor 1)
-all-but-one = undamaged-not-enough rises23 stairBook fours (indexFor 1) (reportFor 1) inconsistent-23 (lent-stairs 1) .1
+pub all-but-one : reading (hitImage rises23 0) stairs (indexFor 1) (reportFor 1) ≡ outcome (Refused AllBad) (indexFor 1) (reportFor 1)
+all-but-one = undamaged-not-enough rises23 stairs (indexFor 1) (reportFor 1) inconsistent-23 (lent-stairs 1) .1

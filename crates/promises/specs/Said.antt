@@ -12,6 +12,7 @@ use borrow.Author.Tests.{ltb-true}
 use Rattle.lists.specs.Tests.{when, true-false, all-holds}
 use Rattle.lists.specs.Rows.{joined}
 use Rattle.layout.specs.Layout.{frameIndices, indexOctets, reportOctets, thresholdNumbers, firstFrame, secondFrame}
+use Rattle.consistency.specs.Tables.{Tables, tablesOf}
 use Rattle.settings.specs.Settings.{settings}
 use Rattle.frames.specs.Frames.{zeroFrame}
 use Rattle.packet.specs.Packet.{row, frameAt}
@@ -96,13 +97,10 @@ lengths = (refl, refl, refl)
 abbrev pub stair : ℕ → List ℤ
 stair n = pos 5 ∷ pos 5 ∷ pos 0 ∷ pos 0 ∷ replicate n (pos 5)
 
-abbrev pub stairBook : List ℤ
-stairBook = joined (λ c. stair 124) 6 ++ stair 508
+abbrev pub stairs : Tables
+stairs = tablesOf (joined (λ c. stair 124) 6 ++ stair 508) (replicate thresholdNumbers (pos 4))
 
-abbrev pub fours : List ℤ
-fours = replicate thresholdNumbers (pos 4)
-
-pub lent-stairs : (m : ℕ) → Lent m stairBook fours (indexFor m) (reportFor m)
+pub lent-stairs : (m : ℕ) → Lent m stairs (indexFor m) (reportFor m)
 lent-stairs m = record {
   codebook-size = refl;
   thresholds-size = refl;
@@ -112,25 +110,25 @@ lent-stairs m = record {
 
 -- which pairs are inconsistent: of 23 and of 47 frames all, also the last, whose second frame is padding
 abbrev inconsistentPair : List ℕ → ℕ → Bool
-inconsistentPair idx q = inconsistent stairBook fours (frameAt idx (firstFrame q)) (frameAt idx (secondFrame q))
+inconsistentPair idx q = inconsistent stairs (frameAt idx (firstFrame q)) (frameAt idx (secondFrame q))
 
 is-true : (b : Bool) → T b → b ≡ true
 is-true true t = refl
 is-true false t = absurd t
 
-pub inconsistent-23 : (q : ℕ) → q < 12 → inconsistent stairBook fours (frameAt (rising 11) (firstFrame q)) (frameAt (rising 11) (secondFrame q)) ≡ true
+pub inconsistent-23 : (q : ℕ) → q < 12 → inconsistent stairs (frameAt (rising 11) (firstFrame q)) (frameAt (rising 11) (secondFrame q)) ≡ true
 unfolding inconsistent flags flagged row
 inconsistent-23 q h = is-true (inconsistentPair (rising 11) q) (all-holds (inconsistentPair (rising 11)) 12 tt q h)
 
-pub inconsistent-47 : (q : ℕ) → q < 24 → inconsistent stairBook fours (frameAt (rising 23) (firstFrame q)) (frameAt (rising 23) (secondFrame q)) ≡ true
+pub inconsistent-47 : (q : ℕ) → q < 24 → inconsistent stairs (frameAt (rising 23) (firstFrame q)) (frameAt (rising 23) (secondFrame q)) ≡ true
 unfolding inconsistent flags flagged row
 inconsistent-47 q h = is-true (inconsistentPair (rising 23) q) (all-holds (inconsistentPair (rising 23)) 24 tt q h)
 
 -- of 7 frames the first four pairs, and not the fifth, which is padding
-pub inconsistent-7 : (q : ℕ) → q < 4 → inconsistent stairBook fours (frameAt (rising 3) (firstFrame q)) (frameAt (rising 3) (secondFrame q)) ≡ true
+pub inconsistent-7 : (q : ℕ) → q < 4 → inconsistent stairs (frameAt (rising 3) (firstFrame q)) (frameAt (rising 3) (secondFrame q)) ≡ true
 unfolding inconsistent flags flagged row
 inconsistent-7 q h = is-true (inconsistentPair (rising 3) q) (all-holds (inconsistentPair (rising 3)) 4 tt q h)
 
-pub consistent-7 : inconsistent stairBook fours (frameAt (rising 3) (firstFrame 4)) (frameAt (rising 3) (secondFrame 4)) ≡ false
+pub consistent-7 : inconsistent stairs (frameAt (rising 3) (firstFrame 4)) (frameAt (rising 3) (secondFrame 4)) ≡ false
 unfolding inconsistent flags flagged row
 consistent-7 = refl

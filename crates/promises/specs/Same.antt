@@ -6,13 +6,13 @@ use mathlib.Core.List.{List, _∷_}
 use Prim.Native.Nat.{ℕ, _+_, _*_, _/_, _≤_, _<_}
 use native.Mathlib.Omega.{arith}
 use lib.Dec.{eqb}
-use lib.IntN.{ℤ}
 use lib.ListN.{length, take, drop, getD}
 use borrow.Author.Tests.{ne-eqb}
 use Rattle.lists.specs.Tests.{when}
 use Rattle.lists.specs.Parts.{part, over}
 use Rattle.lists.specs.Rows.{each, joined, same-each, same-joined}
 use Rattle.layout.specs.Layout.{widths, frameIndices, dataBits, multiframePairs, streamOctets, multiframeOctets, indexOctets, reportOctets, codebookNumbers, thresholdNumbers, firstPair}
+use Rattle.consistency.specs.Tables.{Tables}
 use Rattle.bits.specs.Bits.{value, bits}
 use Rattle.crc.specs.Crc.{right}
 use Rattle.packet.specs.Packet.{apart}
@@ -68,15 +68,15 @@ module _ (o₁ p₁ o₂ p₂ : List ℕ) (count : length p₁ ≡ length p₂)
   frames-same =
       same-joined (framesOf (received o₁ p₁)) (framesOf (received o₂ p₂)) (pairCount p₁) (λ q h. ap (apart widths) (packet-same q h)) ∙ ap (joined (framesOf (received o₂ p₂))) pairs-count
 
-  module _ (codebook thresholds : List ℤ) where
-    notes-same : receivedNotes o₁ p₁ codebook thresholds ≡ receivedNotes o₂ p₂ codebook thresholds
+  module _ (tables : Tables) where
+    notes-same : receivedNotes o₁ p₁ tables ≡ receivedNotes o₂ p₂ tables
     unfolding pairNotes pairFails pairInconsistent framesOf
     notes-same =
         ap₂ notes
         (same-each (pairFails (received o₁ p₁)) (pairFails (received o₂ p₂)) (pairCount p₁) (λ q h. ap (λ (l : List Bool). not (right dataBits l)) (packet-same q h)) ∙ ap (each (pairFails (received o₂ p₂))) pairs-count)
-        (same-each (pairInconsistent (received o₁ p₁) codebook thresholds) (pairInconsistent (received o₂ p₂) codebook thresholds) (pairCount p₁)
-        (λ q h. ap (λ (l : List Bool). inconsistent codebook thresholds (take frameIndices (apart widths l)) (drop frameIndices (apart widths l))) (packet-same q h))
-        ∙ ap (each (pairInconsistent (received o₂ p₂) codebook thresholds)) pairs-count)
+        (same-each (pairInconsistent (received o₁ p₁) tables) (pairInconsistent (received o₂ p₂) tables) (pairCount p₁)
+        (λ q h. ap (λ (l : List Bool). inconsistent tables (take frameIndices (apart widths l)) (drop frameIndices (apart widths l))) (packet-same q h))
+        ∙ ap (each (pairInconsistent (received o₂ p₂) tables)) pairs-count)
 
     module _ (index report : List ℕ) where
       -- what success gives depends on the headers, the frames, the notes and the count alone
@@ -92,30 +92,30 @@ module _ (o₁ p₁ o₂ p₂ : List ℕ) (count : length p₁ ≡ length p₂)
           (over index 0 (indexOctets * m) (replaced ns fs))
           (over report 0 (reportOctets * m) (joined (λ k. headerNote c k (getD hs k Lost) ∷ part (firstPair k) multiframePairs ns) m))
 
-      finished-same : (v : Verdict) → finished o₁ codebook thresholds index report p₁ v ≡ finished o₂ codebook thresholds index report p₂ v
+      finished-same : (v : Verdict) → finished o₁ tables index report p₁ v ≡ finished o₂ tables index report p₂ v
       unfolding reportPart given
       finished-same (Refuse r) = refl
       finished-same (Accept c) =
-          ap₂ (λ (m : ℕ) (hs : List Header). given m hs (receivedFrames o₁ p₁) (receivedNotes o₁ p₁ codebook thresholds) c) count headers-same
+          ap₂ (λ (m : ℕ) (hs : List Header). given m hs (receivedFrames o₁ p₁) (receivedNotes o₁ p₁ tables) c) count headers-same
           ∙ ap₂ (λ (fs ns : List ℕ). given (length p₂) (readings o₂ p₂) fs ns c) frames-same notes-same
 
-      verdict-same : 0 < length p₁ → wholeVerdict o₁ codebook thresholds (length index) (length report) p₁ ≡ wholeVerdict o₂ codebook thresholds (length index) (length report) p₂
+      verdict-same : 0 < length p₁ → wholeVerdict o₁ tables (length index) (length report) p₁ ≡ wholeVerdict o₂ tables (length index) (length report) p₂
       unfolding wholeVerdict
       verdict-same h =
           rw (ne-eqb (length p₁) 0 (λ e. omega arith), ne-eqb (length p₂) 0 (λ e. omega arith))
           (ap₂ (λ (m : ℕ) (ns : List ℕ). settledVerdict m (badPairs ns) (multiframePairs * m) (length index) (length report) (settling (readings o₁ p₁))) count notes-same
-          ∙ ap (λ (hs : List Header). settledVerdict (length p₂) (badPairs (receivedNotes o₂ p₂ codebook thresholds)) (pairCount p₂) (length index) (length report) (settling hs))
+          ∙ ap (λ (hs : List Header). settledVerdict (length p₂) (badPairs (receivedNotes o₂ p₂ tables)) (pairCount p₂) (length index) (length report) (settling hs))
           headers-same)
 
       -- the verdict, if the tables have their sizes
       abbrev tabled : Verdict → Verdict
-      tabled v = when (eqb (length codebook) codebookNumbers) (when (eqb (length thresholds) thresholdNumbers) v (Refuse WrongTables)) (Refuse WrongTables)
+      tabled v = when (eqb (length (tables .codebook)) codebookNumbers) (when (eqb (length (tables .thresholds)) thresholdNumbers) v (Refuse WrongTables)) (Refuse WrongTables)
 
       -- if these are what cutting finds, and there is one, the whole outcome is the same
       pub same-read : cutting o₁ ≡ record { places = p₁; ending = whole } → cutting o₂ ≡ record { places = p₂; ending = whole } → 0 < length p₁
-          → reading o₁ codebook thresholds index report ≡ reading o₂ codebook thresholds index report
+          → reading o₁ tables index report ≡ reading o₂ tables index report
       unfolding reading verdict
       same-read c₁ c₂ h =
           rw (c₁, c₂)
-          (finished-same (tabled (wholeVerdict o₁ codebook thresholds (length index) (length report) p₁))
-          ∙ ap (λ (v : Verdict). finished o₂ codebook thresholds index report p₂ (tabled v)) (verdict-same h))
+          (finished-same (tabled (wholeVerdict o₁ tables (length index) (length report) p₁))
+          ∙ ap (λ (v : Verdict). finished o₂ tables index report p₂ (tabled v)) (verdict-same h))

@@ -10,11 +10,11 @@ use native.Mathlib.Omega.{arith}
 use lib.Bits.{xor-zero-r}
 use lib.Count.{ones-le}
 use lib.Dec.{lit<}
-use lib.IntN.{ℤ}
 use lib.ListN.{length, getD, replicate}
 use Rattle.lists.specs.Parts.{over}
 use Rattle.lists.specs.Rows.{each-at}
 use Rattle.layout.specs.Layout.{multiframePairs, multiframeOctets, indexOctets, reportOctets, sync}
+use Rattle.consistency.specs.Tables.{Tables}
 use Rattle.settings.specs.declared.Settings.{Settings}
 use Rattle.packet.specs.Packet.{packetOf}
 use Rattle.header_code.specs.Code.{codeword, flipsTo}
@@ -44,23 +44,23 @@ use Rattle.demands.specs.ReadsBack.{spoken, padded, reads-image}
 use Rattle.demands.specs.WritesAgain as A
 
 -- ---- "a reading that succeeds with all notes 0"
-module _ (s : List ℕ) (codebook thresholds : List ℤ) (index report : List ℕ) (given : Summary) where
+module _ (s : List ℕ) (tables : Tables) (index report : List ℕ) (given : Summary) where
   abbrev pub result : Outcome
-  result = reading s codebook thresholds index report
+  result = reading s tables index report
 
   pub record WithoutWarning : Type 0 where
     pub succeeds : result .answer ≡ Read given
     pub notes-0 : (i : ℕ) → i < reportOctets * given .multiframes → getD (result .report) i 0 ≡ 0
 
 -- ---- "is of the image as written: settings, frames, speech and end are those sent"
-module _ (u : Utterance) (s : List ℕ) (codebook thresholds : List ℤ) (index report : List ℕ) (given : Summary) where
+module _ (u : Utterance) (s : List ℕ) (tables : Tables) (index report : List ℕ) (given : Summary) where
   pub record AsWritten : Type 0 where
     pub image : s ≡ imageOf u
     -- the same settings, m, speech equal to n, no bad pair, end 1
     pub sent : given ≡ spoken u
     -- the frames as written and zeros after them
-    pub frames : result s codebook thresholds index report given .index ≡ over index 0 (indexOctets * multiframesOf u) (padded u)
-    pub notes : result s codebook thresholds index report given .report ≡ over report 0 (reportOctets * multiframesOf u) (replicate (reportOctets * multiframesOf u) 0)
+    pub frames : result s tables index report given .index ≡ over index 0 (indexOctets * multiframesOf u) (padded u)
+    pub notes : result s tables index report given .report ≡ over report 0 (reportOctets * multiframesOf u) (replicate (reportOctets * multiframesOf u) 0)
 
 -- demand 3's damage to pairs, any damage to headers but for one, which has at most five flips
 pub record Premises (u : Utterance) (s : List ℕ) : Type 0 where
@@ -69,8 +69,8 @@ pub record Premises (u : Utterance) (s : List ℕ) : Type 0 where
   pub within : header < multiframesOf u
   pub five : headerFlips (imageOf u) s header ≤ 5
 
-module _ (u : Utterance) (s : List ℕ) (p : Premises u s) (codebook thresholds : List ℤ) (index report : List ℕ) (given : Summary)
-    (x : WithoutWarning s codebook thresholds index report given) where
+module _ (u : Utterance) (s : List ℕ) (p : Premises u s) (tables : Tables) (index report : List ℕ) (given : Summary)
+    (x : WithoutWarning s tables index report given) where
   abbrev m : ℕ
   m = multiframesOf u
 
@@ -86,14 +86,14 @@ module _ (u : Utterance) (s : List ℕ) (p : Premises u s) (codebook thresholds 
   cut : cutting s .places ≡ rowOf m
   cut = ap (λ (w : Cutting). w .places) (cut-is s m (few-multiframes (u .settings) (u .indices) (is-accepted u .sizes)) size syncs)
 
-  w : A.WasRead s codebook thresholds index report [] given
-  w = A.was-read s codebook thresholds index report [] given (x .succeeds)
+  w : A.WasRead s tables index report [] given
+  w = A.was-read s tables index report [] given (x .succeeds)
 
   abbrev places : List ℕ
   places = cutting s .places
 
   abbrev ns : List ℕ
-  ns = receivedNotes s places codebook thresholds
+  ns = receivedNotes s places tables
 
   abbrev c : ℕ
   c = w .common
@@ -105,7 +105,7 @@ module _ (u : Utterance) (s : List ℕ) (p : Premises u s) (codebook thresholds 
   count = ap (λ (g : Summary). g .multiframes) (w .given-is) ∙ rows
 
   notes-size : length ns ≡ pairCount places
-  notes-size = length-notes (received s places) (pairCount places) codebook thresholds
+  notes-size = length-notes (received s places) (pairCount places) tables
 
   -- each header is a codeword with the settled bits
   settled-word : (k : ℕ) → k < m → wordIn s k ≡ codeword (message (settingsOf c) (k + 1) 0)
@@ -157,13 +157,13 @@ module _ (u : Utterance) (s : List ℕ) (p : Premises u s) (codebook thresholds 
       by : Fate u s d q h → packetOf (u .indices) q ≡ packetIn s q
       by (whole a r) = sym a
       by (hit t r) =
-          let one : getD ns q 0 ≡ 1 = ap (λ (l : List ℕ). getD (receivedNotes s l codebook thresholds) q 0) cut ∙ touched-note u s d codebook thresholds q h t in
+          let one : getD ns q 0 ≡ 1 = ap (λ (l : List ℕ). getD (receivedNotes s l tables) q 0) cut ∙ touched-note u s d tables q h t in
           let y : _≡_ {A = ℕ} 0 1 = sym z ∙ one in absurd (omega arith)
 
   is-sent : s ≡ imageOf u
   is-sent = sym (is-image s m size (d .small) syncs (u .settings) (u .indices) word packet)
 
-  lent : Lent m codebook thresholds index report
+  lent : Lent m tables index report
   lent = record {
     codebook-size = w .reader-accepts .codebook-size;
     thresholds-size = w .reader-accepts .thresholds-size;
@@ -171,11 +171,11 @@ module _ (u : Utterance) (s : List ℕ) (p : Premises u s) (codebook thresholds 
     report-room = subst (λ (n : ℕ). reportOctets * n ≤ length report) rows (w .reader-accepts .fitting .roomy .report-room);
   }
 
-  read-is : result s codebook thresholds index report given
+  read-is : result s tables index report given
       ≡ outcome (Read (spoken u)) (over index 0 (indexOctets * m) (padded u)) (over report 0 (reportOctets * m) (replicate (reportOctets * m) 0))
-  read-is = ap (λ (i : List ℕ). reading i codebook thresholds index report) is-sent ∙ reads-image u codebook thresholds index report lent
+  read-is = ap (λ (i : List ℕ). reading i tables index report) is-sent ∙ reads-image u tables index report lent
 
-  proof : AsWritten u s codebook thresholds index report given
+  proof : AsWritten u s tables index report given
   proof = record {
     image = is-sent;
     sent = let r : Read given ≡ Read (spoken u) = sym (x .succeeds) ∙ ap (λ (o : Outcome). o .answer) read-is in cc;
@@ -184,13 +184,13 @@ module _ (u : Utterance) (s : List ℕ) (p : Premises u s) (codebook thresholds 
   }
 
 -- TRUSTED BY ONE HEADER
-pub trusted-by-one : (u : Utterance) (s : List ℕ) → Premises u s → (codebook thresholds : List ℤ) (index report : List ℕ) (given : Summary)
-    → WithoutWarning s codebook thresholds index report given → AsWritten u s codebook thresholds index report given
+pub trusted-by-one : (u : Utterance) (s : List ℕ) → Premises u s → (tables : Tables) (index report : List ℕ) (given : Summary)
+    → WithoutWarning s tables index report given → AsWritten u s tables index report given
 trusted-by-one = proof
 
 -- TRUSTED: demand 3's damage
-pub trusted : (u : Utterance) (s : List ℕ) → Damage (multiframesOf u) (imageOf u) s → (codebook thresholds : List ℤ) (index report : List ℕ) (given : Summary)
-    → WithoutWarning s codebook thresholds index report given → AsWritten u s codebook thresholds index report given
+pub trusted : (u : Utterance) (s : List ℕ) → Damage (multiframesOf u) (imageOf u) s → (tables : Tables) (index report : List ℕ) (given : Summary)
+    → WithoutWarning s tables index report given → AsWritten u s tables index report given
 trusted u s d =
     trusted-by-one u s
     (record { damage = loosened (lit< tt) d; header = 0; within = omega arith; five = let l = d .headers 0 (omega arith) in omega arith })

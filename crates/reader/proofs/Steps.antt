@@ -8,12 +8,12 @@ use native.Mathlib.Omega.{arith}
 use native.Mathlib.Numerals.{add-one}
 use lib.ListN.{length, getD, take, drop, set, length-append, length-drop}
 use lib.Seq.{take-suc, take-at, getD-drop}
-use lib.IntN.{ℤ}
 use lib.Dec.{ltb, eqb}
 use Rattle.lists.specs.Tests.{when}
 use Rattle.lists.specs.Parts.{part, over, length-part, set-over, behind, over-in, drop-over, part-left}
 use Rattle.lists.specs.Rows.{joined, each-at, length-each, same-joined, joined-more}
 use Rattle.layout.specs.Layout.{frameIndices, pairFrames, multiframePairs, multiframeFrames, indexOctets, reportOctets, firstPair}
+use Rattle.consistency.specs.Tables.{Tables}
 use Rattle.settings.specs.declared.Settings.{Settings}
 use Rattle.frames.specs.Frames.{allZero, zeroFrame}
 use Rattle.header.specs.Message.{rateOf, expOf, settingsOf}
@@ -90,14 +90,15 @@ note-on ns l m from to j x h room e size em =
     behind l to j 1 (part from j ns) (x ∷ []) (omega arith) n em s ∙ ap (over l to (j + 1)) (sym t)
 
 -- a header note and the twelve notes behind it
-pub section-is : (headers ns l m : List ℕ) (c k x : ℕ) → reportOctets * k + reportOctets ≤ length l → x ≡ headerNote c k (opened (getD headers k 0))
-    → m ≡ over (set l (reportOctets * k) x) (reportOctets * k + 1) multiframePairs (part (firstPair k) multiframePairs ns)
+pub section-is : (headers ns l m : List ℕ) (c k x first : ℕ) → reportOctets * k + reportOctets ≤ length l → x ≡ headerNote c k (opened (getD headers k 0))
+    → first ≡ firstPair k → m ≡ over (set l (reportOctets * k) x) (reportOctets * k + 1) multiframePairs (part first multiframePairs ns)
     → m ≡ over l (reportOctets * k) reportOctets (section headers ns c k)
 unfolding section
-section-is headers ns l m c k x room e em =
+section-is headers ns l m c k x first room e ef em =
     let h = headerNote c k (opened (getD headers k 0)) in
     let s : set l (13 * k) x ≡ over l (13 * k) 1 (h ∷ []) = set-over l (13 * k) x (omega arith) ∙ ap (λ (y : ℕ). over l (13 * k) 1 (y ∷ [])) e in
-    behind l (13 * k) 1 12 (h ∷ []) (part (12 * k) 12 ns) (omega arith) refl s em
+    behind l (13 * k) 1 12 (h ∷ []) (part (12 * k) 12 ns) (omega arith) refl s
+    (em ∙ ap (λ (f : ℕ). over (set l (13 * k) x) (13 * k + 1) 12 (part f 12 ns)) ef)
 
 length-section : (headers ns : List ℕ) (c k : ℕ) → firstPair k + multiframePairs ≤ length ns → length (section headers ns c k) ≡ reportOctets
 unfolding section
@@ -193,9 +194,9 @@ module _ (m bad pairs index report c : ℕ) (v : Verdict) (ev : v ≡ earlyVerdi
     unfolding lastVerdict
     not-all-bad q = passed-early (Accept c) same-accept (rw (ne-eqb bad pairs (λ z. q (eb ∙ z ∙ sym en))))
 
-module _ (octets : List ℕ) (codebook thresholds : List ℤ) (index report : ℕ) (places : List ℕ) where
+module _ (octets : List ℕ) (tables : Tables) (index report : ℕ) (places : List ℕ) where
   -- 14
-  pub decided-empty : length places ≡ 0 → Refuse (Empty (length octets)) ≡ wholeVerdict octets codebook thresholds index report places
+  pub decided-empty : length places ≡ 0 → Refuse (Empty (length octets)) ≡ wholeVerdict octets tables index report places
   unfolding wholeVerdict
   decided-empty z = rw (eq-eqb (length places) 0 z)
 
@@ -204,13 +205,13 @@ module _ (octets : List ℕ) (codebook thresholds : List ℤ) (index report : �
     settles : settling (readings octets places) ≡ s
     settles = sym (es ∙ ap (λ (l : List ℕ). settling (openAll l)) eh ∙ ap settling (stored-back octets places))
 
-    pub decided-unsettled : s ≡ S.Unsettled → Refuse Unsettled ≡ wholeVerdict octets codebook thresholds index report places
+    pub decided-unsettled : s ≡ S.Unsettled → Refuse Unsettled ≡ wholeVerdict octets tables index report places
     unfolding wholeVerdict settledVerdict
     decided-unsettled e = rw (ne-eqb (length places) 0 some, settles, e)
 
     pub decided-settled : (c : ℕ) (v : Verdict) → s ≡ S.Settled c
-        → v ≡ settledVerdict (length places) (badPairs (receivedNotes octets places codebook thresholds)) (pairCount places) index report (S.Settled c)
-        → v ≡ wholeVerdict octets codebook thresholds index report places
+        → v ≡ settledVerdict (length places) (badPairs (receivedNotes octets places tables)) (pairCount places) index report (S.Settled c)
+        → v ≡ wholeVerdict octets tables index report places
     unfolding wholeVerdict
     decided-settled c v e ev = rw (ne-eqb (length places) 0 some, settles, e) ev
 
@@ -231,18 +232,18 @@ summary-is octets places ns c settings speech bad end l n some size en et es eb 
     rw (et, s, eb, e)
 
 -- ---- an accepted reading can be written
-pub record Ready (octets : List ℕ) (codebook thresholds : List ℤ) (index report : ℕ) (places : List ℕ) : Type 0 where
+pub record Ready (octets : List ℕ) (tables : Tables) (index report : ℕ) (places : List ℕ) : Type 0 where
   pub some : 1 ≤ length places
-  pub good : Good (receivedNotes octets places codebook thresholds)
+  pub good : Good (receivedNotes octets places tables)
   pub index-room : indexOctets * length places ≤ index
   pub report-room : reportOctets * length places ≤ report
 
-pub ready : (octets : List ℕ) (codebook thresholds : List ℤ) (index report : ℕ) (places : List ℕ) (c : ℕ)
-    → wholeVerdict octets codebook thresholds index report places ≡ Accept c → Ready octets codebook thresholds index report places
-ready octets codebook thresholds index report places c e =
-    let h = whole-accepted octets codebook thresholds index report places c e in
-    let ns = receivedNotes octets places codebook thresholds in
-    let n = length-notes (received octets places) (pairCount places) codebook thresholds in
+pub ready : (octets : List ℕ) (tables : Tables) (index report : ℕ) (places : List ℕ) (c : ℕ)
+    → wholeVerdict octets tables index report places ≡ Accept c → Ready octets tables index report places
+ready octets tables index report places c e =
+    let h = whole-accepted octets tables index report places c e in
+    let ns = receivedNotes octets places tables in
+    let n = length-notes (received octets places) (pairCount places) tables in
     let roomy = h .1 .roomy in
     record {
       some = positive (length places) (h .0);
@@ -257,13 +258,13 @@ ready octets codebook thresholds index report places c e =
     fewer : (a b : ℕ) → a ≤ b → (a ≡ b → ⊥) → a < b
     fewer a b h n = omega arith
 
-module _ (octets : List ℕ) (codebook thresholds : List ℤ) (index report places : List ℕ) (v : Verdict) where
-  pub finished-refused : (r : Refusal) → v ≡ Refuse r → outcome (Refused r) index report ≡ finished octets codebook thresholds index report places v
+module _ (octets : List ℕ) (tables : Tables) (index report places : List ℕ) (v : Verdict) where
+  pub finished-refused : (r : Refusal) → v ≡ Refuse r → outcome (Refused r) index report ≡ finished octets tables index report places v
   finished-refused r e = rw e
 
-  pub finished-read : (c : ℕ) (s : Summary) (i r ns : List ℕ) → v ≡ Accept c → ns ≡ receivedNotes octets places codebook thresholds → s ≡ summary octets places ns c
+  pub finished-read : (c : ℕ) (s : Summary) (i r ns : List ℕ) → v ≡ Accept c → ns ≡ receivedNotes octets places tables → s ≡ summary octets places ns c
       → i ≡ over index 0 (indexOctets * length places) (indexPart octets places ns) → r ≡ over report 0 (reportOctets * length places) (reportPart octets places ns c)
-      → outcome (Read s) i r ≡ finished octets codebook thresholds index report places v
+      → outcome (Read s) i r ≡ finished octets tables index report places v
   finished-read c s i r ns ev en es ei er = rw (ev, es, ei, er, en)
 
 -- ---- what cutting answered
@@ -289,10 +290,10 @@ has-front g l n e = rw length-append (omega arith)
 pub front-places : (ps l m : List ℕ) (n : ℕ) → m ≡ laid 0 ps l → n ≡ length ps → take n m ≡ ps
 front-places ps l m n em en = rw (em, en) (take-at ps (drop (0 + length ps) l) (length ps) refl)
 
-module _ (octets : List ℕ) (codebook thresholds : List ℤ) (index report : List ℕ) where
+module _ (octets : List ℕ) (tables : Tables) (index report : List ℕ) where
   -- what `reading` says of answer and buffers, it says of 01's number and values
-  pub in-numbers : {o : Outcome} → o ≡ reading octets codebook thresholds index report
-      → (o ≡ reading octets codebook thresholds index report)
-      × ((answerNumber (o .answer) ≡ answerNumber (reading octets codebook thresholds index report .answer))
-      × (answerValues (o .answer) ≡ answerValues (reading octets codebook thresholds index report .answer)))
+  pub in-numbers : {o : Outcome} → o ≡ reading octets tables index report
+      → (o ≡ reading octets tables index report)
+      × ((answerNumber (o .answer) ≡ answerNumber (reading octets tables index report .answer))
+      × (answerValues (o .answer) ≡ answerValues (reading octets tables index report .answer)))
   in-numbers e = (e, (ap (λ (q : Outcome). answerNumber (q .answer)) e, ap (λ (q : Outcome). answerValues (q .answer)) e))

@@ -4,12 +4,12 @@
 use Prim.Native.Nat.{ℕ, _*_}
 use mathlib.Core.List.{List, [], _∷_}
 use lib.ListN.{length, getD}
-use lib.IntN.{ℤ}
 use lib.Dec.{ltb, eqb}
 use Rattle.lists.specs.Tests.{when}
 use Rattle.lists.specs.Parts.{part, over}
 use Rattle.lists.specs.Rows.{joined}
 use Rattle.layout.specs.Layout.{multiframePairs, indexOctets, reportOctets, codebookNumbers, thresholdNumbers, firstPair}
+use Rattle.consistency.specs.Tables.{Tables}
 use Rattle.refusals.specs.Refusals.{success, readingNumber, readingPlace}
 use Rattle.refusals.specs.declared.Reading.the-variants.{WrongTables, Empty, Unsettled, Unfit, IndexShort, ReportShort, AllBad}
 use Rattle.cutting.specs.Cutting.{Ending, whole, refused, cutting}
@@ -44,8 +44,8 @@ answerValues (Refused r) = readingPlace r ∷ []
 abbrev pub receivedFrames : List ℕ → List ℕ → List ℕ
 receivedFrames octets places = allFrames (received octets places) (pairCount places)
 
-abbrev pub receivedNotes : List ℕ → List ℕ → List ℤ → List ℤ → List ℕ
-receivedNotes octets places codebook thresholds = pairNotes (received octets places) (pairCount places) codebook thresholds
+abbrev pub receivedNotes : List ℕ → List ℕ → Tables → List ℕ
+receivedNotes octets places tables = pairNotes (received octets places) (pairCount places) tables
 
 -- the index buffer's part: all frames in order, seven octets each, after replacing
 abbrev pub indexPart : List ℕ → List ℕ → List ℕ → List ℕ
@@ -81,12 +81,12 @@ settledVerdict m bad pairs index report S.Unsettled = Refuse Unsettled
 settledVerdict m bad pairs index report (S.Settled c) =
     when (eqb (rateOf c) 2) (Refuse Unfit) (when (eqb (expOf c) 0) (roomVerdict m bad pairs index report c) (Refuse Unfit))
 
-module _ (octets : List ℕ) (codebook thresholds : List ℤ) (index report : ℕ) where
+module _ (octets : List ℕ) (tables : Tables) (index report : ℕ) where
   -- 14: no multiframe
   unfoldable pub wholeVerdict : List ℕ → Verdict
   wholeVerdict places =
       when (eqb (length places) 0) (Refuse (Empty (length octets)))
-      (settledVerdict (length places) (badPairs (receivedNotes octets places codebook thresholds)) (pairCount places) index report
+      (settledVerdict (length places) (badPairs (receivedNotes octets places tables)) (pairCount places) index report
       (settling (readings octets places)))
 
   -- 12, 13 and 15, as cutting meets them
@@ -97,8 +97,8 @@ module _ (octets : List ℕ) (codebook thresholds : List ℤ) (index report : �
   -- 11: codebook not 1,280 or thresholds not 14. It comes first
   unfoldable pub verdict : Verdict
   verdict =
-      when (eqb (length codebook) codebookNumbers)
-      (when (eqb (length thresholds) thresholdNumbers) (endVerdict (cutting octets .places) (cutting octets .ending)) (Refuse WrongTables))
+      when (eqb (length (tables .codebook)) codebookNumbers)
+      (when (eqb (length (tables .thresholds)) thresholdNumbers) (endVerdict (cutting octets .places) (cutting octets .ending)) (Refuse WrongTables))
       (Refuse WrongTables)
 
 -- ---- the answer and both buffers
@@ -110,18 +110,18 @@ pub record Outcome : Type 0 where
 abbrev pub outcome : Answer → List ℕ → List ℕ → Outcome
 outcome a i r = record { answer = a; index = i; report = r }
 
-module _ (octets : List ℕ) (codebook thresholds : List ℤ) (index report : List ℕ) where
+module _ (octets : List ℕ) (tables : Tables) (index report : List ℕ) where
   -- a refusal changes no octet; success lays both parts over the buffers' fronts, and octets beyond stay
   abbrev pub finished : List ℕ → Verdict → Outcome
   finished places (Refuse r) = outcome (Refused r) index report
   finished places (Accept c) =
-      outcome (Read (summary octets places (receivedNotes octets places codebook thresholds) c))
-      (over index 0 (indexOctets * length places) (indexPart octets places (receivedNotes octets places codebook thresholds)))
-      (over report 0 (reportOctets * length places) (reportPart octets places (receivedNotes octets places codebook thresholds) c))
+      outcome (Read (summary octets places (receivedNotes octets places tables) c))
+      (over index 0 (indexOctets * length places) (indexPart octets places (receivedNotes octets places tables)))
+      (over report 0 (reportOctets * length places) (reportPart octets places (receivedNotes octets places tables) c))
 
   -- the reading of multiframes already found: 14 and 16 to 20, or what is read
   abbrev pub readingFound : List ℕ → Outcome
-  readingFound places = finished places (wholeVerdict octets codebook thresholds (length index) (length report) places)
+  readingFound places = finished places (wholeVerdict octets tables (length index) (length report) places)
 
   -- what cutting refuses, else the reading of what it found
   abbrev pub endReading : List ℕ → Ending → Outcome
@@ -130,4 +130,4 @@ module _ (octets : List ℕ) (codebook thresholds : List ℤ) (index report : Li
 
   -- decided first, then finished; `in-order` says it by its parts: 11, what cutting refuses, else `readingFound`
   unfoldable pub reading : Outcome
-  reading = finished (cutting octets .places) (verdict octets codebook thresholds (length index) (length report))
+  reading = finished (cutting octets .places) (verdict octets tables (length index) (length report))

@@ -6,13 +6,13 @@ use mathlib.Core.Path.{_≡_, refl, ap, sym, subst, _∙_}
 use mathlib.Core.List.{List, _∷_}
 use mathlib.Core.Bool.{Bool, true, false}
 use lib.ListN.{length, getD}
-use lib.IntN.{ℤ}
 use lib.Dec.{ltb, eqb}
 use borrow.Author.Tests.{eq-eqb, ne-eqb, le-ltb, ltb-false, eqb-true, eqb-false}
 use Rattle.lists.specs.Tests.{when, by-test}
 use Rattle.lists.specs.Parts.{part, over, length-part}
 use Rattle.lists.specs.Rows.{length-joined, joined-part}
 use Rattle.layout.specs.Layout.{multiframePairs, firstPair, indexOctets, reportOctets, codebookNumbers, thresholdNumbers}
+use Rattle.consistency.specs.Tables.{Tables}
 use Rattle.cutting.specs.Cutting.{Ending, whole, refused, cutting}
 use Rattle.header.specs.Message.{rateOf, expOf}
 use Rattle.header.specs.declared.Header.the-variants.{Lost}
@@ -84,72 +84,72 @@ settled-says m bad pairs index report (S.Settled c) =
     lift (Refuse r) u h = tt
     lift (Accept d) u h = record { settles = ap S.Settled (sym (h .0)); usable = subst Usable (sym (h .0)) u; roomy = h .1 }
 
-module _ (octets : List ℕ) (codebook thresholds : List ℤ) (index report : ℕ) where
+module _ (octets : List ℕ) (tables : Tables) (index report : ℕ) where
   abbrev places : List ℕ
   places = cutting octets .places
 
   -- an accepted input, with the settled common bits
   pub record Accepted (c : ℕ) : Type 0 where
-    pub codebook-size : length codebook ≡ codebookNumbers
-    pub thresholds-size : length thresholds ≡ thresholdNumbers
+    pub codebook-size : length (tables .codebook) ≡ codebookNumbers
+    pub thresholds-size : length (tables .thresholds) ≡ thresholdNumbers
     pub uncut : cutting octets .ending ≡ whole
     pub some : length places ≡ 0 → ⊥
-    pub fitting : Fitting (length places) (badPairs (receivedNotes octets places codebook thresholds)) (pairCount places) index report (settling (readings octets places)) c
+    pub fitting : Fitting (length places) (badPairs (receivedNotes octets places tables)) (pairCount places) index report (settling (readings octets places)) c
 
   -- the same of octets that are cut up at places
   abbrev WholeSays : List ℕ → Verdict → Type 0
   WholeSays ps (Refuse r) = Unit
   WholeSays ps (Accept c) =
-      (length ps ≡ 0 → ⊥) × Fitting (length ps) (badPairs (receivedNotes octets ps codebook thresholds)) (pairCount ps) index report (settling (readings octets ps)) c
+      (length ps ≡ 0 → ⊥) × Fitting (length ps) (badPairs (receivedNotes octets ps tables)) (pairCount ps) index report (settling (readings octets ps)) c
 
-  whole-says : (ps : List ℕ) → WholeSays ps (wholeVerdict octets codebook thresholds index report ps)
+  whole-says : (ps : List ℕ) → WholeSays ps (wholeVerdict octets tables index report ps)
   unfolding wholeVerdict
   whole-says ps =
       by-test (WholeSays ps) (eqb (length ps) 0) (λ h. tt) (λ h.
-      lift (settledVerdict (length ps) (badPairs (receivedNotes octets ps codebook thresholds)) (pairCount ps) index report (settling (readings octets ps))) (eqb-false (length ps) 0 h)
-      (settled-says (length ps) (badPairs (receivedNotes octets ps codebook thresholds)) (pairCount ps) index report (settling (readings octets ps))))
+      lift (settledVerdict (length ps) (badPairs (receivedNotes octets ps tables)) (pairCount ps) index report (settling (readings octets ps))) (eqb-false (length ps) 0 h)
+      (settled-says (length ps) (badPairs (receivedNotes octets ps tables)) (pairCount ps) index report (settling (readings octets ps))))
     where
       lift : (v : Verdict) → (length ps ≡ 0 → ⊥)
-          → SettledSays (length ps) (badPairs (receivedNotes octets ps codebook thresholds)) (pairCount ps) index report (settling (readings octets ps)) v → WholeSays ps v
+          → SettledSays (length ps) (badPairs (receivedNotes octets ps tables)) (pairCount ps) index report (settling (readings octets ps)) v → WholeSays ps v
       lift (Refuse r) n h = tt
       lift (Accept c) n h = (n, h)
 
-  pub whole-accepted : (ps : List ℕ) (c : ℕ) → wholeVerdict octets codebook thresholds index report ps ≡ Accept c
-      → (length ps ≡ 0 → ⊥) × Fitting (length ps) (badPairs (receivedNotes octets ps codebook thresholds)) (pairCount ps) index report (settling (readings octets ps)) c
+  pub whole-accepted : (ps : List ℕ) (c : ℕ) → wholeVerdict octets tables index report ps ≡ Accept c
+      → (length ps ≡ 0 → ⊥) × Fitting (length ps) (badPairs (receivedNotes octets ps tables)) (pairCount ps) index report (settling (readings octets ps)) c
   whole-accepted ps c e = rw e at (whole-says ps)
 
   abbrev AcceptedBy : Verdict → Type 0
   AcceptedBy (Refuse r) = Unit
   AcceptedBy (Accept c) = Accepted c
 
-  accepted-by : AcceptedBy (verdict octets codebook thresholds index report)
+  accepted-by : AcceptedBy (verdict octets tables index report)
   unfolding verdict
   accepted-by =
-      by-test AcceptedBy (eqb (length codebook) codebookNumbers) (λ hc.
-      by-test AcceptedBy (eqb (length thresholds) thresholdNumbers) (λ ht.
-      ended (cutting octets .ending) refl (eqb-true (length codebook) codebookNumbers hc) (eqb-true (length thresholds) thresholdNumbers ht)) (λ h. tt)) (λ h. tt)
+      by-test AcceptedBy (eqb (length (tables .codebook)) codebookNumbers) (λ hc.
+      by-test AcceptedBy (eqb (length (tables .thresholds)) thresholdNumbers) (λ ht.
+      ended (cutting octets .ending) refl (eqb-true (length (tables .codebook)) codebookNumbers hc) (eqb-true (length (tables .thresholds)) thresholdNumbers ht)) (λ h. tt)) (λ h. tt)
     where
-      fit : (v : Verdict) → length codebook ≡ codebookNumbers → length thresholds ≡ thresholdNumbers → cutting octets .ending ≡ whole → WholeSays places v → AcceptedBy v
+      fit : (v : Verdict) → length (tables .codebook) ≡ codebookNumbers → length (tables .thresholds) ≡ thresholdNumbers → cutting octets .ending ≡ whole → WholeSays places v → AcceptedBy v
       fit (Refuse r) a b e h = tt
       fit (Accept c) a b e h = record { codebook-size = a; thresholds-size = b; uncut = e; some = h .0; fitting = h .1 }
 
-      ended : (e : Ending) → cutting octets .ending ≡ e → length codebook ≡ codebookNumbers → length thresholds ≡ thresholdNumbers
-          → AcceptedBy (endVerdict octets codebook thresholds index report places e)
+      ended : (e : Ending) → cutting octets .ending ≡ e → length (tables .codebook) ≡ codebookNumbers → length (tables .thresholds) ≡ thresholdNumbers
+          → AcceptedBy (endVerdict octets tables index report places e)
       ended (refused r) e a b = tt
-      ended whole e a b = fit (wholeVerdict octets codebook thresholds index report places) a b e (whole-says places)
+      ended whole e a b = fit (wholeVerdict octets tables index report places) a b e (whole-says places)
 
   -- what acceptance says
-  pub accepted : (c : ℕ) → verdict octets codebook thresholds index report ≡ Accept c → Accepted c
+  pub accepted : (c : ℕ) → verdict octets tables index report ≡ Accept c → Accepted c
   accepted c e = rw e at accepted-by
 
   -- and what it takes
-  pub accepting : (c : ℕ) → Accepted c → verdict octets codebook thresholds index report ≡ Accept c
+  pub accepting : (c : ℕ) → Accepted c → verdict octets tables index report ≡ Accept c
   unfolding verdict wholeVerdict settledVerdict roomVerdict
   accepting c a =
       let f = a .fitting in
       rw (
-        eq-eqb (length codebook) codebookNumbers (a .codebook-size),
-        eq-eqb (length thresholds) thresholdNumbers (a .thresholds-size),
+        eq-eqb (length (tables .codebook)) codebookNumbers (a .codebook-size),
+        eq-eqb (length (tables .thresholds)) thresholdNumbers (a .thresholds-size),
         a .uncut,
         ne-eqb (length places) 0 (a .some),
         f .settles,
@@ -157,52 +157,52 @@ module _ (octets : List ℕ) (codebook thresholds : List ℤ) (index report : �
         eq-eqb (expOf c) 0 (f .usable .exp),
         le-ltb index (indexOctets * length places) (f .roomy .index-room),
         le-ltb report (reportOctets * length places) (f .roomy .report-room),
-        ne-eqb (badPairs (receivedNotes octets places codebook thresholds)) (pairCount places) (f .roomy .not-all),
+        ne-eqb (badPairs (receivedNotes octets places tables)) (pairCount places) (f .roomy .not-all),
       )
 
 -- ---- the one outcome of each input
-module _ (octets : List ℕ) (codebook thresholds : List ℤ) (index report : List ℕ) where
+module _ (octets : List ℕ) (tables : Tables) (index report : List ℕ) where
   -- a refusal changes no octet of either buffer
-  pub refused-keeps : (r : Refusal) → verdict octets codebook thresholds (length index) (length report) ≡ Refuse r
-      → reading octets codebook thresholds index report ≡ outcome (Refused r) index report
+  pub refused-keeps : (r : Refusal) → verdict octets tables (length index) (length report) ≡ Refuse r
+      → reading octets tables index report ≡ outcome (Refused r) index report
   unfolding reading
   refused-keeps r e = rw e
 
   -- so an answer that is a refusal says that both buffers are as they came
-  pub refusal-keeps : (r : Refusal) → reading octets codebook thresholds index report .answer ≡ Refused r
-      → reading octets codebook thresholds index report ≡ outcome (Refused r) index report
+  pub refusal-keeps : (r : Refusal) → reading octets tables index report .answer ≡ Refused r
+      → reading octets tables index report ≡ outcome (Refused r) index report
   unfolding reading
-  refusal-keeps r e = by (verdict octets codebook thresholds (length index) (length report)) e
+  refusal-keeps r e = by (verdict octets tables (length index) (length report)) e
     where
       never : (s : Summary) → Read s ≡ Refused r → ⊥
       never s e = let z : _≡_ {A = ℕ} 0 1 = cc in omega arith
 
-      by : (v : Verdict) → finished octets codebook thresholds index report (cutting octets .places) v .answer ≡ Refused r
-          → finished octets codebook thresholds index report (cutting octets .places) v ≡ outcome (Refused r) index report
+      by : (v : Verdict) → finished octets tables index report (cutting octets .places) v .answer ≡ Refused r
+          → finished octets tables index report (cutting octets .places) v ≡ outcome (Refused r) index report
       by (Refuse x) e = ap (λ (a : Answer). outcome a index report) e
       by (Accept c) e = absurd (never _ e)
 
   -- success lays both parts over the buffers' fronts
-  pub accepted-lays : (c : ℕ) → verdict octets codebook thresholds (length index) (length report) ≡ Accept c
-      → reading octets codebook thresholds index report
-      ≡ outcome (Read (summary octets (cutting octets .places) (receivedNotes octets (cutting octets .places) codebook thresholds) c))
-      (over index 0 (indexOctets * length (cutting octets .places)) (indexPart octets (cutting octets .places) (receivedNotes octets (cutting octets .places) codebook thresholds)))
-      (over report 0 (reportOctets * length (cutting octets .places)) (reportPart octets (cutting octets .places) (receivedNotes octets (cutting octets .places) codebook thresholds) c))
+  pub accepted-lays : (c : ℕ) → verdict octets tables (length index) (length report) ≡ Accept c
+      → reading octets tables index report
+      ≡ outcome (Read (summary octets (cutting octets .places) (receivedNotes octets (cutting octets .places) tables) c))
+      (over index 0 (indexOctets * length (cutting octets .places)) (indexPart octets (cutting octets .places) (receivedNotes octets (cutting octets .places) tables)))
+      (over report 0 (reportOctets * length (cutting octets .places)) (reportPart octets (cutting octets .places) (receivedNotes octets (cutting octets .places) tables) c))
   unfolding reading
   accepted-lays c e = rw e
 
   -- a reading by its parts: 11, what cutting refuses, else the reading of the multiframes found
-  pub in-order : reading octets codebook thresholds index report
-      ≡ when (eqb (length codebook) codebookNumbers)
-      (when (eqb (length thresholds) thresholdNumbers) (endReading octets codebook thresholds index report (cutting octets .places) (cutting octets .ending)) (outcome (Refused WrongTables) index report))
+  pub in-order : reading octets tables index report
+      ≡ when (eqb (length (tables .codebook)) codebookNumbers)
+      (when (eqb (length (tables .thresholds)) thresholdNumbers) (endReading octets tables index report (cutting octets .places) (cutting octets .ending)) (outcome (Refused WrongTables) index report))
       (outcome (Refused WrongTables) index report)
   unfolding reading verdict
-  in-order = by (eqb (length codebook) codebookNumbers) (eqb (length thresholds) thresholdNumbers) (cutting octets .ending)
+  in-order = by (eqb (length (tables .codebook)) codebookNumbers) (eqb (length (tables .thresholds)) thresholdNumbers) (cutting octets .ending)
     where
       by : (s t : Bool) (e : Ending)
-          → finished octets codebook thresholds index report (cutting octets .places)
-          (when s (when t (endVerdict octets codebook thresholds (length index) (length report) (cutting octets .places) e) (Refuse WrongTables)) (Refuse WrongTables))
-          ≡ when s (when t (endReading octets codebook thresholds index report (cutting octets .places) e) (outcome (Refused WrongTables) index report)) (outcome (Refused WrongTables) index report)
+          → finished octets tables index report (cutting octets .places)
+          (when s (when t (endVerdict octets tables (length index) (length report) (cutting octets .places) e) (Refuse WrongTables)) (Refuse WrongTables))
+          ≡ when s (when t (endReading octets tables index report (cutting octets .places) e) (outcome (Refused WrongTables) index report)) (outcome (Refused WrongTables) index report)
       by false t e = refl
       by true false e = refl
       by true true whole = refl

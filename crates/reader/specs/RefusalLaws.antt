@@ -8,11 +8,11 @@ use mathlib.Core.Path.{_≡_, refl, ap, sym, _∙_, subst}
 use mathlib.Core.Logic.{_⊎_, inl, inr, _↔_}
 use mathlib.Core.List.{List}
 use lib.ListN.{length}
-use lib.IntN.{ℤ}
 use lib.Dec.{ltb, eqb}
 use borrow.Author.Tests.{eq-eqb, ne-eqb, lt-ltb, le-ltb, ltb-true, ltb-false, eqb-true, eqb-false}
 use Rattle.lists.specs.Tests.{by-test}
 use Rattle.layout.specs.Layout.{indexOctets, reportOctets, codebookNumbers, thresholdNumbers}
+use Rattle.consistency.specs.Tables.{Tables, RightTables}
 use Rattle.refusals.specs.declared.Reading.{Reading as Refusal}
 use Rattle.refusals.specs.declared.Reading.the-variants.{WrongTables, Unknown, CutShort, Empty, TooMany, Unsettled, Unfit, IndexShort, ReportShort, AllBad}
 use Rattle.cutting.specs.Cutting.{Ending, whole, refused, cutting}
@@ -31,17 +31,14 @@ use Rattle.reader.specs.declared.Answer.the-variants.{Read, Refused}
 use Rattle.reader.specs.declared.Verdict.{Verdict}
 use Rattle.reader.specs.declared.Verdict.the-variants.{Refuse, Accept}
 
-module _ (octets : List ℕ) (codebook thresholds : List ℤ) (index report : ℕ) where
+module _ (octets : List ℕ) (tables : Tables) (index report : ℕ) where
   abbrev places : List ℕ
   places = cutting octets .places
 
   -- ---- what holds where the refusals before do not apply; m of 01 is `length places`
-  abbrev pub Tables : Type 0
-  Tables = (length codebook ≡ codebookNumbers) × (length thresholds ≡ thresholdNumbers)
-
   -- none of 11, 12, 13 and 15: cutting gets to the end of the octets
   abbrev pub CutUp : Type 0
-  CutUp = Tables × Reached octets (length octets) (length places)
+  CutUp = RightTables tables × Reached octets (length octets) (length places)
 
   -- nor 14
   abbrev pub Some : Type 0
@@ -62,14 +59,14 @@ module _ (octets : List ℕ) (codebook thresholds : List ℤ) (index report : �
   -- ---- when each refusal is given
   abbrev pub Given : Refusal → Type 0
   -- 11: codebook not 1,280 or thresholds not 14. It comes first
-  Given WrongTables = Tables → ⊥
+  Given WrongTables = RightTables tables → ⊥
   -- 12, 13 and 15 come as cutting meets them: it gets to p (`Reached`), and of the octets there and the multiframes before holds what the table
   -- says (`Says`). 12: octets at p begin nothing known
-  Given (Unknown p) = Tables × Meets octets p P.Unknown
+  Given (Unknown p) = RightTables tables × Meets octets p P.Unknown
   -- 13: sync with too few octets, or a lone last 87 or 78
-  Given (CutShort p) = Tables × Meets octets p P.CutShort
+  Given (CutShort p) = RightTables tables × Meets octets p P.CutShort
   -- 15: a sync after 255 multiframes, even a cut one
-  Given (TooMany p) = Tables × Meets octets p P.TooMany
+  Given (TooMany p) = RightTables tables × Meets octets p P.TooMany
   -- 14: no multiframe
   Given (Empty n) = CutUp × (length places ≡ 0) × (n ≡ length octets)
   -- 16: settings not settled
@@ -81,65 +78,65 @@ module _ (octets : List ℕ) (codebook thresholds : List ℤ) (index report : �
   -- 19: report buffer under 13m
   Given (ReportShort n) = IndexRoom × (report < reportOctets * length places) × (n ≡ reportOctets * length places)
   -- 20: every pair bad
-  Given AllBad = Room × (badPairs (receivedNotes octets places codebook thresholds) ≡ pairCount places)
+  Given AllBad = Room × (badPairs (receivedNotes octets places tables) ≡ pairCount places)
 
   -- ---- the conditions lead to the refusals
-  pub refuses-tables : (Tables → ⊥) → verdict octets codebook thresholds index report ≡ Refuse WrongTables
+  pub refuses-tables : (RightTables tables → ⊥) → verdict octets tables index report ≡ Refuse WrongTables
   unfolding verdict
   refuses-tables h =
-      by-test (λ (v : Verdict). v ≡ Refuse WrongTables) (eqb (length codebook) codebookNumbers) (λ a.
-      by-test (λ (v : Verdict). v ≡ Refuse WrongTables) (eqb (length thresholds) thresholdNumbers)
-      (λ b. absurd (h (eqb-true (length codebook) codebookNumbers a, eqb-true (length thresholds) thresholdNumbers b))) (λ b. refl)) (λ a. refl)
+      by-test (λ (v : Verdict). v ≡ Refuse WrongTables) (eqb (length (tables .codebook)) codebookNumbers) (λ a.
+      by-test (λ (v : Verdict). v ≡ Refuse WrongTables) (eqb (length (tables .thresholds)) thresholdNumbers)
+      (λ b. absurd (h (eqb-true (length (tables .codebook)) codebookNumbers a, eqb-true (length (tables .thresholds)) thresholdNumbers b))) (λ b. refl)) (λ a. refl)
 
-  ends : Tables → (e : Ending) → cutting octets .ending ≡ e → verdict octets codebook thresholds index report ≡ endVerdict octets codebook thresholds index report places e
+  ends : RightTables tables → (e : Ending) → cutting octets .ending ≡ e → verdict octets tables index report ≡ endVerdict octets tables index report places e
   unfolding verdict
-  ends t e w = rw (eq-eqb (length codebook) codebookNumbers (t .0), eq-eqb (length thresholds) thresholdNumbers (t .1), w)
+  ends t e w = rw (eq-eqb (length (tables .codebook)) codebookNumbers (t .0), eq-eqb (length (tables .thresholds)) thresholdNumbers (t .1), w)
 
   -- 12, 13 and 15
-  pub refuses-cut : Tables → (r : Refusal) → cutting octets .ending ≡ refused r → verdict octets codebook thresholds index report ≡ Refuse r
+  pub refuses-cut : RightTables tables → (r : Refusal) → cutting octets .ending ≡ refused r → verdict octets tables index report ≡ Refuse r
   refuses-cut t r e = ends t (refused r) e
 
-  pub refuses-empty : CutUp → length places ≡ 0 → verdict octets codebook thresholds index report ≡ Refuse (Empty (length octets))
+  pub refuses-empty : CutUp → length places ≡ 0 → verdict octets tables index report ≡ Refuse (Empty (length octets))
   unfolding wholeVerdict
   refuses-empty w z = ends (w .0) whole (whole-exactly octets .1 (w .1)) ∙ rw (eq-eqb (length places) 0 z)
 
   settled : Some → (s : Settlement) → settling (readings octets places) ≡ s
-      → verdict octets codebook thresholds index report ≡ settledVerdict (length places) (badPairs (receivedNotes octets places codebook thresholds)) (pairCount places) index report s
+      → verdict octets tables index report ≡ settledVerdict (length places) (badPairs (receivedNotes octets places tables)) (pairCount places) index report s
   unfolding wholeVerdict
   settled w s e = ends (w .0 .0) whole (whole-exactly octets .1 (w .0 .1)) ∙ rw (ne-eqb (length places) 0 (w .1), e)
 
-  pub refuses-unsettled : Some → settling (readings octets places) ≡ S.Unsettled → verdict octets codebook thresholds index report ≡ Refuse Unsettled
+  pub refuses-unsettled : Some → settling (readings octets places) ≡ S.Unsettled → verdict octets tables index report ≡ Refuse Unsettled
   unfolding settledVerdict
   refuses-unsettled w e = settled w S.Unsettled e
 
   pub refuses-unfit : Some → (c : ℕ) → settling (readings octets places) ≡ S.Settled c → (rateOf c ≡ 2) ⊎ (expOf c ≡ 0 → ⊥)
-      → verdict octets codebook thresholds index report ≡ Refuse Unfit
+      → verdict octets tables index report ≡ Refuse Unfit
   unfolding settledVerdict
   refuses-unfit w c e (inl h) = settled w (S.Settled c) e ∙ rw (eq-eqb (rateOf c) 2 h)
   refuses-unfit w c e (inr h) =
       settled w (S.Settled c) e ∙ by-test (λ (v : Verdict). v ≡ Refuse Unfit) (eqb (rateOf c) 2) (λ a. refl) (λ a. rw (ne-eqb (expOf c) 0 h))
 
-  fits : (f : Fit) → verdict octets codebook thresholds index report
-      ≡ roomVerdict (length places) (badPairs (receivedNotes octets places codebook thresholds)) (pairCount places) index report (f .1 .0)
+  fits : (f : Fit) → verdict octets tables index report
+      ≡ roomVerdict (length places) (badPairs (receivedNotes octets places tables)) (pairCount places) index report (f .1 .0)
   unfolding settledVerdict
   fits f =
       settled (f .0) (S.Settled (f .1 .0)) (f .1 .1 .0) ∙ rw (ne-eqb (rateOf (f .1 .0)) 2 (f .1 .1 .1 .rate), eq-eqb (expOf (f .1 .0)) 0 (f .1 .1 .1 .exp))
 
-  pub refuses-index : Fit → index < indexOctets * length places → verdict octets codebook thresholds index report ≡ Refuse (IndexShort (indexOctets * length places))
+  pub refuses-index : Fit → index < indexOctets * length places → verdict octets tables index report ≡ Refuse (IndexShort (indexOctets * length places))
   unfolding roomVerdict
   refuses-index f h = fits f ∙ rw (lt-ltb index (indexOctets * length places) h)
 
-  pub refuses-report : IndexRoom → report < reportOctets * length places → verdict octets codebook thresholds index report ≡ Refuse (ReportShort (reportOctets * length places))
+  pub refuses-report : IndexRoom → report < reportOctets * length places → verdict octets tables index report ≡ Refuse (ReportShort (reportOctets * length places))
   unfolding roomVerdict
   refuses-report f h = fits (f .0) ∙ rw (le-ltb index (indexOctets * length places) (f .1), lt-ltb report (reportOctets * length places) h)
 
-  pub refuses-all-bad : Room → badPairs (receivedNotes octets places codebook thresholds) ≡ pairCount places → verdict octets codebook thresholds index report ≡ Refuse AllBad
+  pub refuses-all-bad : Room → badPairs (receivedNotes octets places tables) ≡ pairCount places → verdict octets tables index report ≡ Refuse AllBad
   unfolding roomVerdict
   refuses-all-bad f h =
       fits (f .0 .0)
-      ∙ rw (le-ltb index (indexOctets * length places) (f .0 .1), le-ltb report (reportOctets * length places) (f .1), eq-eqb (badPairs (receivedNotes octets places codebook thresholds)) (pairCount places) h)
+      ∙ rw (le-ltb index (indexOctets * length places) (f .0 .1), le-ltb report (reportOctets * length places) (f .1), eq-eqb (badPairs (receivedNotes octets places tables)) (pairCount places) h)
 
-  given-refused : (r : Refusal) → Given r → verdict octets codebook thresholds index report ≡ Refuse r
+  given-refused : (r : Refusal) → Given r → verdict octets tables index report ≡ Refuse r
   given-refused WrongTables g = refuses-tables g
   given-refused (Unknown p) g = refuses-cut (g .0) (Unknown p) (ends-exactly octets (refused (Unknown p)) .1 (g .1))
   given-refused (CutShort p) g = refuses-cut (g .0) (CutShort p) (ends-exactly octets (refused (CutShort p)) .1 (g .1))
@@ -156,17 +153,17 @@ module _ (octets : List ℕ) (codebook thresholds : List ℤ) (index report : �
   Shows (Refuse r) = Given r
   Shows (Accept c) = Unit
 
-  shows-room : (f : Fit) → Shows (roomVerdict (length places) (badPairs (receivedNotes octets places codebook thresholds)) (pairCount places) index report (f .1 .0))
+  shows-room : (f : Fit) → Shows (roomVerdict (length places) (badPairs (receivedNotes octets places tables)) (pairCount places) index report (f .1 .0))
   unfolding roomVerdict
   shows-room f =
       by-test Shows (ltb index (indexOctets * length places)) (λ h. (f, ltb-true index (indexOctets * length places) h, refl)) (λ h.
       let i = ltb-false index (indexOctets * length places) h in
       by-test Shows (ltb report (reportOctets * length places)) (λ k. ((f, i), ltb-true report (reportOctets * length places) k, refl)) (λ k.
-      by-test Shows (eqb (badPairs (receivedNotes octets places codebook thresholds)) (pairCount places))
-      (λ b. (((f, i), ltb-false report (reportOctets * length places) k), eqb-true (badPairs (receivedNotes octets places codebook thresholds)) (pairCount places) b)) (λ b. tt)))
+      by-test Shows (eqb (badPairs (receivedNotes octets places tables)) (pairCount places))
+      (λ b. (((f, i), ltb-false report (reportOctets * length places) k), eqb-true (badPairs (receivedNotes octets places tables)) (pairCount places) b)) (λ b. tt)))
 
   shows-settled : Some → (s : Settlement) → settling (readings octets places) ≡ s
-      → Shows (settledVerdict (length places) (badPairs (receivedNotes octets places codebook thresholds)) (pairCount places) index report s)
+      → Shows (settledVerdict (length places) (badPairs (receivedNotes octets places tables)) (pairCount places) index report s)
   unfolding settledVerdict
   shows-settled w S.Unsettled e = (w, e)
   shows-settled w (S.Settled c) e =
@@ -175,13 +172,13 @@ module _ (octets : List ℕ) (codebook thresholds : List ℤ) (index report : �
       (λ k. shows-room (w, (c, (e, record { rate = eqb-false (rateOf c) 2 h; exp = eqb-true (expOf c) 0 k }))))
       (λ k. (w, (c, (e, inr (eqb-false (expOf c) 0 k))))))
 
-  shows-whole : CutUp → Shows (wholeVerdict octets codebook thresholds index report places)
+  shows-whole : CutUp → Shows (wholeVerdict octets tables index report places)
   unfolding wholeVerdict
   shows-whole w =
       by-test Shows (eqb (length places) 0) (λ h. (w, eqb-true (length places) 0 h, refl)) (λ h. shows-settled (w, eqb-false (length places) 0 h) (settling (readings octets places)) refl)
 
   -- what cutting refuses is 12, 13 or 15
-  shows-cut : Tables → (r : Refusal) → Reason octets r → Given r
+  shows-cut : RightTables tables → (r : Refusal) → Reason octets r → Given r
   shows-cut t (Unknown p) m = (t, m)
   shows-cut t (CutShort p) m = (t, m)
   shows-cut t (TooMany p) m = (t, m)
@@ -193,34 +190,34 @@ module _ (octets : List ℕ) (codebook thresholds : List ℤ) (index report : �
   shows-cut t (ReportShort n) m = absurd m
   shows-cut t AllBad m = absurd m
 
-  shows-end : Tables → (e : Ending) → cutting octets .ending ≡ e → Shows (endVerdict octets codebook thresholds index report places e)
+  shows-end : RightTables tables → (e : Ending) → cutting octets .ending ≡ e → Shows (endVerdict octets tables index report places e)
   shows-end t whole e = shows-whole (t, whole-exactly octets .0 e)
   shows-end t (refused r) e = shows-cut t r (ends-exactly octets (refused r) .0 e)
 
-  shows : Shows (verdict octets codebook thresholds index report)
+  shows : Shows (verdict octets tables index report)
   unfolding verdict
   shows =
-      by-test Shows (eqb (length codebook) codebookNumbers) (λ a.
-      by-test Shows (eqb (length thresholds) thresholdNumbers)
-      (λ b. shows-end (eqb-true (length codebook) codebookNumbers a, eqb-true (length thresholds) thresholdNumbers b) (cutting octets .ending) refl)
-      (λ b. λ t. eqb-false (length thresholds) thresholdNumbers b (t .1))) (λ a. λ t. eqb-false (length codebook) codebookNumbers a (t .0))
+      by-test Shows (eqb (length (tables .codebook)) codebookNumbers) (λ a.
+      by-test Shows (eqb (length (tables .thresholds)) thresholdNumbers)
+      (λ b. shows-end (eqb-true (length (tables .codebook)) codebookNumbers a, eqb-true (length (tables .thresholds)) thresholdNumbers b) (cutting octets .ending) refl)
+      (λ b. λ t. eqb-false (length (tables .thresholds)) thresholdNumbers b (t .1))) (λ a. λ t. eqb-false (length (tables .codebook)) codebookNumbers a (t .0))
 
-  pub decided-exactly : (r : Refusal) → (verdict octets codebook thresholds index report ≡ Refuse r) ↔ Given r
+  pub decided-exactly : (r : Refusal) → (verdict octets tables index report ≡ Refuse r) ↔ Given r
   decided-exactly r = (λ e. subst Shows e shows, given-refused r)
 
 -- ---- of the answer: each refusal exactly where it is given
-pub refused-exactly : (octets : List ℕ) (codebook thresholds : List ℤ) (index report : List ℕ) (r : Refusal)
-    → (reading octets codebook thresholds index report .answer ≡ Refused r) ↔ Given octets codebook thresholds (length index) (length report) r
+pub refused-exactly : (octets : List ℕ) (tables : Tables) (index report : List ℕ) (r : Refusal)
+    → (reading octets tables index report .answer ≡ Refused r) ↔ Given octets tables (length index) (length report) r
 unfolding reading
-refused-exactly octets codebook thresholds index report r =
-    let v = verdict octets codebook thresholds (length index) (length report) in (
-      λ e. decided-exactly octets codebook thresholds (length index) (length report) r .0 (by v e),
-      λ g. ap (λ (x : Verdict). finished octets codebook thresholds index report (cutting octets .places) x .answer) (decided-exactly octets codebook thresholds (length index) (length report) r .1 g),
+refused-exactly octets tables index report r =
+    let v = verdict octets tables (length index) (length report) in (
+      λ e. decided-exactly octets tables (length index) (length report) r .0 (by v e),
+      λ g. ap (λ (x : Verdict). finished octets tables index report (cutting octets .places) x .answer) (decided-exactly octets tables (length index) (length report) r .1 g),
     )
   where
     never : (s : Summary) → Read s ≡ Refused r → ⊥
     never s e = let z : _≡_ {A = ℕ} 0 1 = cc in omega arith
 
-    by : (v : Verdict) → finished octets codebook thresholds index report (cutting octets .places) v .answer ≡ Refused r → v ≡ Refuse r
+    by : (v : Verdict) → finished octets tables index report (cutting octets .places) v .answer ≡ Refused r → v ≡ Refuse r
     by (Refuse x) e = cc
     by (Accept c) e = absurd (never _ e)

@@ -1,15 +1,15 @@
 -- How the code goes about a reading: what the contracts of its private functions cite, and its first tests. Nothing that 01 says stands here.
 -- Assumes nothing.
-use Prim.Native.Nat.{ℕ, _*_}
+use Prim.Native.Nat.{ℕ, _*_, _≤_}
 use mathlib.Core.Path.{_≡_, ap, _∙_}
 use mathlib.Core.List.{List, _∷_}
 use lib.ListN.{length, getD}
-use lib.IntN.{ℤ}
 use lib.Dec.{ltb, eqb}
 use Rattle.lists.specs.Tests.{when}
 use Rattle.lists.specs.Parts.{part}
 use Rattle.lists.specs.Rows.{joined}
-use Rattle.layout.specs.Layout.{multiframePairs, indexOctets, reportOctets, codebookNumbers, thresholdNumbers, firstPair}
+use Rattle.layout.specs.Layout.{multiframePairs, mostMultiframes, indexOctets, reportOctets, codebookNumbers, thresholdNumbers, firstPair}
+use Rattle.consistency.specs.Tables.{Tables}
 use Rattle.header.specs.Message.{rateOf, expOf}
 use Rattle.settling.specs.Settling.{headerNote}
 use Rattle.settling.specs.Stored.{opened}
@@ -37,6 +37,11 @@ Kept l m (Refuse r) = Unit
 Kept l m (Accept c) = m ≡ l
 
 -- ---- the report, from the headers and notes in arrays
+-- at most 255 headers, twelve notes for each, and room for their report
+abbrev pub Reportable : List ℕ → List ℕ → List ℕ → Type 0
+Reportable headers ns report =
+    (length headers ≤ mostMultiframes) × (length ns ≡ multiframePairs * length headers) × (reportOctets * length headers ≤ length report)
+
 unfoldable pub section : List ℕ → List ℕ → ℕ → ℕ → List ℕ
 section headers ns c k = headerNote c k (opened (getD headers k 0)) ∷ part (firstPair k) multiframePairs ns
 
@@ -44,24 +49,24 @@ abbrev pub sections : List ℕ → List ℕ → ℕ → ℕ → List ℕ
 sections headers ns c n = joined (section headers ns c) n
 
 -- ---- the first tests of a reading
-module _ (octets : List ℕ) (codebook thresholds : List ℤ) (index report : List ℕ) where
-  pub wrong-codebook : (length codebook ≡ codebookNumbers → ⊥) → outcome (Refused WrongTables) index report ≡ reading octets codebook thresholds index report
+module _ (octets : List ℕ) (tables : Tables) (index report : List ℕ) where
+  pub wrong-codebook : (length (tables .codebook) ≡ codebookNumbers → ⊥) → outcome (Refused WrongTables) index report ≡ reading octets tables index report
   unfolding reading verdict
-  wrong-codebook h = rw (ne-eqb (length codebook) codebookNumbers h)
+  wrong-codebook h = rw (ne-eqb (length (tables .codebook)) codebookNumbers h)
 
-  module _ (sc : length codebook ≡ codebookNumbers) where
-    pub wrong-thresholds : (length thresholds ≡ thresholdNumbers → ⊥) → outcome (Refused WrongTables) index report ≡ reading octets codebook thresholds index report
+  module _ (sc : length (tables .codebook) ≡ codebookNumbers) where
+    pub wrong-thresholds : (length (tables .thresholds) ≡ thresholdNumbers → ⊥) → outcome (Refused WrongTables) index report ≡ reading octets tables index report
     unfolding reading verdict
-    wrong-thresholds h = rw (eq-eqb (length codebook) codebookNumbers sc, ne-eqb (length thresholds) thresholdNumbers h)
+    wrong-thresholds h = rw (eq-eqb (length (tables .codebook)) codebookNumbers sc, ne-eqb (length (tables .thresholds)) thresholdNumbers h)
 
-    module _ (st : length thresholds ≡ thresholdNumbers) where
-      pub not-cut : (r : Refusal) → cutting octets .ending ≡ refused r → outcome (Refused r) index report ≡ reading octets codebook thresholds index report
+    module _ (st : length (tables .thresholds) ≡ thresholdNumbers) where
+      pub not-cut : (r : Refusal) → cutting octets .ending ≡ refused r → outcome (Refused r) index report ≡ reading octets tables index report
       unfolding reading verdict
-      not-cut r e = rw (eq-eqb (length codebook) codebookNumbers sc, eq-eqb (length thresholds) thresholdNumbers st, e)
+      not-cut r e = rw (eq-eqb (length (tables .codebook)) codebookNumbers sc, eq-eqb (length (tables .thresholds)) thresholdNumbers st, e)
 
       pub whole-reading : (o : Outcome) (places : List ℕ) → cutting octets .ending ≡ whole → places ≡ cutting octets .places
-          → o ≡ readingFound octets codebook thresholds index report places → o ≡ reading octets codebook thresholds index report
+          → o ≡ readingFound octets tables index report places → o ≡ reading octets tables index report
       unfolding reading verdict
       whole-reading o places e ep eo =
-          rw (eq-eqb (length codebook) codebookNumbers sc, eq-eqb (length thresholds) thresholdNumbers st, e)
-          (eo ∙ ap (λ (ps : List ℕ). readingFound octets codebook thresholds index report ps) ep)
+          rw (eq-eqb (length (tables .codebook)) codebookNumbers sc, eq-eqb (length (tables .thresholds)) thresholdNumbers st, e)
+          (eo ∙ ap (λ (ps : List ℕ). readingFound octets tables index report ps) ep)

@@ -3,6 +3,7 @@
 use cutting::Cut;
 use layout::Multiframe;
 use layout::MultiframeLayout;
+use layout::Pair;
 use layout::ReadingLayout;
 use layout::UtteranceLayout;
 use refusals::Reading;
@@ -12,13 +13,16 @@ ghost use mathlib.Core.Path.{_≡_};
 ghost use Prim.Native.Nat.{_+_, _*_, _≤_, _<_};
 ghost use lib.ListN.{length, getD};
 ghost use Rattle.lists.specs.Parts.{part, over};
-ghost use Rattle.layout.specs.Layout.{multiframePairs, mostMultiframes, indexOctets, reportOctets, codebookNumbers, thresholdNumbers};
+ghost use Rattle.layout.specs.Layout.{multiframePairs, mostMultiframes, indexOctets, reportOctets};
+ghost use Rattle.consistency.specs.Tables.{tablesOf, RightTables};
+ghost use Rattle.consistency.specs.Lent.{came, left, tablesIn};
 ghost use Rattle.cutting.specs.Laws.{Placed};
 ghost use Rattle.settling.specs.Stored.{packAll, Mended, opened};
 ghost use Rattle.carrier.specs.Carrier.{pairCount};
 ghost use Rattle.bad_pairs.specs.Laws.{Good};
-ghost use Rattle.reader.specs.Reading.{answerNumber, answerValues, indexPart, reportPart, summary, wholeVerdict, outcome, readingFound, reading, receivedNotes};
-ghost use Rattle.reader.specs.Steps.{earlyVerdict, Kept, section, sections};
+ghost use Rattle.reader.specs.Reading.{answerNumber, answerValues, indexPart, reportPart, receivedNotes, summary};
+ghost use Rattle.reader.specs.Reading.{wholeVerdict, outcome, readingFound, reading};
+ghost use Rattle.reader.specs.Steps.{earlyVerdict, Kept, Reportable, section, sections};
 
 // Success: the settled settings, the number of multiframes, speech, the number of bad pairs, and end.
 pub struct Summary {
@@ -85,11 +89,12 @@ fn decide(
     headers: &mut [u32],
     notes: &mut [u8],
 ) -> Verdict
-    requires { ⌜ Placed (now octets) (now places) × (length (now notes) ≡ pairCount (now places)) × (length (now places) ≤ mostMultiframes) × (length (now headers) ≡ length (now places)) ⌝ }
-    requires { ⌜ (length (now codebook) ≡ codebookNumbers) × (length (now thresholds) ≡ thresholdNumbers) ⌝ }
-    ensures answer { λ r. ⌜ r ≡ wholeVerdict (now (octets .entry)) (now (codebook .entry)) (now (thresholds .entry)) index report (now (places .entry)) ⌝ }
-    ensures headers { λ r. ⌜ Kept (packAll (now (octets .entry)) (now (places .entry)) (length (now (places .entry)))) (now (headers .exit)) r ⌝ }
-    ensures notes { λ r. ⌜ Kept (receivedNotes (now (octets .entry)) (now (places .entry)) (now (codebook .entry)) (now (thresholds .entry))) (now (notes .exit)) r ⌝ }
+    requires { ⌜ Placed (now octets) (now places) × (length (now notes) ≡ pairCount (now places)) × (length (now places) ≤ mostMultiframes)
+        × (length (now headers) ≡ length (now places)) ⌝ }
+    requires { ⌜ RightTables (tablesOf (now codebook) (now thresholds)) ⌝ }
+    ensures answer { λ r. ⌜ r ≡ wholeVerdict (came octets) (tablesIn codebook thresholds) index report (came places) ⌝ }
+    ensures headers { λ r. ⌜ Kept (packAll (came octets) (came places) (length (came places))) (left headers) r ⌝ }
+    ensures notes { λ r. ⌜ Kept (receivedNotes (came octets) (came places) (tablesIn codebook thresholds)) (left notes) r ⌝ }
 {
     if places.len() == 0 {
         return Verdict::Refuse(Reading::Empty {
@@ -111,11 +116,12 @@ fn decide(
     Verdict::Accept { common }
 }
 
-// Twelve notes from place from on go to place to of the report.
-fn put_notes(notes: &[u8], from: usize, report: &mut [u8], to: usize)
-    requires { ⌜ (from + multiframePairs ≤ length (now notes)) × (to + multiframePairs ≤ length (now report)) ⌝ }
-    ensures { λ _. ⌜ now (report .exit) ≡ over (now (report .entry)) to multiframePairs (part from multiframePairs (now (notes .entry))) ⌝ }
+// The notes of the twelve pairs from pair first on go to place to of the report.
+fn put_notes(notes: &[u8], first: Pair, report: &mut [u8], to: usize)
+    requires { ⌜ (first .0 + multiframePairs ≤ length (now notes)) × (to + multiframePairs ≤ length (now report)) ⌝ }
+    ensures { λ _. ⌜ left report ≡ over (came report) to multiframePairs (part (first .0) multiframePairs (came notes)) ⌝ }
 {
+    let from = first.0;
     let mut j = 0;
     while j < MultiframeLayout::PAIRS {
         report[to + j] = notes[from + j];
@@ -124,25 +130,26 @@ fn put_notes(notes: &[u8], from: usize, report: &mut [u8], to: usize)
 }
 
 // Multiframe k's thirteen octets go to the report.
-fn put_section(headers: &[u32], notes: &[u8], common: u16, report: &mut [u8], k: usize)
-    requires { ⌜ (k < length (now headers)) × (length (now headers) ≤ mostMultiframes) × (length (now notes) ≡ multiframePairs * length (now headers)) × (reportOctets * length (now headers) ≤ length (now report)) ⌝ }
-    requires { ⌜ Mended (opened (getD (now headers) k 0)) ⌝ }
-    ensures { λ _. ⌜ now (report .exit) ≡ over (now (report .entry)) (reportOctets * k) reportOctets (section (now (headers .entry)) (now (notes .entry)) common k) ⌝ }
+fn put_section(headers: &[u32], notes: &[u8], common: u16, report: &mut [u8], k: Multiframe)
+    requires { ⌜ (k .0 < length (now headers)) × Reportable (now headers) (now notes) (now report) ⌝ }
+    requires { ⌜ Mended (opened (getD (now headers) (k .0) 0)) ⌝ }
+    ensures { λ _. ⌜ left report ≡ over (came report) (reportOctets * k .0) reportOctets (section (came headers) (came notes) common (k .0)) ⌝ }
 {
-    let at = ReadingLayout::REPORT * k;
-    report[at] = settling::note_at(headers, Multiframe(k), common);
-    put_notes(notes, MultiframeLayout::PAIRS * k, report, at + 1);
+    let at = ReadingLayout::REPORT * k.0;
+    report[at] = settling::note_at(headers, k, common);
+    put_notes(notes, k.first_pair(), report, at + 1);
 }
 
 // The report's part goes to the front of report; the rest of it stays. It asks for headers as read_headers stores them.
 fn put_report(headers: &[u32], notes: &[u8], common: u16, report: &mut [u8])
-    requires { ⌜ (length (now headers) ≤ mostMultiframes) × (length (now notes) ≡ multiframePairs * length (now headers)) × (reportOctets * length (now headers) ≤ length (now report)) ⌝ }
+    requires { ⌜ Reportable (now headers) (now notes) (now report) ⌝ }
     requires { ⌜ ((k : Prim.Native.Nat.ℕ) → k < length (now headers) → Mended (opened (getD (now headers) k 0))) ⌝ }
-    ensures { λ _. ⌜ now (report .exit) ≡ over (now (report .entry)) 0 (reportOctets * length (now (headers .entry))) (sections (now (headers .entry)) (now (notes .entry)) common (length (now (headers .entry)))) ⌝ }
+    ensures { λ _. ⌜ left report ≡ over (came report) 0 (reportOctets * length (came headers))
+        (sections (came headers) (came notes) common (length (came headers))) ⌝ }
 {
     let mut k = 0;
     while k < headers.len() {
-        put_section(headers, notes, common, report, k);
+        put_section(headers, notes, common, report, Multiframe(k));
         k += 1;
     }
 }
@@ -158,11 +165,14 @@ fn write(
     report: &mut [u8],
 ) -> Summary
     requires { ⌜ Placed (now octets) (now places) × (1 ≤ length (now places)) × (length (now places) ≤ mostMultiframes) ⌝ }
-    requires { ⌜ (now headers ≡ packAll (now octets) (now places) (length (now places))) × (length (now notes) ≡ pairCount (now places)) × Good (now notes) ⌝ }
+    requires { ⌜ (now headers ≡ packAll (now octets) (now places) (length (now places)))
+        × (length (now notes) ≡ pairCount (now places)) × Good (now notes) ⌝ }
     requires { ⌜ (indexOctets * length (now places) ≤ length (now index)) × (reportOctets * length (now places) ≤ length (now report)) ⌝ }
-    ensures answer { λ r. ⌜ r ≡ summary (now (octets .entry)) (now (places .entry)) (now (notes .entry)) common ⌝ }
-    ensures index { λ _. ⌜ now (index .exit) ≡ over (now (index .entry)) 0 (indexOctets * length (now (places .entry))) (indexPart (now (octets .entry)) (now (places .entry)) (now (notes .entry))) ⌝ }
-    ensures report { λ _. ⌜ now (report .exit) ≡ over (now (report .entry)) 0 (reportOctets * length (now (places .entry))) (reportPart (now (octets .entry)) (now (places .entry)) (now (notes .entry)) common) ⌝ }
+    ensures answer { λ r. ⌜ r ≡ summary (came octets) (came places) (came notes) common ⌝ }
+    ensures index { λ _. ⌜ left index ≡ over (came index) 0 (indexOctets * length (came places))
+        (indexPart (came octets) (came places) (came notes)) ⌝ }
+    ensures report { λ _. ⌜ left report ≡ over (came report) 0 (reportOctets * length (came places))
+        (reportPart (came octets) (came places) (came notes) common) ⌝ }
 {
     notes::take_all_apart(octets, places, index);
     replacing::replace(notes, index);
@@ -189,8 +199,9 @@ fn read_found(
     report: &mut [u8],
 ) -> Answer
     requires { ⌜ Placed (now octets) (now places) × (length (now places) ≤ mostMultiframes) ⌝ }
-    requires { ⌜ (length (now codebook) ≡ codebookNumbers) × (length (now thresholds) ≡ thresholdNumbers) ⌝ }
-    ensures { λ r. ⌜ outcome r (now (index .exit)) (now (report .exit)) ≡ readingFound (now (octets .entry)) (now (codebook .entry)) (now (thresholds .entry)) (now (index .entry)) (now (report .entry)) (now (places .entry)) ⌝ }
+    requires { ⌜ RightTables (tablesOf (now codebook) (now thresholds)) ⌝ }
+    ensures { λ r. ⌜ outcome r (left index) (left report)
+        ≡ readingFound (came octets) (tablesIn codebook thresholds) (came index) (came report) (came places) ⌝ }
 {
     let m = places.len();
     let pairs = MultiframeLayout::PAIRS * m;
@@ -229,9 +240,11 @@ pub fn read(
     index: &mut [u8],
     report: &mut [u8],
 ) -> Answer
-    ensures all { λ r. ⌜ outcome r (now (index .exit)) (now (report .exit)) ≡ reading (now (octets .entry)) (now (codebook .entry)) (now (thresholds .entry)) (now (index .entry)) (now (report .entry)) ⌝ }
-    ensures number { λ r. ⌜ answerNumber r ≡ answerNumber (reading (now (octets .entry)) (now (codebook .entry)) (now (thresholds .entry)) (now (index .entry)) (now (report .entry)) .answer) ⌝ }
-    ensures values { λ r. ⌜ answerValues r ≡ answerValues (reading (now (octets .entry)) (now (codebook .entry)) (now (thresholds .entry)) (now (index .entry)) (now (report .entry)) .answer) ⌝ }
+    ensures all { λ r. ⌜ outcome r (left index) (left report) ≡ reading (came octets) (tablesIn codebook thresholds) (came index) (came report) ⌝ }
+    ensures number { λ r. ⌜ answerNumber r
+        ≡ answerNumber (reading (came octets) (tablesIn codebook thresholds) (came index) (came report) .answer) ⌝ }
+    ensures values { λ r. ⌜ answerValues r
+        ≡ answerValues (reading (came octets) (tablesIn codebook thresholds) (came index) (came report) .answer) ⌝ }
 {
     if codebook.len() != ReadingLayout::CODEBOOK {
         return Answer::Refused(Reading::WrongTables);

@@ -5,11 +5,11 @@ use mathlib.Core.Path.{_≡_, refl, sym, ap, _∙_, subst}
 use mathlib.Core.List.{List, [], _∷_, _++_}
 use Prim.Native.Nat.{ℕ, _+_, _-_, _*_, _≤_}
 use native.Mathlib.Omega.{arith}
-use lib.IntN.{ℤ}
 use lib.ListN.{length, take, drop, replicate}
 use lib.Seq.{take-at}
 use Rattle.lists.specs.Parts.{over, length-over}
 use Rattle.layout.specs.Layout.{indexOctets, reportOctets, codebookNumbers}
+use Rattle.consistency.specs.Tables.{Tables, tablesOf}
 use Rattle.settings.specs.declared.Settings.{Settings}
 use Rattle.settings.specs.Settings.{settings}
 use Rattle.writer.specs.Writing as W
@@ -32,7 +32,7 @@ use Rattle.refusals.specs.declared.Reading.the-variants.{WrongTables}
 use Rattle.demands.specs.Whole.{Lent}
 use Rattle.demands.specs.ReadsBack.{reads-image}
 use Rattle.demands.specs.Instances.{lone, says1}
-use Rattle.demands.specs.Met.{zeroBook, zeroThresholds, indexFor, reportFor}
+use Rattle.demands.specs.Met.{zeroTables, indexFor, reportFor}
 use Rattle.roundtrip.specs.declared.Trip.{Trip}
 use Rattle.roundtrip.specs.declared.Trip.the-variants.{NotWritten, NotRead, Back}
 
@@ -51,15 +51,15 @@ tripOf (R.Read s) = Back s
 tripOf (R.Refused r) = NotRead r
 
 -- a refusal of the writer ends it; else the octets written are read
-abbrev pub afterWriting : List ℤ → List ℤ → List ℕ → List ℕ → List ℕ → WA.Answer → Made
-afterWriting codebook thresholds index report o (Written n) =
-    made (tripOf (reading (take n o) codebook thresholds index report .answer)) o (reading (take n o) codebook thresholds index report .index)
-    (reading (take n o) codebook thresholds index report .report)
-afterWriting codebook thresholds index report o (Refused r) = made (NotWritten r) o index report
+abbrev pub afterWriting : Tables → List ℕ → List ℕ → List ℕ → WA.Answer → Made
+afterWriting tables index report o (Written n) =
+    made (tripOf (reading (take n o) tables index report .answer)) o (reading (take n o) tables index report .index)
+    (reading (take n o) tables index report .report)
+afterWriting tables index report o (Refused r) = made (NotWritten r) o index report
 
-unfoldable pub trip : Settings → List ℕ → List ℤ → List ℤ → List ℕ → List ℕ → List ℕ → Made
-trip settings idx codebook thresholds out index report =
-    afterWriting codebook thresholds index report (writing settings idx out .output) (writing settings idx out .answer)
+unfoldable pub trip : Settings → List ℕ → Tables → List ℕ → List ℕ → List ℕ → Made
+trip settings idx tables out index report =
+    afterWriting tables index report (writing settings idx out .output) (writing settings idx out .answer)
 
 -- what a caller of both needs: the same settings, all multiframes and frames, no bad pair, and the end
 abbrev pub whole : Settings → List ℕ → Summary
@@ -88,11 +88,11 @@ pub record IsBack (settings : Settings) (idx : List ℕ) (n : ℕ) (out index re
   pub no-notes : t .report ≡ noteless idx report
 
 -- WRITTEN BUT NOT READ: the output holds the image, which the reader refuses, and what was lent to the reader is as it came
-pub record IsUnread (settings : Settings) (idx : List ℕ) (codebook thresholds : List ℤ) (out index report : List ℕ) (x : RR.Reading) (t : Made) : Type 0 where
+pub record IsUnread (settings : Settings) (idx : List ℕ) (tables : Tables) (out index report : List ℕ) (x : RR.Reading) (t : Made) : Type 0 where
   pub octets : ℕ
   pub written : verdict settings idx (length out) ≡ Written octets
   pub image-out : t .output ≡ imaged settings idx octets out
-  pub refused : reading (image settings idx (multiframesFor (frameCount idx))) codebook thresholds index report .answer ≡ R.Refused x
+  pub refused : reading (image settings idx (multiframesFor (frameCount idx))) tables index report .answer ≡ R.Refused x
   pub index-stays : t .index ≡ index
   pub report-stays : t .report ≡ report
 
@@ -101,40 +101,40 @@ pub record IsUnwritten (settings : Settings) (idx out index report : List ℕ) (
   pub refused : verdict settings idx (length out) ≡ Refused x
   pub all-stay : (t .output ≡ out) × (t .index ≡ index) × (t .report ≡ report)
 
-module _ (settings : Settings) (idx : List ℕ) (codebook thresholds : List ℤ) (out index report : List ℕ) where
+module _ (settings : Settings) (idx : List ℕ) (tables : Tables) (out index report : List ℕ) where
   -- whatever the writer accepts, with 01's tables and room, is back
   abbrev pub ComesBack : Made → Type 0
   ComesBack t =
-      (n : ℕ) → verdict settings idx (length out) ≡ Written n → Lent (multiframesFor (frameCount idx)) codebook thresholds index report
+      (n : ℕ) → verdict settings idx (length out) ≡ Written n → Lent (multiframesFor (frameCount idx)) tables index report
       → IsBack settings idx n out index report t
 
   -- what the buffers hold if the reader refuses, and if the writer does
   abbrev pub Unread : Made → Type 0
-  Unread t = (x : RR.Reading) → t .answer ≡ NotRead x → IsUnread settings idx codebook thresholds out index report x t
+  Unread t = (x : RR.Reading) → t .answer ≡ NotRead x → IsUnread settings idx tables out index report x t
 
   abbrev pub Unwritten : Made → Type 0
   Unwritten t = (x : WR.Writing) → t .answer ≡ NotWritten x → IsUnwritten settings idx out index report x t
 
   -- ---- what is accepted is written, and its image is read
   abbrev back : Outcome
-  back = reading (image settings idx (multiframesFor (frameCount idx))) codebook thresholds index report
+  back = reading (image settings idx (multiframesFor (frameCount idx))) tables index report
 
   as-written : (n : ℕ) → verdict settings idx (length out) ≡ Written n
-      → trip settings idx codebook thresholds out index report ≡ made (tripOf (back .answer)) (imaged settings idx n out) (back .index) (back .report)
+      → trip settings idx tables out index report ≡ made (tripOf (back .answer)) (imaged settings idx n out) (back .index) (back .report)
   unfolding trip writing
   as-written n e =
       let i = image settings idx (multiframesFor (frameCount idx)) in
       let l : length i ≡ n = length-image settings idx (multiframesFor (frameCount idx)) ∙ sym (accepted settings idx (length out) n e .octets-needed) in
       let t : take n (imaged settings idx n out) ≡ i = take-at i (drop (0 + n) out) n l in
-      rw e (ap (λ (s : List ℕ). let q = reading s codebook thresholds index report in made (tripOf (q .answer)) (imaged settings idx n out) (q .index) (q .report)) t)
+      rw e (ap (λ (s : List ℕ). let q = reading s tables index report in made (tripOf (q .answer)) (imaged settings idx n out) (q .index) (q .report)) t)
 
   not-written : (r : WR.Writing) → verdict settings idx (length out) ≡ Refused r
-      → trip settings idx codebook thresholds out index report ≡ made (NotWritten r) out index report
+      → trip settings idx tables out index report ≡ made (NotWritten r) out index report
   unfolding trip writing
   not-written r e = rw e
 
   -- COMES BACK: whatever the writer accepts, with 01's tables and room
-  pub comes-back : Small idx → ComesBack (trip settings idx codebook thresholds out index report)
+  pub comes-back : Small idx → ComesBack (trip settings idx tables out index report)
   comes-back small n e lent =
       let a = accepted settings idx (length out) n e in
       let u : Utterance =
@@ -144,7 +144,7 @@ module _ (settings : Settings) (idx : List ℕ) (codebook thresholds : List ℤ)
         small = small;
         written = accepts settings idx (needed idx) (a .sizes) (a .narrow-indices) (a .speaks) (omega arith);
       } in
-      let r = reads-image u codebook thresholds index report lent in
+      let r = reads-image u tables index report lent in
       subst (IsBack settings idx n out index report) (sym (as-written n e))
       record {
         answer = ap (λ (o : Outcome). tripOf (o .answer)) r;
@@ -158,18 +158,18 @@ module _ (settings : Settings) (idx : List ℕ) (codebook thresholds : List ℤ)
   tripped (R.Refused r) x e = let z : r ≡ x = cc in ap R.Refused z
 
   abbrev result : Made
-  result = trip settings idx codebook thresholds out index report
+  result = trip settings idx tables out index report
 
   -- the reader refuses: the image is out, and what was lent to the reader is as it came
   pub unread : Unread result
   unread x = by (verdict settings idx (length out)) refl
     where
-      by : (v : WA.Answer) → verdict settings idx (length out) ≡ v → result .answer ≡ NotRead x → IsUnread settings idx codebook thresholds out index report x result
+      by : (v : WA.Answer) → verdict settings idx (length out) ≡ v → result .answer ≡ NotRead x → IsUnread settings idx tables out index report x result
       by (Written n) v e =
           let w = as-written n v in
           let y : back .answer ≡ R.Refused x = tripped (back .answer) x (sym (ap (λ (m : Made). m .answer) w) ∙ e) in
-          let k = refusal-keeps (image settings idx (multiframesFor (frameCount idx))) codebook thresholds index report x y in
-          subst (IsUnread settings idx codebook thresholds out index report x) (sym w)
+          let k = refusal-keeps (image settings idx (multiframesFor (frameCount idx))) tables index report x y in
+          subst (IsUnread settings idx tables out index report x) (sym w)
           record { octets = n; written = v; image-out = refl; refused = y; index-stays = ap (λ (q : Outcome). q .index) k; report-stays = ap (λ (q : Outcome). q .report) k }
       by (Refused r) v e = absurd (never r x (sym (ap (λ (m : Made). m .answer) (not-written r v)) ∙ e))
         where
@@ -198,20 +198,20 @@ module _ (settings : Settings) (idx : List ℕ) (codebook thresholds : List ℤ)
 
   -- ---- the code's ends, from what the writer and the reader ensure
   ends : (x : WA.Answer) (o : List ℕ) → W.outcome x o ≡ writing settings idx out
-      → afterWriting codebook thresholds index report o x ≡ trip settings idx codebook thresholds out index report
+      → afterWriting tables index report o x ≡ trip settings idx tables out index report
   unfolding trip
-  ends x o e = ap (λ (q : W.Outcome). afterWriting codebook thresholds index report (q .output) (q .answer)) e
+  ends x o e = ap (λ (q : W.Outcome). afterWriting tables index report (q .output) (q .answer)) e
 
   pub ends-unwritten : (x : WA.Answer) (o : List ℕ) (r : WR.Writing) → W.outcome x o ≡ writing settings idx out → x ≡ Refused r
-      → made (NotWritten r) o index report ≡ trip settings idx codebook thresholds out index report
-  ends-unwritten x o r e ex = ap (afterWriting codebook thresholds index report o) (sym ex) ∙ ends x o e
+      → made (NotWritten r) o index report ≡ trip settings idx tables out index report
+  ends-unwritten x o r e ex = ap (afterWriting tables index report o) (sym ex) ∙ ends x o e
 
   pub ends-read : (x : WA.Answer) (o : List ℕ) (n : ℕ) (y : RA.Answer) (i′ r′ : List ℕ) (t : Trip) → W.outcome x o ≡ writing settings idx out → x ≡ Written n
-      → outcome y i′ r′ ≡ reading (take n o) codebook thresholds index report → tripOf y ≡ t
-      → made t o i′ r′ ≡ trip settings idx codebook thresholds out index report
+      → outcome y i′ r′ ≡ reading (take n o) tables index report → tripOf y ≡ t
+      → made t o i′ r′ ≡ trip settings idx tables out index report
   ends-read x o n y i′ r′ t e ex er et =
       ap (λ (z : Trip). made z o i′ r′) (sym et) ∙ ap (λ (q : Outcome). made (tripOf (q .answer)) o (q .index) (q .report)) er
-      ∙ ap (afterWriting codebook thresholds index report o) (sym ex) ∙ ends x o e
+      ∙ ap (afterWriting tables index report o) (sym ex) ∙ ends x o e
 
   -- what was written lies inside the output
   pub fits-output : (x : WA.Answer) (o : List ℕ) (n : ℕ) → W.outcome x o ≡ writing settings idx out → x ≡ Written n → n ≤ length o
@@ -235,23 +235,23 @@ module _ (settings : Settings) (idx : List ℕ) (codebook thresholds : List ℤ)
 
 -- ---- BOTH REFUSALS ARE MET
 -- every utterance that is written and then read with a codebook of another size is unread, with refusal 11
-pub wrong-tables : (u : Utterance) (codebook thresholds : List ℤ) (out index report : List ℕ) → needed (u .indices) ≤ length out → (length codebook ≡ codebookNumbers → ⊥)
-    → trip (u .settings) (u .indices) codebook thresholds out index report
+pub wrong-tables : (u : Utterance) (tables : Tables) (out index report : List ℕ) → needed (u .indices) ≤ length out → (length (tables .codebook) ≡ codebookNumbers → ⊥)
+    → trip (u .settings) (u .indices) tables out index report
     ≡ made (NotRead WrongTables) (imaged (u .settings) (u .indices) (needed (u .indices)) out) index report
-wrong-tables u codebook thresholds out index report room wrong =
+wrong-tables u tables out index report room wrong =
     let a = is-accepted u in
-    as-written (u .settings) (u .indices) codebook thresholds out index report (needed (u .indices))
+    as-written (u .settings) (u .indices) tables out index report (needed (u .indices))
     (accepts (u .settings) (u .indices) (length out) (a .sizes) (a .narrow-indices) (a .speaks) room)
     ∙ ap (λ (q : Outcome). made (tripOf (q .answer)) (imaged (u .settings) (u .indices) (needed (u .indices)) out) (q .index) (q .report))
-    (sym (wrong-codebook (imageOf u) codebook thresholds index report wrong))
+    (sym (wrong-codebook (imageOf u) tables index report wrong))
 
 -- so is 01's frame 1 with no codebook at all: its 144 octets stand in the output, and the octet beyond is as it came
-pub unread-1 : trip (settings 0 0) (lone 1) [] zeroThresholds (replicate 145 255) (indexFor 1) (reportFor 1)
+pub unread-1 : trip (settings 0 0) (lone 1) (tablesOf [] (zeroTables .thresholds)) (replicate 145 255) (indexFor 1) (reportFor 1)
     ≡ made (NotRead WrongTables) (imageOf says1 ++ (255 ∷ [])) (indexFor 1) (reportFor 1)
-unread-1 = wrong-tables says1 [] zeroThresholds (replicate 145 255) (indexFor 1) (reportFor 1) (omega arith) (λ e. omega arith)
+unread-1 = wrong-tables says1 (tablesOf [] (zeroTables .thresholds)) (replicate 145 255) (indexFor 1) (reportFor 1) (omega arith) (λ e. omega arith)
 
 -- and a rate of 2 is not written
-pub unwritten-2 : trip (settings 2 0) (lone 1) zeroBook zeroThresholds (replicate 145 255) (indexFor 1) (reportFor 1)
+pub unwritten-2 : trip (settings 2 0) (lone 1) zeroTables (replicate 145 255) (indexFor 1) (reportFor 1)
     ≡ made (NotWritten WrongSettings) (replicate 145 255) (indexFor 1) (reportFor 1)
 unfolding verdict
-unwritten-2 = not-written (settings 2 0) (lone 1) zeroBook zeroThresholds (replicate 145 255) (indexFor 1) (reportFor 1) WrongSettings refl
+unwritten-2 = not-written (settings 2 0) (lone 1) zeroTables (replicate 145 255) (indexFor 1) (reportFor 1) WrongSettings refl

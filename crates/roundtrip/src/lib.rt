@@ -2,6 +2,7 @@
 use reader::Summary;
 use settings::Settings;
 ghost use mathlib.Core.Path.{_≡_};
+ghost use Rattle.consistency.specs.Lent.{came, left, tablesIn};
 ghost use Rattle.roundtrip.specs.Trip.{made, trip, ComesBack, Unread, Unwritten};
 
 // What became of an utterance: refused by the writer, refused by the reader, or back with the reader's summary.
@@ -23,10 +24,14 @@ pub fn write_and_read(
     index: &mut [u8],
     report: &mut [u8],
 ) -> Trip
-    ensures all { λ r. ⌜ made r (now (out .exit)) (now (index .exit)) (now (report .exit)) ≡ trip settings (now (indices .entry)) (now (codebook .entry)) (now (thresholds .entry)) (now (out .entry)) (now (index .entry)) (now (report .entry)) ⌝ }
-    ensures back { λ r. ⌜ ComesBack settings (now (indices .entry)) (now (codebook .entry)) (now (thresholds .entry)) (now (out .entry)) (now (index .entry)) (now (report .entry)) (made r (now (out .exit)) (now (index .exit)) (now (report .exit))) ⌝ }
-    ensures unread { λ r. ⌜ Unread settings (now (indices .entry)) (now (codebook .entry)) (now (thresholds .entry)) (now (out .entry)) (now (index .entry)) (now (report .entry)) (made r (now (out .exit)) (now (index .exit)) (now (report .exit))) ⌝ }
-    ensures unwritten { λ r. ⌜ Unwritten settings (now (indices .entry)) (now (codebook .entry)) (now (thresholds .entry)) (now (out .entry)) (now (index .entry)) (now (report .entry)) (made r (now (out .exit)) (now (index .exit)) (now (report .exit))) ⌝ }
+    ensures all { λ r. ⌜ made r (left out) (left index) (left report)
+        ≡ trip settings (came indices) (tablesIn codebook thresholds) (came out) (came index) (came report) ⌝ }
+    ensures back { λ r. ⌜ ComesBack settings (came indices) (tablesIn codebook thresholds) (came out) (came index) (came report)
+        (made r (left out) (left index) (left report)) ⌝ }
+    ensures unread { λ r. ⌜ Unread settings (came indices) (tablesIn codebook thresholds) (came out) (came index) (came report)
+        (made r (left out) (left index) (left report)) ⌝ }
+    ensures unwritten { λ r. ⌜ Unwritten settings (came indices) (tablesIn codebook thresholds) (came out) (came index) (came report)
+        (made r (left out) (left index) (left report)) ⌝ }
 {
     match writer::write(settings, indices, out) {
         writer::Answer::Written { octets } => {

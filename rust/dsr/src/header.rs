@@ -5,6 +5,7 @@ use crate::library::{self, DONE};
 #[derive(Debug, Clone, Copy, PartialEq, Eq, Hash)]
 pub enum Header {
     /// A codeword differs from the word in at most two bits.
+    #[non_exhaustive]
     Read {
         /// The codeword's message: rate in bits 0 and 1, type in bit 2, counter in bits 3 to 6, EXP1 to EXP9 in bits 7 to 15.
         message: u16,
@@ -31,7 +32,7 @@ pub fn header_encode(message: u16) -> u32 {
 /// ```
 /// use dsr::{header_encode, header_read, Header};
 /// let sent = header_encode(0x0008);
-/// assert_eq!(header_read(sent ^ 0b11), Header::Read { message: 8, flips: 2 });
+/// assert!(matches!(header_read(sent ^ 0b11), Header::Read { message: 8, flips: 2, .. }));
 /// assert_eq!(header_read(sent ^ 0b111), Header::Lost);
 /// ```
 pub fn header_read(word: u32) -> Header {

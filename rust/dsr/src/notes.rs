@@ -1,17 +1,18 @@
 //! What a report's octets say.
 use core::fmt;
 
-/// What a reading says of a multiframe's header.
+/// What a reading says of a multiframe's header. It comes from a reading or [`HeaderNote::from_octet`] and is not made by hand.
 ///
 /// ```
 /// use dsr::HeaderNote;
 /// let note = HeaderNote::from_octet(6).unwrap();
-/// assert_eq!(note, HeaderNote::Readable { flips: 2, out_of_step: true, differs: false });
+/// assert!(matches!(note, HeaderNote::Readable { flips: 2, out_of_step: true, differs: false, .. }));
 /// assert_eq!(HeaderNote::from_octet(3), Some(HeaderNote::Lost));
 /// ```
 #[derive(Debug, Clone, Copy, PartialEq, Eq, Hash)]
 pub enum HeaderNote {
     /// A codeword differs from the header in at most two bits, and is taken for it.
+    #[non_exhaustive]
     Readable {
         /// The number of flipped bits that were mended, 0 to 2.
         flips: u8,

@@ -67,16 +67,17 @@ fn a_cut_or_strange_archive_has_no_machine() {
 fn the_sentences() {
     let says = |name: &str, archive: Option<&[u8]>, arch: &str| build::trouble(&folder(name, archive).join("libdsr.a"), arch);
     let missing = says("missing", None, "x86_64").unwrap();
-    assert!(missing.starts_with("there is no archive ") && missing.contains(": run make lib "), "{missing}");
+    assert!(missing.starts_with("there is no archive ") && missing.contains(": run make lib ARCH=x86_64 "), "{missing}");
     let strange = says("strange", Some(b"!<thin>\n"), "x86_64").unwrap();
     assert!(strange.contains(" is no archive of ELF objects: run make lib "), "{strange}");
     let other = says("other", Some(&archive(X86_64)), "aarch64").unwrap();
     assert!(other.starts_with("this archive is for x86-64 and the target is aarch64: "), "{other}");
-    assert!(other.contains("make lib ARCH=aarch64"), "{other}");
+    assert!(other.contains("; run make lib ARCH=aarch64 in the repository"), "{other}");
     let other = says("other-way", Some(&archive(AARCH64)), "x86_64").unwrap();
     assert!(other.starts_with("this archive is for aarch64 and the target is x86-64: "), "{other}");
     let other = says("third", Some(&archive(X86_64)), "riscv64").unwrap();
     assert!(other.starts_with("this archive is for x86-64 and the target is riscv64: "), "{other}");
+    assert!(other.ends_with("; make lib makes archives for x86-64 and aarch64 only"), "{other}");
     let other = says("fourth", Some(&archive(243)), "aarch64").unwrap();
     assert!(other.starts_with("this archive is for ELF machine 243 and the target is aarch64: "), "{other}");
     assert_eq!(says("right", Some(&archive(AARCH64)), "aarch64"), None);

@@ -16,9 +16,15 @@ fn headers_of_01() {
 
 #[test]
 fn two_flips_are_mended_and_three_are_lost() {
-    let sent = header_encode(0x0008);
-    assert_eq!(header_read(sent), Header::Read { message: 8, flips: 0 });
-    assert_eq!(header_read(sent ^ 1 << 31), Header::Read { message: 8, flips: 1 });
-    assert_eq!(header_read(sent ^ 1 ^ 1 << 31), Header::Read { message: 8, flips: 2 });
-    assert_eq!(header_read(sent ^ 0b111), Header::Lost);
+    let read = |word: u32| match header_read(word) {
+        Header::Read { message, flips, .. } => Some((message, flips)),
+        Header::Lost => None,
+    };
+    for message in [0, 8, 0x8000, 0xFFFF] {
+        let sent = header_encode(message);
+        assert_eq!(read(sent), Some((message, 0)));
+        assert_eq!(read(sent ^ 1 << 31), Some((message, 1)));
+        assert_eq!(read(sent ^ 1 ^ 1 << 31), Some((message, 2)));
+        assert_eq!(read(sent ^ 0b111), None);
+    }
 }

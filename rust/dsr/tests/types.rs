@@ -1,5 +1,5 @@
 //! The types by themselves: what they take, give and print.
-use dsr::{Error, FrontEnd, HeaderNote, PairNote, Rate, Settings, Tables};
+use dsr::{image_octets, most_multiframes, Error, FrontEnd, HeaderNote, PairNote, Rate, Settings, Tables};
 
 #[test]
 fn rates_and_front_ends_have_01s_codes() {
@@ -48,8 +48,12 @@ fn header_notes_and_their_octets() {
         let note = HeaderNote::from_octet(octet).unwrap();
         assert_eq!((note.octet(), note.is_clean(), note.to_string()), (octet, octet == 0, octet.to_string()));
     }
-    let all = HeaderNote::Readable { flips: 2, out_of_step: true, differs: true };
-    assert_eq!((all.octet(), HeaderNote::Lost.octet()), (14, 3));
+    let note = |octet: u8| HeaderNote::from_octet(octet).unwrap();
+    assert!(matches!(note(1), HeaderNote::Readable { flips: 1, out_of_step: false, differs: false, .. }));
+    assert!(matches!(note(6), HeaderNote::Readable { flips: 2, out_of_step: true, differs: false, .. }));
+    assert!(matches!(note(8), HeaderNote::Readable { flips: 0, out_of_step: false, differs: true, .. }));
+    assert!(matches!(note(14), HeaderNote::Readable { flips: 2, out_of_step: true, differs: true, .. }));
+    assert_eq!(note(3), HeaderNote::Lost);
 }
 
 #[test]
@@ -72,5 +76,17 @@ fn every_refusal_has_number_place_and_words() {
         assert_eq!(refusal.to_string(), words);
         let boxed: Box<dyn std::error::Error> = refusal.into();
         assert_eq!(boxed.to_string(), words);
+    }
+}
+
+/// An image has room for exactly what a reading of it needs, whatever its size; beyond 255 multiframes nothing is read.
+#[test]
+fn sizes_agree() {
+    for frames in 0..=6119 {
+        let octets = image_octets(frames).unwrap();
+        assert_eq!((most_multiframes(octets), most_multiframes(octets - 1)), (frames / 24 + 1, frames / 24));
+    }
+    for octets in [256 * 144 - 1, 256 * 144, 1 << 20, usize::MAX] {
+        assert_eq!(most_multiframes(octets), 255);
     }
 }

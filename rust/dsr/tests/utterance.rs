@@ -1,9 +1,18 @@
 //! The iterators over frames, pairs and multiframes, and each note.
 mod shared;
-use dsr::{read_into, write_into, HeaderNote, PairNote, Tables, Utterance};
+use dsr::{read_bits_into, read_into, write_into, HeaderNote, PairNote, Tables, Utterance};
 use shared::{flip, multiframe, speech, SETTINGS};
 
-const CLEAN: HeaderNote = HeaderNote::Readable { flips: 0, out_of_step: false, differs: false };
+/// The header notes of an utterance: flips, whether out of step, whether the settings differ; or nothing for a lost one.
+fn header_notes(heard: Utterance<&[u8]>) -> Vec<Option<(u8, bool, bool)>> {
+    let note = |note: HeaderNote| match note {
+        HeaderNote::Readable { flips, out_of_step, differs, .. } => Some((flips, out_of_step, differs)),
+        HeaderNote::Lost => None,
+    };
+    heard.multiframes().map(|multiframe| note(multiframe.header())).collect()
+}
+
+const CLEAN: Option<(u8, bool, bool)> = Some((0, false, false));
 
 /// Sixty frames of speech in three multiframes, with pairs 1, 11, 12 and 35 damaged.
 fn damaged() -> Vec<u8> {
@@ -56,8 +65,7 @@ fn multiframes_have_their_notes_frames_and_pairs() {
     flip(&mut octets, 1152 + 40);
     with_reading(&octets, &Tables::ZEROS, |heard| {
         assert_eq!(heard.multiframes().len(), 3);
-        let notes: Vec<_> = heard.multiframes().map(|multiframe| multiframe.header()).collect();
-        assert_eq!(notes, [CLEAN, HeaderNote::Readable { flips: 2, out_of_step: false, differs: false }, CLEAN]);
+        assert_eq!(header_notes(heard), [CLEAN, Some((2, false, false)), CLEAN]);
         let pairs: Vec<_> = heard.multiframes().flat_map(|multiframe| multiframe.pairs()).collect();
         assert_eq!(pairs, heard.pairs().collect::<Vec<_>>());
         let frames: Vec<_> = heard.multiframes().flat_map(|multiframe| multiframe.frames()).collect();
@@ -74,31 +82,47 @@ fn header_notes_are_named() {
     lost[2] ^= 0b111;
     let octets = [multiframe(counted_1), lost, multiframe(counted_3)].concat();
     with_reading(&octets, &Tables::ZEROS, |heard| {
-        let notes: Vec<_> = heard.multiframes().map(|multiframe| multiframe.header()).collect();
-        assert_eq!(notes, [CLEAN, HeaderNote::Lost, CLEAN]);
-        assert_eq!(heard.report()[13], 3);
+        assert_eq!(header_notes(heard), [CLEAN, None, CLEAN]);
+        assert_eq!((heard.report()[13], heard.has_notes(), heard.reading.bad), (3, true, 0));
     });
     let octets = [multiframe(counted_1), multiframe(counted_1), multiframe(counted_3_at_11_khz)].concat();
     with_reading(&octets, &Tables::ZEROS, |heard| {
-        let notes: Vec<_> = heard.multiframes().map(|multiframe| multiframe.header()).collect();
-        let out_of_step = HeaderNote::Readable { flips: 0, out_of_step: true, differs: false };
-        let differs = HeaderNote::Readable { flips: 0, out_of_step: false, differs: true };
-        assert_eq!(notes, [CLEAN, out_of_step, differs]);
+        let (out_of_step, differs) = (Some((0, true, false)), Some((0, false, true)));
+        assert_eq!(header_notes(heard), [CLEAN, out_of_step, differs]);
     });
 }
 
-/// A rise from each pair's first frame to its second flags every index pair, which matters only beside a bad pair.
-#[test]
-fn a_pair_that_is_inconsistent_beside_a_bad_one() {
-    let codebook: [i32; 1280] = std::array::from_fn(|i| i as i32 % 128);
+/// Each pair rises from its first frame to its second in every index; the CRC of pair 5 fails.
+fn rising() -> Vec<u8> {
     let said: Vec<u8> = (0..59).flat_map(|frame| [if frame % 2 == 0 { 1 } else { 9 }; 7]).collect();
     let mut image = vec![0; 432];
     write_into(SETTINGS, &said, &mut image).unwrap();
     flip(&mut image, 48 + 92 * 5);
-    with_reading(&image, &Tables::from_arrays(&codebook, &[0; 14]), |heard| {
-        let notes: Vec<_> = heard.pairs().map(|pair| pair.note.octet()).collect();
-        assert_eq!(notes[..5], [0, 0, 0, 0, 2]);
-        assert_eq!(notes[5..29], [&[1][..], &[2; 23]].concat());
-        assert_eq!(heard.pairs().nth(4).unwrap().note, PairNote::BadOtherwise);
-    });
+    image
+}
+
+/// The pair notes of the same octets by either reader.
+fn notes_by_both(octets: &[u8], tables: &Tables) -> [Vec<PairNote>; 2] {
+    let (mut index, mut report) = ([0xEE; 504], [0xEE; 39]);
+    let by_octets = read_into(octets, tables, &mut index, &mut report).unwrap();
+    let notes: Vec<_> = by_octets.pairs().map(|pair| pair.note).collect();
+    let by_bits = read_bits_into(octets, 0, 16, tables, &mut index, &mut report).unwrap();
+    [notes, by_bits.utterance.pairs().map(|pair| pair.note).collect()]
+}
+
+/// A rise flags an index pair if the codebook's numbers rise with the index by more than the threshold. The pair before the bad one is
+/// judged, and each one behind a bad one; the last pair with speech is a frame and a zero frame, which falls.
+#[test]
+fn both_readers_judge_by_the_tables() {
+    let codebook: [i32; 1280] = std::array::from_fn(|i| i as i32 % 128);
+    let rise = 16;
+    for notes in notes_by_both(&rising(), &Tables::from_arrays(&codebook, &[rise - 1; 14])) {
+        assert_eq!(notes[..4], [PairNote::Good; 4]);
+        assert_eq!((notes[4], notes[5]), (PairNote::BadOtherwise, PairNote::CrcFailed));
+        assert_eq!((&notes[6..29], &notes[29..]), (&[PairNote::BadOtherwise; 23][..], &[PairNote::Good; 7][..]));
+    }
+    for notes in notes_by_both(&rising(), &Tables::from_arrays(&codebook, &[rise; 14])) {
+        assert_eq!(notes.iter().filter(|note| note.is_bad()).count(), 1);
+        assert_eq!(notes[5], PairNote::CrcFailed);
+    }
 }

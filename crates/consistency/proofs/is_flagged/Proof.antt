@@ -1,5 +1,6 @@
 -- `is_flagged` meets its contract: it is flagged by its first element, or else by its second (`Flags`).
 -- Assumes nothing.
+use Rattle.consistency.specs.Tables.{tablesOf}
 use Rattle.consistency.proofs.Flags.{flagged-first, flagged-second}
 use borrow.Author.Needs.{needs}
 use Rattle.consistency.proofs.is_flagged.Statement.{statement}
@@ -30,7 +31,9 @@ exceeds-at-requires : tie.Need-exceeds-at-requires
 exceeds-at-requires c κs = search needs
 
 returns : tie.Need-returns
-returns c = flagged-first _ _ (c .before .before .args .c) (c .before .before .args .i) (c .before .before .args .j) (c .before .exceeds-at .ensures) (c .if1 .taken)
+returns c =
+    let a = c .before .before .args in
+    flagged-first (tablesOf (a .codebook .now) (a .thresholds .now)) (a .c) (a .i) (a .j) (c .before .exceeds-at .ensures) (c .if1 .taken)
 
 add-exceeds-at : tie.Need-add-exceeds-at
 add-exceeds-at c = search needs
@@ -47,7 +50,8 @@ exceeds-at-requires-2 c κs = search needs
 returns-2 : tie.Need-returns-2
 returns-2 c =
     let a = c .before .before .before .args in
-    flagged-second _ _ (a .c) (a .i) (a .j) (c .before .before .exceeds-at .ensures) (c .before .if1 .left) (c .exceeds-at2 .ensures)
+    flagged-second (tablesOf (a .codebook .now) (a .thresholds .now)) (a .c) (a .i) (a .j) (c .before .before .exceeds-at .ensures) (c .before .if1 .left)
+    (c .exceeds-at2 .ensures)
 
 pub is-flagged-spec : {M : Type 1} → statement M
 is-flagged-spec =

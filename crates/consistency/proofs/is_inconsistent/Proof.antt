@@ -7,6 +7,7 @@ use mathlib.Core.Logic.{⊎-elim}
 use native.Mathlib.Omega.{arith}
 use Rattle.lists.specs.Parts.{part}
 use Rattle.layout.specs.Layout.{frameIndices}
+use Rattle.consistency.specs.Tables.{tablesOf}
 use Rattle.consistency.specs.Consistency.{flags}
 use Rattle.consistency.proofs.Flags.{index-of, in-codebook, one-more, no-more, judged}
 use Rattle.consistency.proofs.is_inconsistent.Statement.{statement}
@@ -14,7 +15,7 @@ use Rattle.consistency.proofs.is_inconsistent.Tie as tie
 
 abbrev Inv-loop : tie.InvT-loop
 Inv-loop codebook thresholds index first second flags₀ c₀ n c =
-    (c ≤ frameIndices) × (n ≤ c) × (n ≡ flags codebook thresholds (part first frameIndices index) (part second frameIndices index) c)
+    (c ≤ frameIndices) × (n ≤ c) × (n ≡ flags (tablesOf codebook thresholds) (part first frameIndices index) (part second frameIndices index) c)
 
 abbrev μ-loop : tie.MeasureT-loop
 μ-loop codebook thresholds index first second flags₀ c₀ n c = frameIndices - c
@@ -42,7 +43,7 @@ is-flagged-requires c κs =
     let n = c .before .before .before .loop .c in
     let octet = c .before .before .before .before .shared-slice-known .given in
     let small : n < frameIndices = omega arith in (
-      (start .pre .0 .0, start .pre .0 .1, small),
+      (start .pre .0, small),
       (
         in-codebook (a .index .now) (a .first) n (c .before .index-at .result) (c .before .index-at .ensures) small (omega (arith, octet (a .first + n))) (start .pre .1 .1 .0),
         in-codebook (a .index .now) (a .second) n (c .index-at2 .result) (c .index-at2 .ensures) small (omega (arith, octet (a .second + n))) (start .pre .1 .1 .1),
@@ -71,14 +72,14 @@ loop-again c =
     let er = c .before .is-flagged .ensures in (
       omega arith,
       ⊎-elim (λ w. omega arith) (λ w. omega arith) (c .if1 .came),
-      ⊎-elim (λ w. w .1 ∙ one-more _ _ _ _ n x y (d .loop .flags) (d .loop .inv .2) ex ey er (w .0 .taken))
-          (λ w. w .1 ∙ no-more _ _ _ _ n x y (d .loop .flags) (d .loop .inv .2) ex ey er (w .0 .left)) (c .if1 .came),
+      ⊎-elim (λ w. w .1 ∙ one-more _ _ _ n x y (d .loop .flags) (d .loop .inv .2) ex ey er (w .0 .taken))
+          (λ w. w .1 ∙ no-more _ _ _ n x y (d .loop .flags) (d .loop .inv .2) ex ey er (w .0 .left)) (c .if1 .came),
     )
 
 returns : tie.Need-returns Inv-loop μ-loop
 returns c =
     let e : c .before .loop .c ≡ frameIndices = omega arith in
-    judged _ _ _ _ (c .before .loop .flags) (rw e at (c .before .loop .inv .2))
+    judged _ _ _ (c .before .loop .flags) (rw e at (c .before .loop .inv .2))
 
 pub is-inconsistent-spec : {M : Type 1} → statement M
 is-inconsistent-spec =

@@ -9,16 +9,17 @@ use Rattle.hunting.proofs.read.Reads as reads
 use Rattle.hunting.proofs.read.Lts as lts
 use Rattle.hunt.proofs.in_range.Reads as in-range-reads
 use Rattle.hunting.proofs.read_found.Reads as read-found-reads
+use Rattle.consistency.specs.Tables.{tablesOf}
 
 returns : tie.Need-returns
 returns c =
     let a = c .before .before .before .before .args in
-    wrong-codebook (a .octets .now) (a .from) (a .least) (a .codebook .now) (a .thresholds .now) (a .index .now) (a .report .now) (c .if1 .taken)
+    wrong-codebook (a .octets .now) (a .from) (a .least) (tablesOf (a .codebook .now) (a .thresholds .now)) (a .index .now) (a .report .now) (c .if1 .taken)
 
 returns-2 : tie.Need-returns-2
 returns-2 c =
     let a = c .before .before .before .before .before .args in
-    wrong-thresholds (a .octets .now) (a .from) (a .least) (a .codebook .now) (a .thresholds .now) (a .index .now) (a .report .now) (c .before .if1 .left) (c .if2 .taken)
+    wrong-thresholds (a .octets .now) (a .from) (a .least) (tablesOf (a .codebook .now) (a .thresholds .now)) (a .index .now) (a .report .now) (c .before .if1 .left) (c .if2 .taken)
 
 in-range-requires : tie.Need-in-range-requires
 in-range-requires c κs = search needs
@@ -39,14 +40,14 @@ returns-3 c =
     let i = t .before in
     let e = i .before in
     let a = e .before .before .before .before .before .args in
-    in-range (a .octets .now) (a .from) (a .least) (a .codebook .now) (a .thresholds .now) (a .index .now) (a .report .now) (e .before .if1 .left) (e .if2 .left) (sym (i .in-range .ensures) ∙ t .if3 .taken) _ (r .read-found .ensures)
+    in-range (a .octets .now) (a .from) (a .least) (tablesOf (a .codebook .now) (a .thresholds .now)) (a .index .now) (a .report .now) (e .before .if1 .left) (e .if2 .left) (sym (i .in-range .ensures) ∙ t .if3 .taken) _ (r .read-found .ensures)
 
 returns-4 : tie.Need-returns-4
 returns-4 c =
     let i = c .before in
     let e = i .before in
     let a = e .before .before .before .before .before .args in
-    out-of-range (a .octets .now) (a .from) (a .least) (a .codebook .now) (a .thresholds .now) (a .index .now) (a .report .now) (e .before .if1 .left) (e .if2 .left) (sym (i .in-range .ensures) ∙ c .if3 .left)
+    out-of-range (a .octets .now) (a .from) (a .least) (tablesOf (a .codebook .now) (a .thresholds .now)) (a .index .now) (a .report .now) (e .before .if1 .left) (e .if2 .left) (sym (i .in-range .ensures) ∙ c .if3 .left)
 
 pub read-spec : {M : Type 1} → statement M
 read-spec =

@@ -10,6 +10,7 @@ use Rattle.hunting.proofs.read_found.Lts as lts
 use Rattle.hunting.proofs.gather.Reads as gather-reads
 use Rattle.hunting.proofs.outside_of.Reads as outside-of-reads
 use Rattle.hunting.proofs.read_front.Reads as read-front-reads
+use Rattle.consistency.specs.Tables.{tablesOf}
 
 slice-aggregate-gather : tie.Need-slice-aggregate-gather
 slice-aggregate-gather c = search needs
@@ -27,7 +28,7 @@ returns : tie.Need-returns
 returns c =
     let g = c .before .before .before .before .before in
     let a = g .before .before .before .before .before .args in
-    ends-nowhere (a .octets .now) (a .from) (a .least) (a .codebook .now) (a .thresholds .now) (a .index .now) (a .report .now) _ _ (sym (c .before .before .count .given .1) ∙ g .gather .ensures .0) (c .if1 .taken)
+    ends-nowhere (a .octets .now) (a .from) (a .least) (tablesOf (a .codebook .now) (a .thresholds .now)) (a .index .now) (a .report .now) _ _ (sym (c .before .before .count .given .1) ∙ g .gather .ensures .0) (c .if1 .taken)
 
 slice-aggregate-read-front : tie.Need-slice-aggregate-read-front
 slice-aggregate-read-front c = search needs
@@ -52,7 +53,7 @@ returns-2 : tie.Need-returns-2
 returns-2 c =
     let g = c .before .before .before .before in
     let a = g .before .before .before .before .before .args in
-    ends-many (a .octets .now) (a .from) (a .least) (a .codebook .now) (a .thresholds .now) (a .index .now) (a .report .now) _ (sym (c .before .place .given .1) ∙ g .gather .ensures .0)
+    ends-many (a .octets .now) (a .from) (a .least) (tablesOf (a .codebook .now) (a .thresholds .now)) (a .index .now) (a .report .now) _ (sym (c .before .place .given .1) ∙ g .gather .ensures .0)
 
 same-length : tie.Need-same-length
 same-length c = search needs
@@ -68,7 +69,7 @@ returns-3 c =
     let k = e .before .before in
     let g = k .before .before .before in
     let a = g .before .before .before .before .before .args in
-    ends-read (a .octets .now) (a .from) (a .least) (a .codebook .now) (a .thresholds .now) (a .index .now) (a .report .now) _ _ (sym (k .count .given .1) ∙ g .gather .ensures .0) _ (b .outside-of .result) _ (e .if1 .left) (g .gather .ensures .1)
+    ends-read (a .octets .now) (a .from) (a .least) (tablesOf (a .codebook .now) (a .thresholds .now)) (a .index .now) (a .report .now) _ _ (sym (k .count .given .1) ∙ g .gather .ensures .0) _ (b .outside-of .result) _ (e .if1 .left) (g .gather .ensures .1)
     (b .outside-of .ensures) (r .read-front .ensures)
 
 pub read-found-spec : {M : Type 1} → statement M

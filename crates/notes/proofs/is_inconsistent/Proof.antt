@@ -7,6 +7,7 @@ use denote.Ref.{now}
 use lib.ListN.{length, replicate}
 use Rattle.lists.specs.Parts.{over}
 use Rattle.layout.specs.Layout.{widths, pairIndices}
+use Rattle.consistency.specs.Tables.{tablesOf}
 use Rattle.bits.specs.Bits.{bits}
 use Rattle.carrier.specs.Carrier.{streamPacket, received}
 use Rattle.packet.specs.Packet.{apart}
@@ -50,14 +51,14 @@ is-inconsistent-requires c κs =
     let packets = received (st .args .octets .now) (st .args .places .now) in
     let e = found p in
     let size : length (p .take-apart .last .1 .1 .0) ≡ pairIndices = ap length e ∙ length-frames packets (st .args .q .0) in
-    (st .pre .1, ((omega arith, omega arith), ranges packets (st .args .q .0) (p .take-apart .last .1 .1 .0) e (st .args .codebook .now) (st .args .thresholds .now)))
+    (st .pre .1, ((omega arith, omega arith), ranges packets (st .args .q .0) (p .take-apart .last .1 .1 .0) e (tablesOf (st .args .codebook .now) (st .args .thresholds .now))))
 
 returns : tie.Need-returns
 returns c =
     let p = c .before .before .before in
     let st = p .before .before .before .before .before in
     c .is-inconsistent .ensures
-    ∙ inconsistent-is (received (st .args .octets .now) (st .args .places .now)) (st .args .q .0) (p .take-apart .last .1 .1 .0) (found p) (st .args .codebook .now) (st .args .thresholds .now)
+    ∙ inconsistent-is (received (st .args .octets .now) (st .args .places .now)) (st .args .q .0) (p .take-apart .last .1 .1 .0) (found p) (tablesOf (st .args .codebook .now) (st .args .thresholds .now))
 
 pub is-inconsistent-spec : {M : Type 1} → statement M
 is-inconsistent-spec =

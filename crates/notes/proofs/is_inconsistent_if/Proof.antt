@@ -2,6 +2,7 @@
 use mathlib.Core.Path.{sym, ap, _∙_}
 use mathlib.Core.Bool.{Bool, false}
 use Rattle.lists.specs.Tests.{when}
+use Rattle.consistency.specs.Tables.{tablesOf}
 use Rattle.carrier.specs.Carrier.{received}
 use Rattle.notes.specs.Notes.{pairInconsistent}
 use borrow.Author.Needs.{needs}
@@ -16,7 +17,7 @@ returns c =
     let st = c .before .before .before .before in
     let a = st .args in
     c .is-inconsistent .ensures
-    ∙ sym (ap (λ (t : Bool). when t (pairInconsistent (received (a .octets .now) (a .places .now)) (a .codebook .now) (a .thresholds .now) (a .q .0)) false) (c .before .if1 .taken))
+    ∙ sym (ap (λ (t : Bool). when t (pairInconsistent (received (a .octets .now) (a .places .now)) (tablesOf (a .codebook .now) (a .thresholds .now)) (a .q .0)) false) (c .before .if1 .taken))
 
 returns-2 : tie.Need-returns-2
 returns-2 c =

@@ -7,6 +7,7 @@ use Rattle.notes.proofs.Steps.{none-failed}
 use borrow.Author.Needs.{needs}
 use Rattle.notes.proofs.judge.Statement.{statement}
 use Rattle.notes.proofs.judge.Tie as tie
+use Rattle.consistency.specs.Tables.{tablesOf}
 
 count-bad-requires : tie.Need-count-bad-requires
 count-bad-requires c κs = search needs
@@ -28,7 +29,7 @@ returns-2 c =
     let b = c .before in
     let st = b .before .before .before .before .before in
     let e = st .pre .0 .1 in
-    e ∙ none-failed (received (now (st .args .octets)) (now (st .args .places))) (pairCount (now (st .args .places))) (now (st .args .codebook)) (now (st .args .thresholds))
+    e ∙ none-failed (received (now (st .args .octets)) (now (st .args .places))) (pairCount (now (st .args .places))) (tablesOf (now (st .args .codebook)) (now (st .args .thresholds)))
     (sym (ap badPairs e) ∙ sym (b .count-bad .ensures) ∙ c .if1 .left)
 
 pub judge-spec : {M : Type 1} → statement M

@@ -5,6 +5,7 @@ use mathlib.Core.Bool.{Bool, false}
 use native.Mathlib.Omega.{arith}
 use lib.ListN.{length}
 use Rattle.lists.specs.Tests.{when}
+use Rattle.consistency.specs.Tables.{tablesOf}
 use Rattle.carrier.specs.Carrier.{received, pairCount}
 use Rattle.notes.specs.Notes.{pairInconsistent, pairNotes}
 use Rattle.notes.proofs.Steps.{Judged, length-crcs, judging-begun, judged-on, judging-done}
@@ -13,7 +14,7 @@ use Rattle.notes.proofs.judge_each.Statement.{statement}
 use Rattle.notes.proofs.judge_each.Tie as tie
 
 abbrev Inv-loop : tie.InvT-loop
-Inv-loop octets places codebook thresholds notes₀ before₀ q₀ notes before q = Judged (received octets places) codebook thresholds (pairCount places) notes before q
+Inv-loop octets places codebook thresholds notes₀ before₀ q₀ notes before q = Judged (received octets places) (tablesOf codebook thresholds) (pairCount places) notes before q
 
 abbrev μ-loop : tie.MeasureT-loop
 μ-loop octets places codebook thresholds notes₀ before₀ q₀ notes before q = pairCount places - q
@@ -21,7 +22,7 @@ abbrev μ-loop : tie.MeasureT-loop
 loop-holds : tie.Need-loop-holds Inv-loop μ-loop
 loop-holds c =
     let st = c .before .before .before in
-    judging-begun _ _ _ _ _ (st .pre .0 .1)
+    judging-begun _ _ _ _ (st .pre .0 .1)
 
 slice-read-is-bad : tie.Need-slice-read-is-bad Inv-loop μ-loop
 slice-read-is-bad c =
@@ -71,9 +72,9 @@ loop-again c =
     let b = f .before .before in
     let a = b .before .before .before in
     let st = a .before .before .before .before in
-    let g = judged-on (received (st .args .octets .now) (st .args .places .now)) (st .args .codebook .now) (st .args .thresholds .now) (pairCount (st .args .places .now)) (a .loop .notes) (a .loop .before) (a .loop .q) (a .loop .inv)
+    let g = judged-on (received (st .args .octets .now) (st .args .places .now)) (tablesOf (st .args .codebook .now) (st .args .thresholds .now)) (pairCount (st .args .places .now)) (a .loop .notes) (a .loop .before) (a .loop .q) (a .loop .inv)
     (omega (arith, a .loop .inv .size)) (b .is-bad .result) (o .is-inconsistent-if .result) (f .next-failed .result) (n .note .result) (b .is-bad .ensures) (f .next-failed .ensures)
-    (o .is-inconsistent-if .ensures ∙ ap (λ (t : Bool). when t (pairInconsistent (received (st .args .octets .now) (st .args .places .now)) (st .args .codebook .now) (st .args .thresholds .now) (a .loop .q)) false) (u .undecided .ensures)) (n .note .ensures) in
+    (o .is-inconsistent-if .ensures ∙ ap (λ (t : Bool). when t (pairInconsistent (received (st .args .octets .now) (st .args .places .now)) (tablesOf (st .args .codebook .now) (st .args .thresholds .now)) (a .loop .q)) false) (u .undecided .ensures)) (n .note .ensures) in
     rw (c .is-bad2 .ensures) g
 
 same-length : tie.Need-same-length Inv-loop μ-loop
@@ -87,7 +88,7 @@ unfolding pairNotes
 returns c =
     let a = c .before in
     let st = a .before .before .before .before in
-    judging-done _ _ _ _ _ _ _ (a .loop .inv) (omega (arith, a .loop .inv .size, a .loop .inv .within))
+    judging-done _ _ _ _ _ _ (a .loop .inv) (omega (arith, a .loop .inv .size, a .loop .inv .within))
 
 pub judge-each-spec : {M : Type 1} → statement M
 judge-each-spec =

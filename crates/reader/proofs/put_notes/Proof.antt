@@ -11,10 +11,10 @@ use Rattle.reader.proofs.put_notes.Statement.{statement}
 use Rattle.reader.proofs.put_notes.Tie as tie
 
 abbrev Inv-loop : tie.InvT-loop
-Inv-loop notes from report₀ to j₀ report j = (j ≤ multiframePairs) × (length report ≡ length report₀) × (report ≡ over report₀ to j (part from j notes))
+Inv-loop notes report₀ to from j₀ report j = (j ≤ multiframePairs) × (length report ≡ length report₀) × (report ≡ over report₀ to j (part from j notes))
 
 abbrev μ-loop : tie.MeasureT-loop
-μ-loop notes from report₀ to j₀ report j = multiframePairs - j
+μ-loop notes report₀ to from j₀ report j = multiframePairs - j
 
 loop-holds : tie.Need-loop-holds Inv-loop μ-loop
 loop-holds c =
@@ -44,7 +44,7 @@ loop-again c =
     let st = a .before in
     let i = a .loop .inv in
     let p = st .pre in
-    (omega arith, rw length-set (i .1), note-on (st .args .notes .now) (st .args .report .now) (a .loop .report) (st .args .from) (st .args .to) (a .loop .j) _ (omega (arith, p .0)) (omega (arith, p .1)) refl (i .1) (i .2))
+    (omega arith, rw length-set (i .1), note-on (st .args .notes .now) (st .args .report .now) (a .loop .report) (st .args .first .0) (st .args .to) (a .loop .j) _ (omega (arith, p .0)) (omega (arith, p .1)) refl (i .1) (i .2))
 
 same-length : tie.Need-same-length Inv-loop μ-loop
 same-length c =
@@ -55,7 +55,7 @@ returns c =
     let a = c .before in
     let st = a .before in
     let e : a .loop .j ≡ multiframePairs = omega (arith, a .loop .inv .0) in
-    a .loop .inv .2 ∙ ap (λ (k : ℕ). over (st .args .report .now) (st .args .to) k (part (st .args .from) k (st .args .notes .now))) e
+    a .loop .inv .2 ∙ ap (λ (k : ℕ). over (st .args .report .now) (st .args .to) k (part (st .args .first .0) k (st .args .notes .now))) e
 
 pub put-notes-spec : {M : Type 1} → statement M
 put-notes-spec =

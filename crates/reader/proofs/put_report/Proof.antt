@@ -26,7 +26,7 @@ put-section-requires c κs =
     let a = c .before .before in
     let st = a .before .before .before .before in
     let p = st .pre .0 in
-    ((omega arith, p .0, p .1, omega (arith, p .2, a .loop .inv .1)), st .pre .1 (a .loop .k) (omega arith))
+    ((omega arith, (p .0, p .1, omega (arith, p .2, a .loop .inv .1))), st .pre .1 (a .loop .k) (omega arith))
 
 add-k : tie.Need-add-k Inv-loop μ-loop
 add-k c = search needs

@@ -16,17 +16,18 @@ note-at-requires c κs = search needs
 slice-write-report : tie.Need-slice-write-report
 slice-write-report c = search needs
 
-mul-put-notes : tie.Need-mul-put-notes
-mul-put-notes c = search needs
+first-pair-requires : tie.Need-first-pair-requires
+first-pair-requires c κs = search needs
 
 add-put-notes : tie.Need-add-put-notes
 add-put-notes c = search needs
 
 put-notes-requires : tie.Need-put-notes-requires
 put-notes-requires c κs =
-    let st = c .before .before .before .before .before in
+    let f = c .before in
+    let st = f .before .before .before .before .before .before in
     let p = st .pre .0 in
-    (omega (arith, p .0, p .2), rw length-set (omega (arith, p .0, p .3)))
+    (omega (arith, p .0, p .1 .1, f .first-pair .ensures), rw length-set (omega (arith, p .0, p .1 .2)))
 
 same-length : tie.Need-same-length
 same-length c =
@@ -36,10 +37,12 @@ same-length c =
 returns : tie.Need-returns
 returns c =
     let n = c .before .before in
-    let h = n .before .before in
-    let st = h .before .before .before .before in
+    let f = n .before .before in
+    let h = f .before in
+    let st = h .before .before .before .before .before in
     let p = st .pre .0 in
-    section-is (st .args .headers .now) (st .args .notes .now) (st .args .report .now) (n .put-notes .last .1 .1 .0) (st .args .common) (st .args .k) (h .note-at .result) (omega (arith, p .0, p .3)) (h .note-at .ensures) (n .put-notes .ensures)
+    section-is (st .args .headers .now) (st .args .notes .now) (st .args .report .now) (n .put-notes .last .1 .1 .0) (st .args .common) (st .args .k .0) (h .note-at .result) _
+    (omega (arith, p .0, p .1 .2)) (h .note-at .ensures) (f .first-pair .ensures) (n .put-notes .ensures)
 
 pub put-section-spec : {M : Type 1} → statement M
 put-section-spec =
@@ -48,7 +51,7 @@ put-section-spec =
     mul-at
     note-at-requires
     slice-write-report
-    mul-put-notes
+    first-pair-requires
     add-put-notes
     put-notes-requires
     same-length

@@ -11,6 +11,7 @@ use Rattle.reader.proofs.Steps.{cut-whole, cut-refused, front-places, i
 use borrow.Author.Needs.{needs}
 use Rattle.reader.proofs.read.Statement.{statement}
 use Rattle.reader.proofs.read.Tie as tie
+use Rattle.consistency.specs.Tables.{tablesOf}
 
 -- cutting met nothing that it refuses, and counted the places
 counted : (c : tie.After-count)
@@ -31,15 +32,15 @@ returns : tie.Need-returns
 returns c =
     let st = c .before .before .before .before in
     let a = st .args in
-    in-numbers (a .octets .now) (a .codebook .now) (a .thresholds .now) (a .index .now) (a .report .now)
-    (wrong-codebook (a .octets .now) (a .codebook .now) (a .thresholds .now) (a .index .now) (a .report .now) (c .if1 .taken))
+    in-numbers (a .octets .now) (tablesOf (a .codebook .now) (a .thresholds .now)) (a .index .now) (a .report .now)
+    (wrong-codebook (a .octets .now) (tablesOf (a .codebook .now) (a .thresholds .now)) (a .index .now) (a .report .now) (c .if1 .taken))
 
 returns-2 : tie.Need-returns-2
 returns-2 c =
     let st = c .before .before .before .before .before in
     let a = st .args in
-    in-numbers (a .octets .now) (a .codebook .now) (a .thresholds .now) (a .index .now) (a .report .now)
-    (wrong-thresholds (a .octets .now) (a .codebook .now) (a .thresholds .now) (a .index .now) (a .report .now) (c .before .if1 .left) (c .if2 .taken))
+    in-numbers (a .octets .now) (tablesOf (a .codebook .now) (a .thresholds .now)) (a .index .now) (a .report .now)
+    (wrong-thresholds (a .octets .now) (tablesOf (a .codebook .now) (a .thresholds .now)) (a .index .now) (a .report .now) (c .before .if1 .left) (c .if2 .taken))
 
 slice-aggregate-cut-into : tie.Need-slice-aggregate-cut-into
 slice-aggregate-cut-into c = search needs
@@ -87,8 +88,8 @@ returns-3 c =
     let i = k .before .before .before .before .before in
     let st = i .before .before .before .before .before in
     let a = st .args in
-    in-numbers (a .octets .now) (a .codebook .now) (a .thresholds .now) (a .index .now) (a .report .now)
-    (whole-reading (a .octets .now) (a .codebook .now) (a .thresholds .now) (a .index .now) (a .report .now) (i .before .if1 .left) (i .if2 .left) _ _ (counted k .0) (lent k) (w .read-found .ensures))
+    in-numbers (a .octets .now) (tablesOf (a .codebook .now) (a .thresholds .now)) (a .index .now) (a .report .now)
+    (whole-reading (a .octets .now) (tablesOf (a .codebook .now) (a .thresholds .now)) (a .index .now) (a .report .now) (i .before .if1 .left) (i .if2 .left) _ _ (counted k .0) (lent k) (w .read-found .ensures))
 
 returns-4 : tie.Need-returns-4
 returns-4 c =
@@ -97,8 +98,8 @@ returns-4 c =
     let i = u .before .before in
     let st = i .before .before .before .before .before in
     let a = st .args in
-    in-numbers (a .octets .now) (a .codebook .now) (a .thresholds .now) (a .index .now) (a .report .now)
-    (not-cut (a .octets .now) (a .codebook .now) (a .thresholds .now) (a .index .now) (a .report .now) (i .before .if1 .left) (i .if2 .left) _
+    in-numbers (a .octets .now) (tablesOf (a .codebook .now) (a .thresholds .now)) (a .index .now) (a .report .now)
+    (not-cut (a .octets .now) (tablesOf (a .codebook .now) (a .thresholds .now)) (a .index .now) (a .report .now) (i .before .if1 .left) (i .if2 .left) _
     (cut-refused (cutting (a .octets .now)) _ (sym (u .cut-into .ensures .0) ∙ n .r .given .1)))
 
 pub read-spec : {M : Type 1} → statement M

@@ -13,6 +13,7 @@ use Rattle.reader.proofs.Steps.{has-front, ready, finished-refused, fin
 use borrow.Author.Needs.{needs}
 use Rattle.reader.proofs.read_found.Statement.{statement}
 use Rattle.reader.proofs.read_found.Tie as tie
+use Rattle.consistency.specs.Tables.{tablesOf}
 
 -- what `decide` leaves in its parts of both arrays has their sizes
 headers-size : (d : tie.After-decide) → length (d .decide .last .1 .1 .1 .1 .1 .1 .0) ≡ length (d .before .before .before .before .before .before .before .args .places .now)
@@ -87,10 +88,10 @@ write-requires c κs =
     let d = g .before .before .before .before in
     let st = d .before .before .before .before .before .before .before in
     let a = st .args in
-    let r = ready (a .octets .now) (a .codebook .now) (a .thresholds .now) (length (a .index .now)) (length (a .report .now)) (a .places .now) _ (sym (d .decide .ensures .0) ∙ g .common .given .1) in
+    let r = ready (a .octets .now) (tablesOf (a .codebook .now) (a .thresholds .now)) (length (a .index .now)) (length (a .report .now)) (a .places .now) _ (sym (d .decide .ensures .0) ∙ g .common .given .1) in
     let eh = take-at (d .decide .last .1 .1 .1 .1 .1 .1 .0) (drop (length (a .places .now)) (replicate 255 0)) _ (headers-size d) ∙ subst (Kept _ _) (g .common .given .1) (d .decide .ensures .1 .0) in
     let en = take-at (d .decide .last .1 .1 .1 .1 .1 .1 .1 .0) (drop (12 * length (a .places .now)) (replicate 3060 0)) _ (notes-size d) ∙ subst (Kept _ _) (g .common .given .1) (d .decide .ensures .1 .1) in
-    ((st .pre .0 .0, r .some, st .pre .0 .1), ((eh, ap length en ∙ length-notes (received (a .octets .now) (a .places .now)) (pairCount (a .places .now)) (a .codebook .now) (a .thresholds .now), subst Good (sym en) (r .good)), (r .index-room, r .report-room)))
+    ((st .pre .0 .0, r .some, st .pre .0 .1), ((eh, ap length en ∙ length-notes (received (a .octets .now) (a .places .now)) (pairCount (a .places .now)) (tablesOf (a .codebook .now) (a .thresholds .now)), subst Good (sym en) (r .good)), (r .index-room, r .report-room)))
 
 returns : tie.Need-returns
 returns c =
@@ -98,7 +99,7 @@ returns c =
     let d = g .before .before .before .before in
     let st = d .before .before .before .before .before .before .before in
     let a = st .args in
-    finished-refused (a .octets .now) (a .codebook .now) (a .thresholds .now) (a .index .now) (a .report .now) (a .places .now) _ _ (sym (d .decide .ensures .0) ∙ g .r .given .1)
+    finished-refused (a .octets .now) (tablesOf (a .codebook .now) (a .thresholds .now)) (a .index .now) (a .report .now) (a .places .now) _ _ (sym (d .decide .ensures .0) ∙ g .r .given .1)
 
 same-length : tie.Need-same-length
 same-length c = search needs
@@ -114,7 +115,7 @@ returns-2 c =
     let st = d .before .before .before .before .before .before .before in
     let a = st .args in
     let en = take-at (d .decide .last .1 .1 .1 .1 .1 .1 .1 .0) (drop (12 * length (a .places .now)) (replicate 3060 0)) _ (notes-size d) ∙ subst (Kept _ _) (g .common .given .1) (d .decide .ensures .1 .1) in
-    finished-read (a .octets .now) (a .codebook .now) (a .thresholds .now) (a .index .now) (a .report .now) (a .places .now) _ _ (w .write .result) (w .write .last .1 .1 .1 .1 .1 .0) (w .write .last .1 .1 .1 .1 .1 .1 .0) _
+    finished-read (a .octets .now) (tablesOf (a .codebook .now) (a .thresholds .now)) (a .index .now) (a .report .now) (a .places .now) _ _ (w .write .result) (w .write .last .1 .1 .1 .1 .1 .0) (w .write .last .1 .1 .1 .1 .1 .1 .0) _
     (sym (d .decide .ensures .0) ∙ g .common .given .1) en (w .write .ensures .0) (w .write .ensures .1 .0) (w .write .ensures .1 .1)
 
 pub read-found-spec : {M : Type 1} → statement M

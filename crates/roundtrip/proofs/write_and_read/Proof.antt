@@ -5,6 +5,7 @@ use Rattle.roundtrip.specs.Trip.{tripOf, ends-unwritten, ends-read, fits
 use borrow.Author.Needs.{needs}
 use Rattle.roundtrip.proofs.write_and_read.Statement.{statement}
 use Rattle.roundtrip.proofs.write_and_read.Tie as tie
+use Rattle.consistency.specs.Tables.{tablesOf}
 
 write-requires : tie.Need-write-requires
 write-requires c κs = search needs
@@ -15,12 +16,12 @@ enum-known-octets c = search needs
 slice-reshare-prefix-read : tie.Need-slice-reshare-prefix-read
 slice-reshare-prefix-read c =
     let a = c .before .before .before .before .before .before .before .before .before .before .before .args in
-    fits-output (a .settings) (a .indices .now) (a .codebook .now) (a .thresholds .now) (a .out .now) (a .index .now) (a .report .now) _ _ _ (c .before .before .before .before .before .write .ensures .0) (c .before .octets .given .1)
+    fits-output (a .settings) (a .indices .now) (tablesOf (a .codebook .now) (a .thresholds .now)) (a .out .now) (a .index .now) (a .report .now) _ _ _ (c .before .before .before .before .before .write .ensures .0) (c .before .octets .given .1)
 
 slice-aggregate-read : tie.Need-slice-aggregate-read
 slice-aggregate-read c =
     let a = c .before .before .before .before .before .before .before .before .before .before .before .before .args in
-    sym (length-take-le _ _ (fits-output (a .settings) (a .indices .now) (a .codebook .now) (a .thresholds .now) (a .out .now) (a .index .now) (a .report .now) _ _ _ (c .before .before .before .before .before .before .write .ensures .0) (c .before .before .octets .given .1)))
+    sym (length-take-le _ _ (fits-output (a .settings) (a .indices .now) (tablesOf (a .codebook .now) (a .thresholds .now)) (a .out .now) (a .index .now) (a .report .now) _ _ _ (c .before .before .before .before .before .before .write .ensures .0) (c .before .before .octets .given .1)))
 
 read-requires : tie.Need-read-requires
 read-requires c κs = search needs
@@ -46,8 +47,8 @@ same-length-3 c = search needs
 returns : tie.Need-returns
 returns c =
     let a = c .before .before .before .before .before .before .before .before .before .before .before .before .before .before .before .before .before .before .before .before .before .before .args in
-    let e = ends-read (a .settings) (a .indices .now) (a .codebook .now) (a .thresholds .now) (a .out .now) (a .index .now) (a .report .now) _ _ _ _ _ _ _ (c .before .before .before .before .before .before .before .before .before .before .before .before .before .before .before .before .write .ensures .0) (c .before .before .before .before .before .before .before .before .before .before .before .before .octets .given .1) (c .before .before .before .before .before .before .before .read .ensures .0) (ap tripOf (c .before .s .given .1)) in
-    meets (a .settings) (a .indices .now) (a .codebook .now) (a .thresholds .now) (a .out .now) (a .index .now) (a .report .now) (λ i. c .before .before .before .before .before .before .before .before .before .before .before .before .before .before .before .before .before .before .before .before .before .shared-slice-known .given i .fits) e
+    let e = ends-read (a .settings) (a .indices .now) (tablesOf (a .codebook .now) (a .thresholds .now)) (a .out .now) (a .index .now) (a .report .now) _ _ _ _ _ _ _ (c .before .before .before .before .before .before .before .before .before .before .before .before .before .before .before .before .write .ensures .0) (c .before .before .before .before .before .before .before .before .before .before .before .before .octets .given .1) (c .before .before .before .before .before .before .before .read .ensures .0) (ap tripOf (c .before .s .given .1)) in
+    meets (a .settings) (a .indices .now) (tablesOf (a .codebook .now) (a .thresholds .now)) (a .out .now) (a .index .now) (a .report .now) (λ i. c .before .before .before .before .before .before .before .before .before .before .before .before .before .before .before .before .before .before .before .before .before .shared-slice-known .given i .fits) e
 
 same-length-4 : tie.Need-same-length-4
 same-length-4 c = search needs
@@ -61,8 +62,8 @@ same-length-6 c = search needs
 returns-2 : tie.Need-returns-2
 returns-2 c =
     let a = c .before .before .before .before .before .before .before .before .before .before .before .before .before .before .before .before .before .before .before .before .before .before .args in
-    let e = ends-read (a .settings) (a .indices .now) (a .codebook .now) (a .thresholds .now) (a .out .now) (a .index .now) (a .report .now) _ _ _ _ _ _ _ (c .before .before .before .before .before .before .before .before .before .before .before .before .before .before .before .before .write .ensures .0) (c .before .before .before .before .before .before .before .before .before .before .before .before .octets .given .1) (c .before .before .before .before .before .before .before .read .ensures .0) (ap tripOf (c .before .r .given .1)) in
-    meets (a .settings) (a .indices .now) (a .codebook .now) (a .thresholds .now) (a .out .now) (a .index .now) (a .report .now) (λ i. c .before .before .before .before .before .before .before .before .before .before .before .before .before .before .before .before .before .before .before .before .before .shared-slice-known .given i .fits) e
+    let e = ends-read (a .settings) (a .indices .now) (tablesOf (a .codebook .now) (a .thresholds .now)) (a .out .now) (a .index .now) (a .report .now) _ _ _ _ _ _ _ (c .before .before .before .before .before .before .before .before .before .before .before .before .before .before .before .before .write .ensures .0) (c .before .before .before .before .before .before .before .before .before .before .before .before .octets .given .1) (c .before .before .before .before .before .before .before .read .ensures .0) (ap tripOf (c .before .r .given .1)) in
+    meets (a .settings) (a .indices .now) (tablesOf (a .codebook .now) (a .thresholds .now)) (a .out .now) (a .index .now) (a .report .now) (λ i. c .before .before .before .before .before .before .before .before .before .before .before .before .before .before .before .before .before .before .before .before .before .shared-slice-known .given i .fits) e
 
 same-length-7 : tie.Need-same-length-7
 same-length-7 c = search needs
@@ -70,8 +71,8 @@ same-length-7 c = search needs
 returns-3 : tie.Need-returns-3
 returns-3 c =
     let a = c .before .before .before .before .before .before .before .before .before .before .before .args in
-    let e = ends-unwritten (a .settings) (a .indices .now) (a .codebook .now) (a .thresholds .now) (a .out .now) (a .index .now) (a .report .now) _ _ _ (c .before .before .before .before .before .write .ensures .0) (c .before .r2 .given .1) in
-    meets (a .settings) (a .indices .now) (a .codebook .now) (a .thresholds .now) (a .out .now) (a .index .now) (a .report .now) (λ i. c .before .before .before .before .before .before .before .before .before .before .shared-slice-known .given i .fits) e
+    let e = ends-unwritten (a .settings) (a .indices .now) (tablesOf (a .codebook .now) (a .thresholds .now)) (a .out .now) (a .index .now) (a .report .now) _ _ _ (c .before .before .before .before .before .write .ensures .0) (c .before .r2 .given .1) in
+    meets (a .settings) (a .indices .now) (tablesOf (a .codebook .now) (a .thresholds .now)) (a .out .now) (a .index .now) (a .report .now) (λ i. c .before .before .before .before .before .before .before .before .before .before .shared-slice-known .given i .fits) e
 
 pub write-and-read-spec : {M : Type 1} → statement M
 write-and-read-spec =

@@ -19,7 +19,7 @@ fn round_trip(frame: &[u8; 7]) -> Result<u64, Error> {
     let heard = dsr::read_into(&image, &Tables::ZEROS, &mut index, &mut report)?;
     assert!(heard.frames().next() == Some(frame) && heard.pairs().all(|pair| !pair.note.is_bad()));
     assert!(dsr::hunt(&image, 0, 14)?.place == 0);
-    assert!(matches!(dsr::header_read(dsr::header_encode(8)), Header::Read { message: 8, flips: 0 }));
+    assert!(matches!(dsr::header_read(dsr::header_encode(8)), Header::Read { message: 8, flips: 0, .. }));
     let (frames, _) = dsr::unpack(&dsr::pack(&[9; 168])?);
     assert!(frames == [9; 168]);
     Ok(dsr::read_bits_into(&image, 0, 14, &Tables::ZEROS, &mut index, &mut report)?.outside)

@@ -1,0 +1,336 @@
+"""Tests of dsr.py: python3 test_dsr.py, with the library that dsr.py finds. Those that need numpy are skipped without it."""
+import array
+import concurrent.futures
+import os
+import pathlib
+import pickle
+import re
+import shutil
+import subprocess
+import sys
+import tempfile
+import unittest
+
+import dsr
+
+try:
+    import numpy
+except ImportError:
+    numpy = None
+
+HEADER_FILE = pathlib.Path(__file__).resolve().parent.parent / "c" / "dsr.h"
+ZERO = dsr.Tables.zero()
+# 01's example: one frame, 1 0 0 0 0 0 0, at 8 kHz.
+EXAMPLE = bytes.fromhex("87B208000EEE01") + bytes(10) + b"\x04" + bytes(126)
+
+
+def frames(count):
+    """So many frames, none of them zero."""
+    return bytes(i % 63 + 1 for i in range(dsr.FRAME_INDICES * count))
+
+
+def flipped(octets, *bits):
+    """The octets with these bits flipped."""
+    changed = bytearray(octets)
+    for bit in bits:
+        changed[bit // 8] ^= 1 << bit % 8
+    return bytes(changed)
+
+
+def delayed(octets, idle, tail=0):
+    """The octets behind so many idle bits, and so many octets more behind them: what a modem gives."""
+    return (int.from_bytes(octets, "little") << idle).to_bytes(len(octets) + (idle + 7) // 8 + tail, "little")
+
+
+class Case(unittest.TestCase):
+    def refused(self, status, place, function, *arguments):
+        with self.assertRaises(dsr.Refused) as caught:
+            function(*arguments)
+        self.assertEqual((caught.exception.status, caught.exception.place), (status, place))
+        return caught.exception
+
+
+class Writing(Case):
+    def test_reads_back(self):
+        for count in (0, 1, 23, 24, 25, 48, 6119):
+            for rate in dsr.Rate:
+                for front_end in dsr.FrontEnd:
+                    with self.subTest(count=count, rate=rate, front_end=front_end):
+                        self.reads_back(count, rate, front_end)
+
+    def reads_back(self, count, rate, front_end):
+        image = dsr.write(rate, front_end, frames(count))
+        multiframes = count // 24 + 1
+        self.assertEqual(len(image), 144 * multiframes)
+        reading = dsr.read(image, ZERO)
+        self.assertEqual((reading.rate, reading.front_end), (rate, front_end))
+        self.assertEqual((reading.multiframes, reading.speech, reading.bad, reading.end), (multiframes, count, 0, True))
+        self.assertEqual(reading.index, frames(count) + bytes(168 * multiframes - 7 * count))
+        self.assertEqual(reading.report, bytes(13 * multiframes))
+        self.assertEqual(b"".join(reading.frames()), frames(count))
+
+    def test_image_of_the_example(self):
+        self.assertEqual(dsr.write(0, 0, [1, 0, 0, 0, 0, 0, 0]), EXAMPLE)
+
+    def test_settings_are_not_cut(self):
+        for number in (2, 4, 256, 259, -1, -256, 2**32, 2**63, 2**64, 2**64 + 1, -2**64):
+            self.refused(1, 0, dsr.write, number, 0, frames(1))
+            self.refused(1, 0, dsr.write, 0, number, frames(1))
+        self.assertRaises(TypeError, dsr.write, 0.0, 0, frames(1))
+
+    def test_refusals(self):
+        self.refused(2, 8, dsr.write, 0, 0, frames(2)[:8])
+        self.refused(3, 6120, dsr.write, 0, 0, frames(6120))
+        self.refused(3, 100000, dsr.write, 0, 0, bytes(700000))
+        self.refused(4, 3, dsr.write, 0, 0, frames(2) + bytes([1, 64, 1, 1, 1, 1, 1]))
+        self.refused(5, 24, dsr.write, 0, 0, frames(23) + bytes(7) + frames(1))
+        self.refused(5, 1, dsr.write, 0, 0, bytes(7))
+
+
+class Reading(Case):
+    def setUp(self):
+        self.image = dsr.write(1, 0, frames(30))
+
+    def test_damage_is_named(self):
+        reading = dsr.read(flipped(self.image, 16, 40, 48 + 92 + 5), ZERO)  # two bits of the first header, one of the second pair
+        self.assertEqual((reading.rate, reading.speech, reading.bad), (dsr.Rate.KHZ_11, 30, 1))
+        self.assertEqual(reading.header_notes(), [dsr.HeaderNote(2, False, False), dsr.HeaderNote(0, False, False)])
+        self.assertEqual(reading.pair_notes(), [0, dsr.PairNote.CRC_FAILED] + 22 * [0])
+        said = frames(30)
+        self.assertEqual(reading.frames()[2:4], [said[7:14], said[28:35]])
+
+    def test_header_notes(self):
+        lost = flipped(self.image, 16, 17, 18)
+        note = dsr.read(lost + self.image, ZERO).header_notes()[0]
+        self.assertTrue(note.lost and note.flips is None)
+        notes = dsr.read(self.image + dsr.write(0, 0, frames(1)), ZERO).header_notes()
+        self.assertEqual(notes[2], dsr.HeaderNote(0, True, True))
+        self.assertFalse(notes[2].lost)
+        self.assertEqual(dsr.read(self.image * 2, ZERO).header_notes()[2], dsr.HeaderNote(0, True, False))
+        other = dsr.header_encode(3 | 3 << 3).to_bytes(4, "little")  # 16 kHz, and the right counter
+        self.assertEqual(dsr.read(self.image + EXAMPLE[:2] + other + EXAMPLE[6:], ZERO).header_notes()[2], dsr.HeaderNote(0, False, True))
+
+    def test_end_missing(self):
+        reading = dsr.read(self.image[:144], ZERO)
+        self.assertEqual((reading.speech, reading.end), (24, False))
+
+    def test_tables_are_lent(self):
+        strict = dsr.Tables([0] * 1280, [-1] * 14)
+        notes = dsr.read(flipped(self.image, 48 + 92 * 3), strict).pair_notes()
+        self.assertEqual(notes[2:5], [dsr.PairNote.BAD_OTHERWISE, dsr.PairNote.CRC_FAILED, dsr.PairNote.BAD_OTHERWISE])
+        patient = dsr.Tables([-i for i in range(1280)], [2000] * 14)
+        self.assertEqual(dsr.read(flipped(self.image, 48 + 92 * 3), patient).bad, 1)
+
+    def test_refusals(self):
+        image = self.image
+        self.refused(11, 0, dsr.read, image, dsr.Tables([0] * 1279, [0] * 14))
+        self.refused(11, 0, dsr.read, image, dsr.Tables([0] * 1280, []))
+        self.refused(11, 0, dsr.read, image, dsr.Tables([], [0] * 14))
+        self.refused(12, 0, dsr.read, b"\0" + image, ZERO)
+        self.refused(12, 290, dsr.read, image + b"\x78\x4d\0", ZERO)
+        self.refused(13, 144, dsr.read, image[:-1], ZERO)
+        self.refused(14, 0, dsr.read, b"", ZERO)
+        self.refused(14, 4, dsr.read, b"\x78\x4d" * 2, ZERO)
+        self.refused(15, 36720, dsr.read, image[:144] * 255 + b"\x87\xb2", ZERO)
+        self.refused(16, 0, dsr.read, flipped(EXAMPLE, 16), ZERO)
+        self.refused(17, 0, dsr.read, EXAMPLE[:2] + dsr.header_encode(2 | 1 << 3).to_bytes(4, "little") + EXAMPLE[6:], ZERO)
+        self.refused(20, 0, dsr.read, flipped(EXAMPLE, *(48 + 92 * p for p in range(12))), ZERO)
+
+    def test_refusal_says_itself(self):
+        refusal = self.refused(13, 144, dsr.read, self.image[:-1], ZERO)
+        self.assertIs(refusal.status, dsr.Status.READ_CUT)
+        self.assertEqual(refusal.text, "sync with too few octets, or a lone last 87 or 78")
+        self.assertEqual(str(refusal), "refused 13 144: sync with too few octets, or a lone last 87 or 78")
+        again = pickle.loads(pickle.dumps(refusal))
+        self.assertEqual((again.status, again.place, str(again)), (13, 144, str(refusal)))
+
+    def test_threads(self):
+        images = [dsr.write(0, 0, frames(count)) for count in range(200, 264)]
+        with concurrent.futures.ThreadPoolExecutor(4) as threads:
+            speech = [reading.speech for reading in threads.map(lambda image: dsr.read(image, ZERO), images)]
+        self.assertEqual(speech, list(range(200, 264)))
+
+
+class Hunting(Case):
+    def setUp(self):
+        self.image = dsr.write(0, 1, frames(24))
+        self.modem = delayed(self.image, 19, 1)  # 288 + 3 + 1 octets
+
+    def test_hunt(self):
+        self.assertEqual(dsr.hunt(self.modem, 14), dsr.Hunted(19, 20))
+        self.assertEqual(dsr.hunt(self.modem, 16, 20), dsr.Hunted(1171, 1152))
+        self.assertEqual(dsr.hunt(flipped(self.modem, 19, 20), 14, start=19), dsr.Hunted(19, 1))
+
+    def test_read_bits(self):
+        reading = dsr.read_bits(flipped(self.modem, 19), ZERO, 14)
+        self.assertEqual((reading.rate, reading.front_end, reading.multiframes), (dsr.Rate.KHZ_8, dsr.FrontEnd.NOISE_ROBUST, 2))
+        self.assertEqual((reading.speech, reading.bad, reading.end, reading.outside, reading.tested), (24, 0, True, 32, 21))
+        self.assertEqual((b"".join(reading.frames()), reading.report), (frames(24), bytes(26)))
+        self.assertEqual(dsr.read_bits(self.modem, ZERO, least=16, start=19).outside, 13)
+
+    def test_refusals(self):
+        self.refused(21, 11, dsr.hunt, self.modem, 11)
+        self.assertEqual(self.refused(22, 1172, dsr.hunt, self.modem, 14, 1172).tested, 13)
+        self.refused(22, 2**64 - 1, dsr.hunt, b"", 14, 2**64 - 1)
+        self.refused(11, 0, dsr.read_bits, self.modem, dsr.Tables([], []), 11)
+        self.refused(21, 17, dsr.read_bits, self.modem, ZERO, 17)
+        self.refused(22, 1172, dsr.read_bits, self.modem, ZERO, 14, 1172)
+        self.refused(15, 8 * 36720 + 3, dsr.read_bits, delayed(self.image[:144] * 256, 3), ZERO, 16)
+        self.refused(16, 0, dsr.read_bits, flipped(EXAMPLE, 16), ZERO, 16)
+
+    def test_numbers_are_not_cut(self):
+        for number in (-1, 2**64, 2**64 + 14):
+            self.assertRaises(OverflowError, dsr.hunt, self.modem, number)
+            self.assertRaises(OverflowError, dsr.hunt, self.modem, 14, number)
+            self.assertRaises(OverflowError, dsr.read_bits, self.modem, ZERO, number)
+            self.assertRaises(OverflowError, dsr.read_bits, self.modem, ZERO, 14, number)
+
+
+class Parts(Case):
+    def test_header(self):
+        for message, octets in ((8, "08000EEE"), (16, "10001D0D"), (24, "180013E3"), (1, "010001D1"), (0x8000, "008080E8")):
+            word = int.from_bytes(bytes.fromhex(octets), "little")
+            self.assertEqual(dsr.header_encode(message), word)
+            self.assertEqual(dsr.header_read(word), dsr.Header(message, 0))
+            self.assertEqual(dsr.header_read(word ^ 0x80000001), dsr.Header(message, 2))
+        lost = self.refused(97, None, dsr.header_read, 0x01010001)
+        self.assertEqual(str(lost), "refused 97: no codeword differs from the word in at most two bits")
+
+    def test_header_numbers_are_not_cut(self):
+        for number in (-1, 2**16):
+            self.assertRaises(OverflowError, dsr.header_encode, number)
+        for number in (-1, 2**32):
+            self.assertRaises(OverflowError, dsr.header_read, number)
+
+    def test_pack_and_unpack(self):
+        stream = dsr.pack(frames(24))
+        self.assertEqual(dsr.write(0, 0, frames(24))[6:144], stream)
+        self.assertEqual(dsr.unpack(stream), (frames(24), 12 * [dsr.PairNote.GOOD]))
+        self.assertEqual(dsr.unpack(flipped(stream, 92 * 11))[1], 11 * [0] + [dsr.PairNote.CRC_FAILED])
+
+    def test_refusals(self):
+        for length in (0, 167, 169):
+            self.refused(98, None, dsr.pack, bytes(length))
+        for length in (0, 137, 139):
+            self.refused(98, None, dsr.unpack, bytes(length))
+        self.refused(4, None, dsr.pack, bytes([64]) + bytes(167))
+
+
+class Inputs(Case):
+    def test_octets(self):
+        said = frames(3)
+        image = dsr.write(0, 0, said)
+        for kind in (bytes, bytearray, memoryview, list, tuple, lambda octets: array.array("B", octets)):
+            self.assertEqual(dsr.write(0, 0, kind(said)), image)
+            self.assertEqual(dsr.read(kind(image), ZERO).speech, 3)
+        self.assertEqual(dsr.write(0, 0, memoryview(bytes(2 * x for x in range(42)))[::2][7:14]), dsr.write(0, 0, bytes(range(28, 56, 4))))
+
+    def test_lent_octets_stay(self):
+        image = bytearray(flipped(dsr.write(0, 0, frames(3)), 48))
+        kept = bytes(image)
+        self.assertEqual(dsr.read(image, ZERO).bad, 1)
+        self.assertEqual(image, kept)
+        image.append(0)  # and are not held
+
+    def test_what_is_no_octets(self):
+        for data in (7, "abcdefg", None, array.array("i", [1] * 7), array.array("b", [1] * 7), 1.5):
+            self.assertRaises(TypeError, dsr.write, 0, 0, data)
+        self.assertRaises(ValueError, dsr.write, 0, 0, [256] * 7)
+        self.assertRaises(ValueError, dsr.write, 0, 0, [-1] * 7)
+
+    def test_tables(self):
+        image = dsr.write(0, 0, frames(30))
+        for code in "bhilq":
+            tables = dsr.Tables(array.array(code, [-1] * 1280), memoryview(array.array(code, [-1] * 14)))
+            self.assertEqual(dsr.read(image, tables).bad, 0)
+            self.assertEqual(list(tables.codebook), [-1] * 1280)
+        for wide in (2**31, -2**31 - 1):
+            self.assertRaises(OverflowError, dsr.Tables, [wide], [])
+            self.assertRaises(OverflowError, dsr.Tables, array.array("q", [wide]), [])
+        for data in (bytes(1280), "0", [0.5], array.array("d", [1]), 5, None):
+            self.assertRaises(TypeError, dsr.Tables, data, [])
+
+
+@unittest.skipUnless(numpy, "no numpy")
+class Numpy(Case):
+    def test_octets(self):
+        said = numpy.frombuffer(frames(24), dtype=numpy.uint8).reshape(-1, 7)
+        image = dsr.write(3, 1, said)
+        self.assertEqual(image, dsr.write(3, 1, frames(24)))
+        self.assertEqual(dsr.write(3, 1, numpy.asfortranarray(said)), image)
+        self.assertEqual(dsr.write(numpy.int64(3), numpy.uint8(1), said), image)
+        self.refused(1, 0, dsr.write, numpy.int64(-1), 0, said)
+        reading = dsr.read(numpy.frombuffer(image, dtype=numpy.uint8), ZERO)
+        self.assertTrue((reading.frames_numpy()[:reading.speech] == said).all())
+        self.assertEqual((reading.frames_numpy().shape, reading.report_numpy().shape), ((48, 7), (2, 13)))
+        for kind in (numpy.int8, numpy.uint16, numpy.int64, numpy.float32, bool):
+            self.assertRaises(TypeError, dsr.write, 0, 0, said.astype(kind))
+
+    def test_tables(self):
+        image = flipped(dsr.write(0, 0, frames(30)), 48 + 92 * 3)
+        for kind in (numpy.int16, numpy.int32, numpy.int64):
+            tables = dsr.Tables(numpy.zeros((640, 2), dtype=kind), numpy.full((7, 2), -1, dtype=kind))
+            self.assertEqual(list(tables.thresholds), [-1] * 14)
+            self.assertEqual(dsr.read(image, tables).report_numpy()[0, 3:5].tolist(), [2, 1])
+        self.assertRaises(TypeError, dsr.Tables, numpy.zeros(1280), numpy.zeros(14))
+        self.assertRaises(TypeError, dsr.Tables, numpy.zeros(1280, dtype=">i4"), numpy.zeros(14, dtype=int))
+
+
+class Module(unittest.TestCase):
+    def run_alone(self, program, folder=pathlib.Path(__file__).resolve().parent, **environment):
+        return subprocess.run([sys.executable, "-B", "-c", program], cwd=folder, env={**os.environ, **environment}, capture_output=True,
+                              text=True)
+
+    def test_library_that_is_named_is_taken(self):
+        done = self.run_alone("import dsr", DSR_LIBRARY="/no/such/libdsr.so")
+        self.assertNotEqual(done.returncode, 0)
+        self.assertIn("/no/such/libdsr.so", done.stderr)
+
+    def test_library_that_is_missing_is_said(self):
+        with tempfile.TemporaryDirectory() as folder:
+            shutil.copy(dsr.__file__, folder)
+            done = self.run_alone("import dsr", folder, DSR_LIBRARY="", LD_LIBRARY_PATH="")
+        if done.returncode != 0:  # else one is installed
+            self.assertIn("ImportError: run make lib", done.stderr)
+
+    def test_numpy_is_not_imported(self):
+        done = self.run_alone("import sys, dsr; dsr.read(dsr.write(0, 0, b''), dsr.Tables.zero()); print('numpy' in sys.modules)")
+        self.assertEqual(done.stdout, "False\n")
+
+    def test_every_name_is_there(self):
+        for name in dsr.__all__:
+            self.assertTrue(getattr(dsr, name).__doc__, name)
+
+
+@unittest.skipUnless(HEADER_FILE.exists(), "no c/dsr.h beside the module")
+class SameAsC(unittest.TestCase):
+    """What stands in c/dsr.h and here is the same."""
+
+    def setUp(self):
+        self.text = HEADER_FILE.read_text(encoding="utf-8")
+
+    def enumeration(self, name):
+        body = re.sub(r"/\*.*?\*/", "", self.text.split(f"enum {name} {{\n", 1)[1].split("};", 1)[0], flags=re.S)
+        return {constant: int(number) for constant, number in re.findall(r"(DSR_\w+) = (\d+)", body)}
+
+    def test_statuses(self):
+        self.assertEqual({"DSR_" + status.name: status.value for status in dsr.Status}, self.enumeration("dsr_status"))
+        words = dict(re.findall(r'case (DSR_\w+): return "(.*)";', self.text))
+        self.assertEqual({"DSR_" + status.name: status.text for status in dsr.Status}, words)
+
+    def test_other_numbers(self):
+        self.assertEqual({*dsr.Rate, 255}, {*self.enumeration("dsr_rate").values()})
+        self.assertEqual({*dsr.FrontEnd}, {*self.enumeration("dsr_front_end").values()})
+        notes = self.enumeration("dsr_note")
+        self.assertEqual([notes["DSR_PAIR_" + name] for name in ("GOOD", "CRC", "BAD")], list(dsr.PairNote))
+
+    def test_sizes_and_version(self):
+        sizes = {name: int(number) for name, number in re.findall(r"#define DSR_(\w+) (\d+)$", self.text, re.M)}
+        for name in set(sizes) & set(vars(dsr)):
+            self.assertEqual(getattr(dsr, name), sizes[name], name)
+        self.assertGreaterEqual(len(set(sizes) & set(vars(dsr))), 11)
+        self.assertIn(f'#define DSR_VERSION_TEXT "{dsr.__version__}"', self.text)
+
+
+if __name__ == "__main__":
+    unittest.main()
