@@ -251,7 +251,7 @@ sample-check: $(BUILD)/literal/sample-make $(BUILD)/literal/sample-list $(DSRLIS
 	$(RUN) $(DSRLIST) <crates/dsrlist/stdin | diff - crates/dsrlist/stdout
 
 listing: $(BUILD)/literal/sample-list $(DSRLIST)
-	.ci/listing crates/dsrlist/stdin $< $(RUN) $(DSRLIST)
+	.ci/listing crates/dsrlist/stdin "$(RUN) $<" $(RUN) $(DSRLIST)
 
 # The README's programs, taken out of it as printed, built and held to what the README says they print.
 README := $(BUILD)/readme/$(LIB)
