@@ -2,7 +2,7 @@
 use mathlib.Core.Path.{sym}
 use native.Mathlib.Omega.{arith}
 use lib.Seq.{length-take-le}
-use Rattle.listing.specs.Text.{put-within}
+use Rattle.text.specs.Text.{put-within}
 use borrow.Author.Needs.{needs}
 use Rattle.dsrlist.proofs.main.Statement.{statement}
 use Rattle.dsrlist.proofs.main.Tie as tie

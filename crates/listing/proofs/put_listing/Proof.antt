@@ -9,9 +9,9 @@ use Rattle.listing.proofs.put_listing.Statement.{statement}
 use Rattle.listing.proofs.put_listing.Tie as tie
 use Rattle.listing.proofs.put_listing.Reads as reads
 use Rattle.listing.proofs.put_listing.Lts as lts
-use Rattle.listing.proofs.put_lines.Reads as put-lines-reads
-use Rattle.listing.proofs.put_refusal.Reads as put-refusal-reads
-use Rattle.listing.proofs.put_total.Reads as put-total-reads
+use Rattle.lines.proofs.put_lines.Reads as put-lines-reads
+use Rattle.lines.proofs.put_refusal.Reads as put-refusal-reads
+use Rattle.lines.proofs.put_total.Reads as put-total-reads
 use Rattle.reader.proofs.read.Reads as read-reads
 
 -- src/lib.rt:175:32
