@@ -23,7 +23,8 @@
 extern "C" {
 #endif
 
-/* DSR_VERSION is this header's version as a number that grows, DSR_VERSION_TEXT the same to print. */
+/* DSR_VERSION is this header's version as a number that grows, DSR_VERSION_TEXT the same to print. An incompatible change raises the major
+ * number; while that is 0, the minor one. */
 #define DSR_VERSION_MAJOR 0
 #define DSR_VERSION_MINOR 2
 #define DSR_VERSION_PATCH 0

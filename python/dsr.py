@@ -10,7 +10,7 @@ Octets may be bytes, bytearray, memoryview, array.array('B'), a numpy array of u
 of Python's own library is needed; numpy is imported only by Reading.frames_numpy and Reading.report_numpy. A refusal is the exception
 Refused, with number, place and words of document 01 (the specification) or 02 (its changes). Calls in several threads do not meet.
 
-The library is the file that the environment variable DSR_LIBRARY names; else the installed libdsr.so.0; else the one that `make lib` made
+The library is the file that the environment variable DSR_LIBRARY names; else the installed libdsr.so.0.2; else the one that `make lib` made
 beside this file's folder. c/dsr.h says of every number and octet what it means.
 """
 import array
@@ -40,6 +40,8 @@ CODEBOOK_NUMBERS = 1280
 THRESHOLD_NUMBERS = 14
 
 _MOST_64 = 2**64 - 1
+# The Makefile's rule: the major number, and while it is 0 the minor one too.
+_SONAME = "libdsr.so.0.2"
 
 
 class Status(enum.IntEnum):
@@ -376,7 +378,7 @@ def _load():
         return ctypes.CDLL(named)
     made = pathlib.Path(__file__).resolve().parent.parent / "target" / "lib" / platform.machine() / "libdsr.so"
     reasons = []
-    for file in ("libdsr.so.0", str(made)):
+    for file in (_SONAME, str(made)):
         try:
             return ctypes.CDLL(file)
         except OSError as error:
