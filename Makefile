@@ -351,7 +351,7 @@ c-face: $(README_WITH)
 	for cc in gcc clang; do command -v $$cc >/dev/null || continue; \
 	    $$cc -x c++ -std=c++11 -Wold-style-cast -Werror -fsyntax-only c/dsr.h || exit 1; \
 	    $$cc -std=c99 -Wall -Werror -Wno-unused-result -c checks/c/dropped.c -o /dev/null || exit 1; \
-	    [ "$$($$cc -std=c99 -c checks/c/dropped.c -o /dev/null 2>&1 | grep -c 'warning:.*unused.result')" = 4 ] || exit 1; \
+	    [ "$$($$cc -std=c99 -c checks/c/dropped.c -o /dev/null 2>&1 | grep -c 'warning:.*unused.result')" = 11 ] || exit 1; \
 	    for std in 'c -std=c99' 'c++ -std=c++11' 'c++ -std=c++20'; do \
 	        $$cc -x $$std $(FACE_WARN) checks/c/face.c checks/c/not_null.c -x none $(README_WITH) $(FACE_WRAP) -o $(FACE) && \
 	        $(FACE) || exit 1; done; done
