@@ -63,8 +63,8 @@ extern "C" {
 #define DSR_LEAST_MATCH 12
 #define DSR_MOST_MATCH 16
 
-/* dsr_status is what every function but dsr_header_encode returns: 0 if it is done, or the number of the refusal; beside each refusal
- * stands its place. Numbers from 97 on are this library's own, not 01's or 02's, and have no place. */
+/* dsr_status is what every function that can refuse returns: 0 if it is done, or the number of the refusal; beside each refusal stands
+ * its place. Numbers from 97 on are this library's own, not 01's or 02's, and have no place. */
 enum dsr_status {
     /* DSR_DONE: success. */
     DSR_DONE = 0,
@@ -354,7 +354,8 @@ static inline size_t dsr_report_octets(size_t multiframes) {
     return multiframes > DSR_MOST_MULTIFRAMES ? 0 : DSR_MULTIFRAME_REPORT * multiframes;
 }
 
-/* dsr_status_text gives the words of 01 and 02 for when a status is given; a number that is no status has words too. */
+/* dsr_status_text gives the words of 01 and 02 for when a status is given; those of 0, of 97 to 99, of a hunt's 15 and of a number that is
+ * no status are the library's own. */
 static inline const char *dsr_status_text(uint32_t status) {
     switch (status) {
     case DSR_DONE: return "done";
@@ -368,7 +369,7 @@ static inline const char *dsr_status_text(uint32_t status) {
     case DSR_READ_UNKNOWN: return "octets at p begin nothing known";
     case DSR_READ_CUT: return "sync with too few octets, or a lone last 87 or 78";
     case DSR_READ_NO_MULTIFRAME: return "no multiframe";
-    case DSR_READ_TOO_MANY: return "a sync after 255 multiframes, even a cut one";
+    case DSR_READ_TOO_MANY: return "a sync after 255 multiframes, even a cut one; in a hunt a match";
     case DSR_READ_UNSETTLED: return "settings not settled";
     case DSR_READ_SETTINGS: return "settled rate is 2 or any EXP is 1";
     case DSR_READ_INDEX_SHORT: return "index buffer under 168m";

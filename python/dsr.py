@@ -45,7 +45,8 @@ _SONAME = "libdsr.so.0.2"
 
 
 class Status(enum.IntEnum):
-    """What the library answers: DONE, or the number of a refusal. `text` has the words of 01 and 02 for when it is given."""
+    """What the library answers: DONE, or the number of a refusal. `text` has the words of 01 and 02 for when it is given; those of 0, of
+    97 to 99 and of a hunt's 15 are the library's own."""
 
     def __new__(cls, number, text):
         status = int.__new__(cls, number)
@@ -64,7 +65,7 @@ class Status(enum.IntEnum):
     READ_UNKNOWN = 12, "octets at p begin nothing known"
     READ_CUT = 13, "sync with too few octets, or a lone last 87 or 78"
     READ_NO_MULTIFRAME = 14, "no multiframe"
-    READ_TOO_MANY = 15, "a sync after 255 multiframes, even a cut one"
+    READ_TOO_MANY = 15, "a sync after 255 multiframes, even a cut one; in a hunt a match"
     READ_UNSETTLED = 16, "settings not settled"
     READ_SETTINGS = 17, "settled rate is 2 or any EXP is 1"
     READ_INDEX_SHORT = 18, "index buffer under 168m"

@@ -41,7 +41,7 @@ macro_rules! refusals {
                 match *self { $(Error::$name { place } => place,)* }
             }
 
-            /// `words` are the document's words for when the refusal is given.
+            /// `words` are the document's words for when the refusal is given; those of a hunt's 15 are the library's own.
             pub const fn words(&self) -> &'static str {
                 match self { $(Error::$name { .. } => $words,)* }
             }
@@ -70,7 +70,7 @@ refusals! {
     ReadUnknown = 12, "octets at p begin nothing known", "p";
     ReadCut = 13, "sync with too few octets, or a lone last 87 or 78", "p";
     ReadNoMultiframe = 14, "no multiframe", "octet count";
-    ReadTooMany = 15, "a sync after 255 multiframes, even a cut one", "p";
+    ReadTooMany = 15, "a sync after 255 multiframes, even a cut one; in a hunt a match", "p, in a hunt the bit";
     ReadUnsettled = 16, "settings not settled", "0";
     ReadSettings = 17, "settled rate is 2 or any EXP is 1", "0";
     ReadIndexShort = 18, "index buffer under 168m", "octets needed";
