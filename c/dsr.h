@@ -7,7 +7,8 @@
  *   dsr_hunt_utterance    received bits with no octet boundary to frames
  *   dsr_hunt_multiframe   the first place of a multiframe in such bits
  *   dsr_status_text       what a status says
- *   dsr_octets_for_frames, dsr_multiframes_in, dsr_index_octets, dsr_report_octets   how much memory to lend
+ *   dsr_octets_for_frames, dsr_index_octets, dsr_report_octets   how many octets to lend
+ *   dsr_multiframes_for_frames, dsr_multiframes_in               how many multiframes to lend them for
  *
  * Each function takes any numbers, and slices of any length and content; a slice is a pointer and then a length. Lent memory that a
  * function writes overlaps no other lent memory. Nothing is allocated and nothing is kept between calls: threads may call at once. Every
@@ -75,7 +76,7 @@ enum dsr_status {
     DSR_WRITE_INDEX_COUNT = 2,
     /* DSR_WRITE_FRAME_COUNT: more than 6,119 frames. Place: frame count. */
     DSR_WRITE_FRAME_COUNT = 3,
-    /* DSR_WRITE_INDEX_VALUE: one of the first six indices of a frame above 63. Place: first such frame, from 1. */
+    /* DSR_WRITE_INDEX_VALUE: one of the first six indices of a frame above 63. Place: first such frame, from 1; in dsr_pack none. */
     DSR_WRITE_INDEX_VALUE = 4,
     /* DSR_WRITE_ZERO_FRAME: an all-zero frame that is the last, or whose number is a multiple of 24. Place: first such frame, from 1. */
     DSR_WRITE_ZERO_FRAME = 5,
@@ -143,7 +144,7 @@ enum dsr_answer {
     DSR_ANSWER_TYPE = 1,
     /* DSR_ANSWER_MULTIFRAMES: the number of multiframes, m. */
     DSR_ANSWER_MULTIFRAMES = 2,
-    /* DSR_ANSWER_SPEECH: 24(m-1) plus the place of the last nonzero frame of the last multiframe, after replacing. */
+    /* DSR_ANSWER_SPEECH: 24(m-1) plus the place (1 to 24, 0 if none) of the last nonzero frame of the last multiframe, after replacing. */
     DSR_ANSWER_SPEECH = 3,
     /* DSR_ANSWER_BAD: the number of bad pairs. */
     DSR_ANSWER_BAD = 4,
@@ -171,7 +172,7 @@ enum dsr_note {
     DSR_PAIR_GOOD = 0,
     /* DSR_PAIR_CRC: the pair's CRC failed. */
     DSR_PAIR_CRC = 1,
-    /* DSR_PAIR_BAD: the pair is bad otherwise (inconsistent, beside a bad one). */
+    /* DSR_PAIR_BAD: the pair is bad otherwise: inconsistent, and the next pair's CRC failed or the pair before is bad. */
     DSR_PAIR_BAD = 2
 };
 
@@ -306,7 +307,7 @@ struct dsr_reading {
     unsigned type;
     /* The number of multiframes, m: of the lent memory 168m index octets and 13m report octets are filled. */
     unsigned multiframes;
-    /* The number of frames up to the last one that is not padding. */
+    /* 24(m-1) plus the place (1 to 24, 0 if none) of the last nonzero frame of the last multiframe, after replacing. */
     unsigned speech;
     /* The number of bad pairs: those whose note is not 0. */
     unsigned bad;

@@ -139,7 +139,7 @@ class Reading:
     rate: Rate
     front_end: FrontEnd
     multiframes: int
-    speech: int  # frames up to the last one that is not padding
+    speech: int  # 24(m-1) plus the place (1 to 24, 0 if none) of the last nonzero frame of the last multiframe, after replacing
     bad: int  # bad pairs
     end: bool  # whether the last frame is zero, which marks the end of an utterance
     index: bytes = dataclasses.field(repr=False)  # all frames, seven octets each, 24 frames a multiframe

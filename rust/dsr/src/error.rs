@@ -46,7 +46,7 @@ macro_rules! refusals {
                 match self { $(Error::$name { .. } => $words,)* }
             }
 
-            /// `meaning` is the document's words for what the place is.
+            /// `meaning` says what the place is.
             pub const fn meaning(&self) -> &'static str {
                 match self { $(Error::$name { .. } => $meaning,)* }
             }
@@ -63,8 +63,8 @@ refusals! {
     WriteSettings = 1, "rate not 0, 1 or 3, or type above 1", "0";
     WriteIndexCount = 2, "index octets no multiple of 7", "their number";
     WriteFrameCount = 3, "more than 6,119 frames", "frame count";
-    WriteIndexValue = 4, "one of the first six indices of a frame above 63", "first such frame";
-    WriteZeroFrame = 5, "an all-zero frame that is the last, or whose number is a multiple of 24", "first such frame";
+    WriteIndexValue = 4, "one of the first six indices of a frame above 63", "first such frame, from 1";
+    WriteZeroFrame = 5, "an all-zero frame that is the last, or whose number is a multiple of 24", "first such frame, from 1";
     WriteOutputShort = 6, "output shorter than 144m", "octets needed";
     ReadTables = 11, "codebook not 1,280 or thresholds not 14", "0";
     ReadUnknown = 12, "octets at p begin nothing known", "p";
