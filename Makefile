@@ -228,6 +228,11 @@ independent-build:
 independent:
 	cd checks/independent && $(CARGO) test --quiet --offline --release --lib
 
+# Bugs planted in the literal version, one at a time: the comparisons have to notice each (checks/planted/list).
+.PHONY: planted
+planted: independent-build ## plants bugs in the literal version: the comparisons have to notice each
+	$(PYTHON) checks/planted/run
+
 # The Rust package over the library, and over the literal version.
 wrapper: $(ARCHIVE)
 	CARGO="$(CARGO)" .ci/wrapper

@@ -96,7 +96,9 @@ pub fn estrange(chance: &mut Chance, parts: &mut [Part], stay: &[usize]) {
 pub fn unsettle(chance: &mut Chance, parts: &mut [Part]) {
     estrange(chance, parts, &[]);
     if let [only] = parts {
-        only.header ^= 1 << chance.below(32);
+        only.header = encode(only.header as u16);
+        let flips = 1 + chance.below(2);
+        chance.places(flips, 32).into_iter().for_each(|place| only.header ^= 1 << place);
     }
 }
 

@@ -611,10 +611,14 @@ impl Check {
                 if has(0) {
                     spoil(&mut self.chance, &mut parts);
                 }
-                let octets = if met == 22 { self.chance.octets(143) } else { image(&parts) };
+                let zeros = vec![0; self.chance.below(3)];
+                let octets = [&zeros[..], &if met == 22 { self.chance.octets(143) } else { image(&parts) }].concat();
+                let from = self.chance.below(8 * zeros.len() + 1) as u64;
                 let least = if has(1) { self.chance.pick(&[0, 11, 17, 1 << 32 | 12, u64::MAX]) } else { 16 };
                 let lent = self.lend_faulty(m, [has(2), has(3), has(4)], turn % 2 == 1);
-                self.read("every set of refusals at once", &Search::new(&octets, 0, least), &lent);
+                let search = Search::new(&octets, from, least);
+                self.hunt("every set of refusals at once", &search);
+                self.read("every set of refusals at once", &search, &lent);
             }
         }
     }
@@ -643,12 +647,18 @@ impl Check {
                 self.both("first bits in the last of 255 multiframes", &Search::new(&octets, from as u64, least));
             }
         }
-        for _ in 0..100 {
-            let n = 8 * 30_000 + self.chance.below(50_000);
+    }
+
+    /// More than 65,536 places before a multiframe, and with none behind them.
+    fn far_hunts(&mut self) {
+        for round in 0..60 {
+            let n = 8 * 10_000 + self.chance.below(200_000);
             let mut bits = gap(&mut self.chance, n);
-            bits.extend(bits_of(&image(&self.parts(2))));
+            if round % 3 != 0 {
+                bits.extend(bits_of(&image(&self.parts(2))));
+            }
             let (octets, least) = (whole(&mut self.chance, &bits), self.least());
-            self.both("30,000 octets and more before a multiframe", &Search::new(&octets, 0, least));
+            self.both("more than 65,536 places before a multiframe, or none", &Search::new(&octets, 0, least));
         }
     }
 
@@ -699,18 +709,30 @@ impl Check {
         }
     }
 
+    /// All hunts come before the readings: a library that cuts a bit's number would hunt for long in a reading.
     fn wide(&mut self) {
+        let mut searches = vec![];
         for before in [(1 << 29) - 100, 1 << 29, 1 << 32, (1 << 32) + 144] {
-            for least in LEASTS {
-                let parts = self.parts(3);
-                let bits = spread(&mut self.chance, &parts, 16 - least as usize, 50);
+            for least in LEASTS.repeat(6) {
+                let mut parts = self.parts(4);
+                damage_anywhere(&mut self.chance, &mut parts);
+                let bits = spread(&mut self.chance, &parts, 17 - least as usize, 50);
                 let octets = whole(&mut self.chance, &bits);
                 let from = 8 * before + self.first_bit(&octets);
-                self.both("bits beyond 2^32 in number", &Search { before, octets, from, least });
+                searches.push(Search { before, octets, from, least });
             }
             let octets = image(&utterance(&mut self.chance, MOST + 1));
-            self.read_roomy("a 256th multiframe beyond 2^32 bits", &Search { before, octets, from: 8 * before, least: 16 });
+            searches.push(Search { before, octets, from: 8 * before, least: 16 });
         }
+        for search in &searches {
+            self.hunt("bits beyond 2^32 in number", search);
+        }
+        for search in &searches {
+            self.read_roomy("bits beyond 2^32 in number, also a 256th multiframe", search);
+        }
+    }
+
+    fn many_places(&mut self) {
         let octets = image(&self.parts(3));
         self.both("more than 2^24 places before a multiframe", &Search { before: (1 << 21) + 5, octets, from: 0, least: 16 });
     }
@@ -720,8 +742,10 @@ fn main() {
     let mut check = Check { driver: Driver::start(), chance: Chance::new(seed()), code: Code::new() };
     check.every_set();
     check.anywhere();
-    check.one_amiss();
     check.wide();
+    check.far_hunts();
+    check.many_places();
+    check.one_amiss();
     check.shifts();
     check.sync_flips();
     check.near_matches_before();

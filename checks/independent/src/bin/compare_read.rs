@@ -216,13 +216,15 @@ impl Check {
                 }
             }
         }
-        for good in [0, 1, 1500, 3058, 3059] {
+        let any: Vec<[usize; 2]> = (0..8).map(|_| [self.chance.below(3060), self.chance.below(3060)]).collect();
+        let ends = [[0, 0], [1, 1], [1500, 1500], [3058, 3058], [3059, 3059], [0, 3059], [1, 3058], [10, 3000]];
+        for good in ends.into_iter().chain(any) {
             let mut parts = utterance(&mut self.chance, 255);
-            for p in (0..3060).filter(|&p| p != good) {
+            for p in (0..3060).filter(|p| !good.contains(p)) {
                 parts[p / PAIRS].packets[p % PAIRS] ^= 1;
             }
             let tables = tables(&mut self.chance);
-            self.compare_roomy("255 multiframes with one good pair", &image(&parts), &tables);
+            self.compare_roomy("255 multiframes with one or two good pairs", &image(&parts), &tables);
         }
     }
 
@@ -397,16 +399,23 @@ impl Check {
             let tables = tables(&mut self.chance);
             self.compare_roomy("settings settled by two headers anywhere of 255", &image(&parts), &tables);
         }
+    }
+
+    /// One multiframe of 255 damaged or with another header, each by turns.
+    fn one_amiss(&mut self) {
+        let parts = utterance(&mut self.chance, 255);
+        let tables = tables(&mut self.chance);
+        let whole = image(&parts);
         for k in 0..255 {
-            let mut parts = utterance(&mut self.chance, 255);
+            let mut part = parts[k].clone();
             match k % 4 {
-                0 => parts[k].header ^= 1 << self.chance.below(32),
-                1 => parts[k].lose_header(&mut self.chance),
-                2 => parts[k].other_header(&mut self.chance),
-                _ => parts[k].packets[self.chance.below(PAIRS)] ^= 1 << self.chance.below(92),
+                0 => part.header ^= 1 << self.chance.below(32),
+                1 => part.lose_header(&mut self.chance),
+                2 => part.other_header(&mut self.chance),
+                _ => part.packets[self.chance.below(PAIRS)] ^= 1 << self.chance.below(92),
             }
-            let tables = tables(&mut self.chance);
-            self.compare_roomy("one thing amiss in each of 255 multiframes", &image(&parts), &tables);
+            let octets = [&whole[..MULTIFRAME * k], &part.octets(), &whole[MULTIFRAME * (k + 1)..]].concat();
+            self.compare_roomy("one thing amiss in each of 255 multiframes", &octets, &tables);
         }
     }
 
@@ -432,8 +441,9 @@ impl Check {
         for set in 0..5 * 3 * 16 {
             for turn in 0..6 {
                 let (cut, settings) = ([0, 12, 13, 14, 15][set % 5], set / 5 % 3);
-                let m = if cut == 15 || turn == 0 && set % 4 == 0 { 255 } else { 1 + self.chance.below(4) };
-                if m == 255 && turn > 1 {
+                let short = [1, 2, 3 + self.chance.below(3)][turn / 2];
+                let m = if cut == 15 || turn == 4 && set % 4 == 0 { 255 } else { short };
+                if cut == 15 && turn > 1 {
                     continue;
                 }
                 let has = |fault: usize| set / 15 >> fault & 1 == 1;
@@ -499,15 +509,20 @@ impl Check {
         self.driver.count("places and lengths beyond 32 bits", 1);
     }
 
-    fn wide(&mut self) {
+    fn wide_lengths(&mut self) {
         let right = [CODEBOOK as u64, THRESHOLDS as u64, 168 * 255, 13 * 255, 6];
         let parts = utterance(&mut self.chance, 2);
         for long in 0..5 {
+            // tables that are right where they are cut, and rooms that are then too short
             let mut lengths = right;
-            lengths[long] += 1 << 32;
+            lengths[long] = (1 << 32) + if long < 2 { right[long] } else { 0 };
             self.wide_call(0, lengths, &image(&parts));
         }
-        let most = utterance(&mut self.chance, 255);
+    }
+
+    fn wide_places(&mut self) {
+        let right = [CODEBOOK as u64, THRESHOLDS as u64, 168 * 255, 13 * 255, 6];
+        let (parts, most) = (utterance(&mut self.chance, 2), utterance(&mut self.chance, 255));
         for number in [0, 12, 13, 14, 15] {
             let parts = if number == 15 { &most[..] } else { &parts };
             let octets = self.cut_off(number, if number == 14 { &[] } else { parts });
@@ -543,6 +558,8 @@ fn main() {
     check.anywhere();
     check.far_settings();
     check.far_places();
+    check.wide_lengths();
+    check.one_amiss();
     check.clean();
     check.headers();
     check.lost_headers();
@@ -554,6 +571,6 @@ fn main() {
     check.rooms();
     check.table_lengths();
     check.mixed();
-    check.wide();
+    check.wide_places();
     check.driver.end(100_000);
 }

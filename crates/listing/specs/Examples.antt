@@ -1,0 +1,54 @@
+-- Literal examples: numbers, the lines of the shipped sample's listing, and a refusal's line.
+-- Assumes nothing.
+use mathlib.Core.Path.{_≡_, refl}
+use mathlib.Core.List.{[], _∷_}
+use Rattle.settings.specs.Settings.{settings}
+use Rattle.refusals.specs.declared.Reading.the-variants.{Empty, CutShort}
+use Rattle.listing.specs.Text.{numeral, decimal}
+use Rattle.listing.specs.Listing.{pairText, line, total, refusal}
+
+-- "0", "10" and "65536"
+pub nought : decimal 0 ≡ 48 ∷ []
+unfolding decimal numeral
+nought = refl
+
+pub ten : decimal 10 ≡ 49 ∷ 48 ∷ []
+unfolding decimal numeral
+ten = refl
+
+pub most : decimal 65536 ≡ 54 ∷ 53 ∷ 53 ∷ 51 ∷ 54 ∷ []
+unfolding decimal numeral
+most = refl
+
+-- the sample's second and third lines: "2 000000000000", "0 010000000000"
+pub second-line : line (2 ∷ 0 ∷ 0 ∷ 0 ∷ 0 ∷ 0 ∷ 0 ∷ 0 ∷ 0 ∷ 0 ∷ 0 ∷ 0 ∷ 0 ∷ [])
+    ≡ 50 ∷ 32 ∷ 48 ∷ 48 ∷ 48 ∷ 48 ∷ 48 ∷ 48 ∷ 48 ∷ 48 ∷ 48 ∷ 48 ∷ 48 ∷ 48 ∷ 10 ∷ []
+unfolding line pairText decimal numeral
+second-line = refl
+
+pub third-line : line (0 ∷ 0 ∷ 1 ∷ 0 ∷ 0 ∷ 0 ∷ 0 ∷ 0 ∷ 0 ∷ 0 ∷ 0 ∷ 0 ∷ 0 ∷ [])
+    ≡ 48 ∷ 32 ∷ 48 ∷ 49 ∷ 48 ∷ 48 ∷ 48 ∷ 48 ∷ 48 ∷ 48 ∷ 48 ∷ 48 ∷ 48 ∷ 48 ∷ 10 ∷ []
+unfolding line pairText decimal numeral
+third-line = refl
+
+-- a header note of two digits: "14 200000000001"
+pub wide-note : line (14 ∷ 2 ∷ 0 ∷ 0 ∷ 0 ∷ 0 ∷ 0 ∷ 0 ∷ 0 ∷ 0 ∷ 0 ∷ 0 ∷ 1 ∷ [])
+    ≡ 49 ∷ 52 ∷ 32 ∷ 50 ∷ 48 ∷ 48 ∷ 48 ∷ 48 ∷ 48 ∷ 48 ∷ 48 ∷ 48 ∷ 48 ∷ 48 ∷ 49 ∷ 10 ∷ []
+unfolding line pairText decimal numeral
+wide-note = refl
+
+-- the sample's total: "rate 0 type 0 multiframes 3 speech 60 bad 1 end 1"
+pub sample-total : total record { settings = settings 0 0; multiframes = 3; speech = 60; bad = 1; end = 1 }
+    ≡ 114 ∷ 97 ∷ 116 ∷ 101 ∷ 32 ∷ 48 ∷ 32 ∷ 116 ∷ 121 ∷ 112 ∷ 101 ∷ 32 ∷ 48 ∷ 32 ∷ 109 ∷ 117 ∷ 108 ∷ 116 ∷ 105 ∷ 102 ∷ 114 ∷ 97 ∷ 109 ∷ 101 ∷ 115
+    ∷ 32 ∷ 51 ∷ 32 ∷ 115 ∷ 112 ∷ 101 ∷ 101 ∷ 99 ∷ 104 ∷ 32 ∷ 54 ∷ 48 ∷ 32 ∷ 98 ∷ 97 ∷ 100 ∷ 32 ∷ 49 ∷ 32 ∷ 101 ∷ 110 ∷ 100 ∷ 32 ∷ 49 ∷ 10 ∷ []
+unfolding total decimal numeral
+sample-total = refl
+
+-- 01's empty input, "refused 14 0", and the sample cut to 143 octets, "refused 13 0", and behind its second multiframe, "refused 13 290"
+pub empty-refused : refusal (Empty 0) ≡ 114 ∷ 101 ∷ 102 ∷ 117 ∷ 115 ∷ 101 ∷ 100 ∷ 32 ∷ 49 ∷ 52 ∷ 32 ∷ 48 ∷ 10 ∷ []
+unfolding refusal decimal numeral
+empty-refused = refl
+
+pub cut-refused : refusal (CutShort 290) ≡ 114 ∷ 101 ∷ 102 ∷ 117 ∷ 115 ∷ 101 ∷ 100 ∷ 32 ∷ 49 ∷ 51 ∷ 32 ∷ 50 ∷ 57 ∷ 48 ∷ 10 ∷ []
+unfolding refusal decimal numeral
+cut-refused = refl
