@@ -9,7 +9,7 @@ SONAME := libdsr.so.$(firstword $(subst ., ,$(VERSION)))
 MACHINE := $(shell uname -m)
 ARCH := $(MACHINE)
 LIB := library
-PARTS := header stream write read hunt
+ENTRIES := header stream write read hunt
 
 ifeq ($(filter $(ARCH),x86_64 aarch64),)
 $(error ARCH is x86_64 or aarch64, not $(ARCH))
@@ -77,8 +77,8 @@ outside: ## the gate without rt ci: every check outside of Rattle
 	@.ci/gate outside
 
 # All rows are printed before a target that was missed fails the whole.
-bench: $(foreach p,$(PARTS),$(BUILD)/$(LIB)/bench-$(p)) ## the library's times against the literal C version
-	@missed=0; for p in $(PARTS); do \
+bench: $(foreach p,$(ENTRIES),$(BUILD)/$(LIB)/bench-$(p)) ## the library's times against the literal C version
+	@missed=0; for p in $(ENTRIES); do \
 	    $(RUN) $(BUILD)/$(LIB)/bench-$$p $(if $(filter literal,$(LIB)),"the literal version against itself",$(NOT_JUDGED)) || missed=1; \
 	done; exit $$missed
 
@@ -210,7 +210,7 @@ $(BUILD)/libliteral.so: $(BUILD)/libliteral.a
     fuzz drawing drawing-check twin writer writer-size writer-alone stack
 
 # What more than one check calls.
-programs: $(foreach l,library literal,$(foreach p,$(PARTS),$(BUILD)/$(l)/drive-$(p))) $(BUILD)/literal/sample-list $(BUILD)/libliteral.a \
+programs: $(foreach l,library literal,$(foreach p,$(ENTRIES),$(BUILD)/$(l)/drive-$(p))) $(BUILD)/literal/sample-list $(BUILD)/libliteral.a \
     $(BUILD)/libliteral.so
 
 # The independent implementation against the library (or, with LIB=literal, the literal version).
@@ -251,7 +251,7 @@ sample-check: $(BUILD)/literal/sample-make $(BUILD)/literal/sample-list $(DSRLIS
 	$(RUN) $(DSRLIST) <crates/dsrlist/stdin | diff - crates/dsrlist/stdout
 
 listing: $(BUILD)/literal/sample-list $(DSRLIST)
-	.ci/listing crates/dsrlist/stdin $< $(RUN) $(DSRLIST)
+	.ci/listing crates/dsrlist/stdin "$(RUN) $<" $(RUN) $(DSRLIST)
 
 # The README's programs, taken out of it as printed, built and held to what the README says they print.
 README := $(BUILD)/readme/$(LIB)
