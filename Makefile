@@ -10,7 +10,7 @@ SONAME := libdsr.so.$(shell echo $(VERSION) | sed 's/^\(0\.[0-9]*\)\..*/\1/; s/^
 MACHINE := $(shell uname -m)
 ARCH := $(MACHINE)
 LIB := library
-PARTS := header stream write read hunt
+ENTRIES := header stream write read hunt
 
 ifeq ($(filter $(ARCH),x86_64 aarch64),)
 $(error ARCH is x86_64 or aarch64, not $(ARCH))
@@ -78,8 +78,8 @@ outside: ## the gate without rt ci: every check outside of Rattle
 	@.ci/gate outside
 
 # All rows are printed before a target that was missed fails the whole.
-bench: $(foreach p,$(PARTS),$(BUILD)/$(LIB)/bench-$(p)) ## the library's times against the literal C version
-	@missed=0; for p in $(PARTS); do \
+bench: $(foreach p,$(ENTRIES),$(BUILD)/$(LIB)/bench-$(p)) ## the library's times against the literal C version
+	@missed=0; for p in $(ENTRIES); do \
 	    $(RUN) $(BUILD)/$(LIB)/bench-$$p $(if $(filter literal,$(LIB)),"the literal version against itself",$(NOT_JUDGED)) || missed=1; \
 	done; exit $$missed
 
@@ -211,7 +211,7 @@ $(BUILD)/libliteral.so: $(BUILD)/libliteral.a
     fuzz drawing drawing-check twin writer writer-size writer-alone stack
 
 # What more than one check calls.
-programs: $(foreach l,library literal,$(foreach p,$(PARTS),$(BUILD)/$(l)/drive-$(p))) $(BUILD)/literal/sample-list $(BUILD)/libliteral.a \
+programs: $(foreach l,library literal,$(foreach p,$(ENTRIES),$(BUILD)/$(l)/drive-$(p))) $(BUILD)/literal/sample-list $(BUILD)/libliteral.a \
     $(BUILD)/libliteral.so
 
 # The independent implementation against the library (or, with LIB=literal, the literal version).

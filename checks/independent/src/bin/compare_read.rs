@@ -258,6 +258,9 @@ impl Check {
             let tables = tables(&mut self.chance);
             self.compare_roomy("octets put in, changed and cut", &octets, &tables);
         }
+    }
+
+    fn few_octets(&mut self) {
         for first in 0..=255u8 {
             let tables = tables(&mut self.chance);
             self.compare_roomy("every single octet", &[first], &tables);
@@ -567,6 +570,7 @@ fn main() {
     check.two_flips();
     check.runs();
     check.cuts();
+    check.few_octets();
     check.most();
     check.rooms();
     check.table_lengths();
