@@ -354,7 +354,7 @@ c-face: $(README_WITH)
 	    [ "$$($$cc -std=c99 -c checks/c/dropped.c -o /dev/null 2>&1 | grep -c 'warning:.*unused.result')" = 11 ] || exit 1; \
 	    for std in 'c -std=c99' 'c++ -std=c++11' 'c++ -std=c++20'; do \
 	        $$cc -x $$std $(FACE_WARN) checks/c/face.c checks/c/not_null.c -x none $(README_WITH) $(FACE_WRAP) -o $(FACE) && \
-	        $(FACE) || exit 1; done; done
+	        $(FACE) && $$cc -x $$std $(FACE_WARN) checks/c/pass.c -o $(FACE)-pass && $(FACE)-pass || exit 1; done; done
 
 # --- the Python module
 

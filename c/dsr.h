@@ -113,7 +113,7 @@ enum dsr_status {
     /* DSR_HEADER_UNREADABLE (dsr_header_read): no codeword differs from the word in at most two bits. */
     DSR_HEADER_UNREADABLE = 97,
     /* DSR_WRONG_LENGTH (dsr_pack, dsr_unpack): a slice has another length than the multiframe's. (The functions that give a struct): a
-     * null pointer has a length other than 0. */
+     * null pointer has a length other than 0, or a length is above SIZE_MAX / 2. */
     DSR_WRONG_LENGTH = 98,
     /* DSR_READ_ANSWER_SHORT: answer shorter than DSR_ANSWER_NUMBERS, in dsr_read_bits than DSR_BITS_ANSWER_NUMBERS. All lent memory
      * stays. */
@@ -271,7 +271,8 @@ DSR_MUST_USE uint32_t dsr_read_bits(const uint8_t *octets, size_t octets_len, ui
 /* --- the functions for daily use
  *
  * They are not proved, but tested. They add to the proved functions only this: the answer is a struct that is filled on a refusal too; a
- * null pointer is allowed where its length is 0, and with another length it is refused with DSR_WRONG_LENGTH before all else; null tables
+ * null pointer is allowed where its length is 0, and with another length it is refused with DSR_WRONG_LENGTH before all else, as is a length
+ * above SIZE_MAX / 2, such as the -1 of a failed read; null tables
  * are refused with DSR_READ_TABLES, when its turn comes. The pointer to the struct is never null. A name that ends in _ is the header's
  * own. */
 
@@ -379,14 +380,15 @@ static inline const char *dsr_status_text(uint32_t status) {
     case DSR_HUNT_MATCH: return "T outside 12 to 16";
     case DSR_HUNT_NOWHERE: return "no place found by the first hunt";
     case DSR_HEADER_UNREADABLE: return "no codeword differs from the word in at most two bits";
-    case DSR_WRONG_LENGTH: return "a length is not the multiframe's, or not 0 for a null pointer";
+    case DSR_WRONG_LENGTH: return "a length is not the multiframe's, or none that lent memory has";
     case DSR_READ_ANSWER_SHORT: return "answer too short";
     default: return "no status of this library";
     }
 }
 
-/* dsr_lent_ says whether a pointer can be lent with that length. */
-static inline int dsr_lent_(const void *memory, size_t len) { return memory || len == 0; }
+/* dsr_lent_ says whether a pointer can be lent with that length. No memory is longer than half of all there could be: a length of -1, from a
+ * failed read say, is none. */
+static inline int dsr_lent_(const void *memory, size_t len) { return (memory || len == 0) && len <= SIZE_MAX / 2; }
 
 /* dsr_write_utterance writes frames as dsr_write does. Rate and type are numbers of enum dsr_rate and enum dsr_front_end; every other is
  * refused, whatever its width. */

@@ -74,7 +74,7 @@ class Status(enum.IntEnum):
     HUNT_MATCH = 21, "T outside 12 to 16"
     HUNT_NOWHERE = 22, "no place found by the first hunt"
     HEADER_UNREADABLE = 97, "no codeword differs from the word in at most two bits"
-    WRONG_LENGTH = 98, "a length is not the multiframe's, or not 0 for a null pointer"
+    WRONG_LENGTH = 98, "a length is not the multiframe's, or none that lent memory has"
     READ_ANSWER_SHORT = 99, "answer too short"
 
 
@@ -208,7 +208,9 @@ class Tables:
 def write(rate, front_end, indices):
     """Writes an utterance, seven index octets a frame (also as rows of a numpy array), and gives its image.
 
-    Refused: 1 to 5."""
+    Refused: 1 to 5. A Rate and a FrontEnd in each other's place are a TypeError."""
+    if isinstance(rate, FrontEnd) or isinstance(front_end, Rate):
+        raise TypeError("the rate comes first, then the front end")
     said = _octets(indices)
     frames = min(len(said) // FRAME_INDICES, MOST_FRAMES)
     out = ctypes.create_string_buffer(MULTIFRAME_OCTETS * (frames // MULTIFRAME_FRAMES + 1))
@@ -227,7 +229,7 @@ def read(octets, tables):
     return Reading(*lent.reading())
 
 
-def read_bits(octets, tables, least, start=0):
+def read_bits(octets, tables, *, least, start=0):
     """Reads bits with no octet boundary: hunts from bit `start` on, with at least `least` (12 to 16) of a sync's bits matching.
 
     Bit t is in octet t // 8, with value 2 ** (t % 8). Gives a BitsReading. Refused: 11, 15 (its place is here a bit) to 17 and 20 to 22."""
@@ -238,7 +240,7 @@ def read_bits(octets, tables, least, start=0):
     return BitsReading(*lent.reading(), *lent.answer[6:])
 
 
-def hunt(octets, least, start=0):
+def hunt(octets, *, least, start=0):
     """Finds the first multiframe from bit `start` on, and gives a Hunted. Refused: 21 and 22."""
     received = _octets(octets)
     found, tested, place = ctypes.c_uint64(), ctypes.c_uint64(), ctypes.c_uint64()
