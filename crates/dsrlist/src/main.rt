@@ -2,8 +2,9 @@
 // number and place. The listing is made whole by `listing::put_listing`, which is proved; this only reads and writes octets.
 use libc::STDIN_FILENO;
 use libc::STDOUT_FILENO;
+ghost use mathlib.Core.Path.{_≡_};
 ghost use Prim.Native.Nat.{_-_, _≤_};
-ghost use lib.ListN.{length};
+ghost use lib.ListN.{length, take};
 ghost use Rattle.dsrlist.specs.Input.{Within};
 
 // The most octets that are listed; one more tells that there are more.
@@ -15,10 +16,11 @@ enum Input {
     Failed,
 }
 
-// One read into buffer from place at on.
+// One read into buffer from place at on. What came before stays.
 fn read_on(buffer: &mut [u8], at: usize) -> Input
     requires { ⌜ at ≤ length (now buffer) ⌝ }
     ensures { λ r. ⌜ Within (length (now (buffer .entry)) - at) r ⌝ }
+    ensures { λ _. ⌜ take at (now (buffer .exit)) ≡ take at (now (buffer .entry)) ⌝ }
 {
     let rest: &mut [u8] = &mut buffer[at..];
     let got = libc::read(STDIN_FILENO, rest);

@@ -31,7 +31,7 @@ pub sample-total : total record { settings = settings 0 0; multiframes = 3; spee
 unfolding total decimal numeral
 sample-total = refl
 
--- 01's empty input, "refused 14 0", and the sample cut to 143 octets, "refused 13 0", and behind its second multiframe, "refused 13 290"
+-- 01's empty input, "refused 14 0", and the sample cut inside its third multiframe, which begins at octet 290: "refused 13 290"
 pub empty-refused : refusal (Empty 0) ≡ 114 ∷ 101 ∷ 102 ∷ 117 ∷ 115 ∷ 101 ∷ 100 ∷ 32 ∷ 49 ∷ 52 ∷ 32 ∷ 48 ∷ 10 ∷ []
 unfolding refusal decimal numeral
 empty-refused = refl

@@ -44,7 +44,7 @@ returns c = search needs
 -- src/main.rt:43:9
 add-at : tie.Need-add-at Inv-loop μ-loop
 add-at c =
-    let w = within-came (c .before .before .before .before .before .before .read-on .ensures) (c .before .before .more .given .1) in
+    let w = within-came (c .before .before .before .before .before .before .read-on .ensures .0) (c .before .before .more .given .1) in
     search (needs, w)
 
 -- src/main.rt:36:5
@@ -54,7 +54,7 @@ loop-less c = search needs
 -- src/main.rt:36:5
 loop-again : tie.Need-loop-again Inv-loop μ-loop
 loop-again c =
-    let w = within-came (c .before .before .before .before .before .before .read-on .ensures) (c .before .before .more .given .1) in
+    let w = within-came (c .before .before .before .before .before .before .read-on .ensures .0) (c .before .before .more .given .1) in
     (search (needs, w), omega (arith, w, c .before .before .before .before .before .before .read-on .kept .0))
 
 -- src/main.rt:32:1
