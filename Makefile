@@ -5,7 +5,8 @@
 #
 # LIB is what the checks try: library (the proved one), or literal (the literal C version under the library's names).
 VERSION := $(shell sed -n 's/^.define DSR_VERSION_[MP][A-Z]* \([0-9]*\)$$/\1/p' c/dsr.h | paste -sd.)
-SONAME := libdsr.so.$(firstword $(subst ., ,$(VERSION)))
+# An incompatible change raises the major number; while that is 0, the minor one.
+SONAME := libdsr.so.$(shell echo $(VERSION) | sed 's/^\(0\.[0-9]*\)\..*/\1/; s/^\([1-9][0-9]*\)\..*/\1/')
 MACHINE := $(shell uname -m)
 ARCH := $(MACHINE)
 LIB := library
@@ -290,6 +291,7 @@ versions:
 	grep -qx 'version = "$(VERSION)"' rust/dsr/Cargo.toml
 	grep -qx '__version__ = "$(VERSION)"' python/dsr.py
 	grep -qx '.define DSR_VERSION_TEXT "$(VERSION)"' c/dsr.h
+	grep -qx '_SONAME = "$(SONAME)"' python/dsr.py
 
 man-pages:
 	mandoc -Tlint -W warning man/dsrlist.1 man/dsr.3
@@ -349,10 +351,10 @@ c-face: $(README_WITH)
 	for cc in gcc clang; do command -v $$cc >/dev/null || continue; \
 	    $$cc -x c++ -std=c++11 -Wold-style-cast -Werror -fsyntax-only c/dsr.h || exit 1; \
 	    $$cc -std=c99 -Wall -Werror -Wno-unused-result -c checks/c/dropped.c -o /dev/null || exit 1; \
-	    [ "$$($$cc -std=c99 -c checks/c/dropped.c -o /dev/null 2>&1 | grep -c 'warning:.*unused.result')" = 4 ] || exit 1; \
+	    [ "$$($$cc -std=c99 -c checks/c/dropped.c -o /dev/null 2>&1 | grep -c 'warning:.*unused.result')" = 11 ] || exit 1; \
 	    for std in 'c -std=c99' 'c++ -std=c++11' 'c++ -std=c++20'; do \
 	        $$cc -x $$std $(FACE_WARN) checks/c/face.c checks/c/not_null.c -x none $(README_WITH) $(FACE_WRAP) -o $(FACE) && \
-	        $(FACE) || exit 1; done; done
+	        $(FACE) && $$cc -x $$std $(FACE_WARN) checks/c/pass.c -o $(FACE)-pass && $(FACE)-pass || exit 1; done; done
 
 # --- the Python module
 

@@ -7,7 +7,8 @@
  *   dsr_hunt_utterance    received bits with no octet boundary to frames
  *   dsr_hunt_multiframe   the first place of a multiframe in such bits
  *   dsr_status_text       what a status says
- *   dsr_octets_for_frames, dsr_multiframes_in, dsr_index_octets, dsr_report_octets   how much memory to lend
+ *   dsr_octets_for_frames, dsr_index_octets, dsr_report_octets   how many octets to lend
+ *   dsr_multiframes_for_frames, dsr_multiframes_in               how many multiframes to lend them for
  *
  * Each function takes any numbers, and slices of any length and content; a slice is a pointer and then a length. Lent memory that a
  * function writes overlaps no other lent memory. Nothing is allocated and nothing is kept between calls: threads may call at once. Every
@@ -23,7 +24,8 @@
 extern "C" {
 #endif
 
-/* DSR_VERSION is this header's version as a number that grows, DSR_VERSION_TEXT the same to print. */
+/* DSR_VERSION is this header's version as a number that grows, DSR_VERSION_TEXT the same to print. An incompatible change raises the major
+ * number; while that is 0, the minor one. */
 #define DSR_VERSION_MAJOR 0
 #define DSR_VERSION_MINOR 2
 #define DSR_VERSION_PATCH 0
@@ -62,8 +64,8 @@ extern "C" {
 #define DSR_LEAST_MATCH 12
 #define DSR_MOST_MATCH 16
 
-/* dsr_status is what every function but dsr_header_encode returns: 0 if it is done, or the number of the refusal; beside each refusal
- * stands its place. Numbers from 97 on are this library's own, not 01's or 02's, and have no place. */
+/* dsr_status is what every function that can refuse returns: 0 if it is done, or the number of the refusal; beside each refusal stands
+ * its place. Numbers from 97 on are this library's own, not 01's or 02's, and have no place. */
 enum dsr_status {
     /* DSR_DONE: success. */
     DSR_DONE = 0,
@@ -74,7 +76,7 @@ enum dsr_status {
     DSR_WRITE_INDEX_COUNT = 2,
     /* DSR_WRITE_FRAME_COUNT: more than 6,119 frames. Place: frame count. */
     DSR_WRITE_FRAME_COUNT = 3,
-    /* DSR_WRITE_INDEX_VALUE: one of the first six indices of a frame above 63. Place: first such frame, from 1. */
+    /* DSR_WRITE_INDEX_VALUE: one of the first six indices of a frame above 63. Place: first such frame, from 1; in dsr_pack none. */
     DSR_WRITE_INDEX_VALUE = 4,
     /* DSR_WRITE_ZERO_FRAME: an all-zero frame that is the last, or whose number is a multiple of 24. Place: first such frame, from 1. */
     DSR_WRITE_ZERO_FRAME = 5,
@@ -111,7 +113,7 @@ enum dsr_status {
     /* DSR_HEADER_UNREADABLE (dsr_header_read): no codeword differs from the word in at most two bits. */
     DSR_HEADER_UNREADABLE = 97,
     /* DSR_WRONG_LENGTH (dsr_pack, dsr_unpack): a slice has another length than the multiframe's. (The functions that give a struct): a
-     * null pointer has a length other than 0. */
+     * null pointer has a length other than 0, or a length is above SIZE_MAX / 2. */
     DSR_WRONG_LENGTH = 98,
     /* DSR_READ_ANSWER_SHORT: answer shorter than DSR_ANSWER_NUMBERS, in dsr_read_bits than DSR_BITS_ANSWER_NUMBERS. All lent memory
      * stays. */
@@ -123,7 +125,8 @@ enum dsr_rate {
     DSR_RATE_8_KHZ = 0,
     DSR_RATE_11_KHZ = 1,
     DSR_RATE_16_KHZ = 3,
-    /* DSR_RATE_NONE: in the struct of a refused reading, so that a missed refusal does not pass for 8 kHz. It is never sent. */
+    /* DSR_RATE_NONE: in the struct of a refused reading, so that a missed refusal does not pass for 8 kHz; to be put into an answer before
+     * dsr_read for the same reason. It is never sent. */
     DSR_RATE_NONE = 255
 };
 
@@ -141,7 +144,7 @@ enum dsr_answer {
     DSR_ANSWER_TYPE = 1,
     /* DSR_ANSWER_MULTIFRAMES: the number of multiframes, m. */
     DSR_ANSWER_MULTIFRAMES = 2,
-    /* DSR_ANSWER_SPEECH: 24(m-1) plus the place of the last nonzero frame of the last multiframe, after replacing. */
+    /* DSR_ANSWER_SPEECH: 24(m-1) plus the place (1 to 24, 0 if none) of the last nonzero frame of the last multiframe, after replacing. */
     DSR_ANSWER_SPEECH = 3,
     /* DSR_ANSWER_BAD: the number of bad pairs. */
     DSR_ANSWER_BAD = 4,
@@ -169,7 +172,7 @@ enum dsr_note {
     DSR_PAIR_GOOD = 0,
     /* DSR_PAIR_CRC: the pair's CRC failed. */
     DSR_PAIR_CRC = 1,
-    /* DSR_PAIR_BAD: the pair is bad otherwise (inconsistent, beside a bad one). */
+    /* DSR_PAIR_BAD: the pair is bad otherwise: inconsistent, and the next pair's CRC failed or the pair before is bad. */
     DSR_PAIR_BAD = 2
 };
 
@@ -200,6 +203,13 @@ enum dsr_note {
  *
  * Here no pointer is null, even for a length of 0. */
 
+/* DSR_MUST_USE: gcc and clang warn if what the function returns is dropped. */
+#if defined(__GNUC__) || defined(__clang__)
+#define DSR_MUST_USE __attribute__((warn_unused_result))
+#else
+#define DSR_MUST_USE
+#endif
+
 /* dsr_header_encode gives the codeword of a message: the message in bits 0 to 15 and P1 to P16 in bits 16 to 31, first sent bit least
  * significant. */
 uint32_t dsr_header_encode(uint16_t message);
@@ -207,29 +217,33 @@ uint32_t dsr_header_encode(uint16_t message);
 /* dsr_header_read reads a received header: DSR_DONE if a codeword differs from word in at most two bits, and then *message is its message
  * and *flips that number of bits; DSR_HEADER_UNREADABLE if no codeword does (lost), and then both stay as they came. Three flips are never
  * mended. */
-uint32_t dsr_header_read(uint32_t word, uint16_t *message, uint32_t *flips);
+DSR_MUST_USE uint32_t dsr_header_read(uint32_t word, uint16_t *message, uint32_t *flips);
 
 /* dsr_pack packs the 24 frames of a multiframe (168 index octets) into its feature stream (138 octets), with the CRCs: DSR_DONE; or, and
- * nothing is touched, DSR_WRONG_LENGTH, or DSR_WRITE_INDEX_VALUE if one of the first six indices of a frame is above 63. */
-uint32_t dsr_pack(const uint8_t *indices, size_t indices_len, uint8_t *stream, size_t stream_len);
+ * nothing is touched, DSR_WRONG_LENGTH, or DSR_WRITE_INDEX_VALUE if one of the first six indices of a frame is above 63. Neither has a
+ * place here. */
+DSR_MUST_USE uint32_t dsr_pack(const uint8_t *indices, size_t indices_len, uint8_t *stream, size_t stream_len);
 
 /* dsr_unpack takes a feature stream (138 octets) apart into 168 index octets and twelve notes (0 right, 1 CRC failed): DSR_DONE; or
  * DSR_WRONG_LENGTH, and nothing is touched. */
-uint32_t dsr_unpack(const uint8_t *stream, size_t stream_len, uint8_t *indices, size_t indices_len, uint8_t *notes, size_t notes_len);
+DSR_MUST_USE uint32_t dsr_unpack(const uint8_t *stream, size_t stream_len, uint8_t *indices, size_t indices_len, uint8_t *notes,
+                                 size_t notes_len);
 
 /* dsr_write writes an utterance: DSR_DONE, and *place is the number of octets written (octets of out beyond them stay); or a refusal,
  * 1 to 6, the first that applies, and *place is its place and no octet of out is touched. Rate and type are numbers of 64 bits, so that
  * none is cut to a right one on its way: 256 and -1 are refused. */
-uint32_t dsr_write(uint64_t rate, uint64_t type, const uint8_t *indices, size_t indices_len, uint8_t *out, size_t out_len,
-                   uint64_t *place);
+DSR_MUST_USE uint32_t dsr_write(uint64_t rate, uint64_t type, const uint8_t *indices, size_t indices_len, uint8_t *out, size_t out_len,
+                                uint64_t *place);
 
 /* dsr_read reads received octets: DSR_DONE, and answer holds the six numbers of enum dsr_answer, index the first 168m octets and report
  * the first 13m (octets beyond them stay, numbers beyond the sixth too), and *place stays; or a refusal, 11 to 20, the first that applies,
  * and *place is its place and answer, index and report stay as they came. Lend an answer of DSR_ANSWER_NUMBERS numbers; fewer are refused
- * before all else with DSR_READ_ANSWER_SHORT, and then *place stays too. */
-uint32_t dsr_read(const uint8_t *octets, size_t octets_len, const int32_t *codebook, size_t codebook_len, const int32_t *thresholds,
-                  size_t thresholds_len, uint8_t *index, size_t index_len, uint8_t *report, size_t report_len, uint64_t *answer,
-                  size_t answer_len, uint64_t *place);
+ * before all else with DSR_READ_ANSWER_SHORT, and then *place stays too.
+ * An answer that is used again still holds the last success: look at the number returned. Put DSR_RATE_NONE into
+ * answer[DSR_ANSWER_RATE] before each call, and a refusal that was missed does not pass for a rate. */
+DSR_MUST_USE uint32_t dsr_read(const uint8_t *octets, size_t octets_len, const int32_t *codebook, size_t codebook_len,
+                               const int32_t *thresholds, size_t thresholds_len, uint8_t *index, size_t index_len, uint8_t *report,
+                               size_t report_len, uint64_t *answer, size_t answer_len, uint64_t *place);
 
 /* dsr_hunt looks for a multiframe at any bit. Bit t is in octet t / 8, with value 2^(t % 8). A place passes if 1,152 bits are left there,
  * at least `least` of its first 16 bits match the sync, and the header behind them is readable. Octets from the 2^61st on are not
@@ -239,31 +253,28 @@ uint32_t dsr_read(const uint8_t *octets, size_t octets_len, const int32_t *codeb
  *   DSR_HUNT_MATCH    *place is least and *tested 0; *found stays.
  *   DSR_HUNT_NOWHERE  *place is from, which may lie beyond the end, *tested how many places from `from` on have 1,152 bits left; *found
  *                     stays. */
-uint32_t dsr_hunt(const uint8_t *octets, size_t octets_len, uint64_t from, uint64_t least, uint64_t *found, uint64_t *tested,
-                  uint64_t *place);
+DSR_MUST_USE uint32_t dsr_hunt(const uint8_t *octets, size_t octets_len, uint64_t from, uint64_t least, uint64_t *found, uint64_t *tested,
+                               uint64_t *place);
 
 /* dsr_read_bits hunts from bit `from` on, takes the 1,152 bits found, hunts on right behind them, and so on to the end; then it reads the
  * multiframes found as dsr_read does, their syncs taken as whole. DSR_DONE, and answer holds the eight numbers of enum dsr_answer, index
  * the first 168m octets and report the first 13m (octets beyond them stay, numbers beyond the eighth too), and *place stays; or a refusal,
  * the first of 11, 21, 22 and 15 to 20 that applies, and *place is its place and answer, index and report stay as they came. Lend an answer
  * of DSR_BITS_ANSWER_NUMBERS numbers; fewer are refused before all else with DSR_READ_ANSWER_SHORT, and then *place stays too.
- * A refusal gives no number of places tested: dsr_hunt does. An answer that is used again still holds the last success: look at the
- * number returned. */
-uint32_t dsr_read_bits(const uint8_t *octets, size_t octets_len, uint64_t from, uint64_t least, const int32_t *codebook,
-                       size_t codebook_len, const int32_t *thresholds, size_t thresholds_len, uint8_t *index, size_t index_len,
-                       uint8_t *report, size_t report_len, uint64_t *answer, size_t answer_len, uint64_t *place);
+ * A refusal gives no number of places tested: dsr_hunt does. An answer that is used again still holds the last success, as in dsr_read:
+ * look at the number returned. */
+DSR_MUST_USE uint32_t dsr_read_bits(const uint8_t *octets, size_t octets_len, uint64_t from, uint64_t least, const int32_t *codebook,
+                                    size_t codebook_len, const int32_t *thresholds, size_t thresholds_len, uint8_t *index,
+                                    size_t index_len, uint8_t *report, size_t report_len, uint64_t *answer, size_t answer_len,
+                                    uint64_t *place);
 
 /* --- the functions for daily use
  *
  * They are not proved, but tested. They add to the proved functions only this: the answer is a struct that is filled on a refusal too; a
- * null pointer is allowed where its length is 0, and with another length it is refused with DSR_WRONG_LENGTH before all else; and the
- * compiler warns if the status is dropped. The pointer to the struct is never null. A name that ends in _ is the header's own. */
-
-#if defined(__GNUC__) || defined(__clang__)
-#define DSR_MUST_USE __attribute__((warn_unused_result))
-#else
-#define DSR_MUST_USE
-#endif
+ * null pointer is allowed where its length is 0, and with another length it is refused with DSR_WRONG_LENGTH before all else, as is a length
+ * above SIZE_MAX / 2, such as the -1 of a failed read; null tables
+ * are refused with DSR_READ_TABLES, when its turn comes. The pointer to the struct is never null. A name that ends in _ is the header's
+ * own. */
 
 /* DSR_AS_ is a cast that a strict C++ compiler takes too. */
 #ifdef __cplusplus
@@ -297,7 +308,7 @@ struct dsr_reading {
     unsigned type;
     /* The number of multiframes, m: of the lent memory 168m index octets and 13m report octets are filled. */
     unsigned multiframes;
-    /* The number of frames up to the last one that is not padding. */
+    /* 24(m-1) plus the place (1 to 24, 0 if none) of the last nonzero frame of the last multiframe, after replacing. */
     unsigned speech;
     /* The number of bad pairs: those whose note is not 0. */
     unsigned bad;
@@ -345,7 +356,8 @@ static inline size_t dsr_report_octets(size_t multiframes) {
     return multiframes > DSR_MOST_MULTIFRAMES ? 0 : DSR_MULTIFRAME_REPORT * multiframes;
 }
 
-/* dsr_status_text gives the words of 01 and 02 for when a status is given; a number that is no status has words too. */
+/* dsr_status_text gives the words of 01 and 02 for when a status is given; those of 0, of 97 to 99, of a hunt's 15 and of a number that is
+ * no status are the library's own. */
 static inline const char *dsr_status_text(uint32_t status) {
     switch (status) {
     case DSR_DONE: return "done";
@@ -359,7 +371,7 @@ static inline const char *dsr_status_text(uint32_t status) {
     case DSR_READ_UNKNOWN: return "octets at p begin nothing known";
     case DSR_READ_CUT: return "sync with too few octets, or a lone last 87 or 78";
     case DSR_READ_NO_MULTIFRAME: return "no multiframe";
-    case DSR_READ_TOO_MANY: return "a sync after 255 multiframes, even a cut one";
+    case DSR_READ_TOO_MANY: return "a sync after 255 multiframes, even a cut one; in a hunt a match";
     case DSR_READ_UNSETTLED: return "settings not settled";
     case DSR_READ_SETTINGS: return "settled rate is 2 or any EXP is 1";
     case DSR_READ_INDEX_SHORT: return "index buffer under 168m";
@@ -368,14 +380,15 @@ static inline const char *dsr_status_text(uint32_t status) {
     case DSR_HUNT_MATCH: return "T outside 12 to 16";
     case DSR_HUNT_NOWHERE: return "no place found by the first hunt";
     case DSR_HEADER_UNREADABLE: return "no codeword differs from the word in at most two bits";
-    case DSR_WRONG_LENGTH: return "a length is not the multiframe's, or not 0 for a null pointer";
+    case DSR_WRONG_LENGTH: return "a length is not the multiframe's, or none that lent memory has";
     case DSR_READ_ANSWER_SHORT: return "answer too short";
     default: return "no status of this library";
     }
 }
 
-/* dsr_lent_ says whether a pointer can be lent with that length. */
-static inline int dsr_lent_(const void *memory, size_t len) { return memory || len == 0; }
+/* dsr_lent_ says whether a pointer can be lent with that length. No memory is longer than half of all there could be: a length of -1, from a
+ * failed read say, is none. */
+static inline int dsr_lent_(const void *memory, size_t len) { return (memory || len == 0) && len <= SIZE_MAX / 2; }
 
 /* dsr_write_utterance writes frames as dsr_write does. Rate and type are numbers of enum dsr_rate and enum dsr_front_end; every other is
  * refused, whatever its width. */

@@ -10,7 +10,7 @@ Octets may be bytes, bytearray, memoryview, array.array('B'), a numpy array of u
 of Python's own library is needed; numpy is imported only by Reading.frames_numpy and Reading.report_numpy. A refusal is the exception
 Refused, with number, place and words of document 01 (the specification) or 02 (its changes). Calls in several threads do not meet.
 
-The library is the file that the environment variable DSR_LIBRARY names; else the installed libdsr.so.0; else the one that `make lib` made
+The library is the file that the environment variable DSR_LIBRARY names; else the installed libdsr.so.0.2; else the one that `make lib` made
 beside this file's folder. c/dsr.h says of every number and octet what it means.
 """
 import array
@@ -40,10 +40,13 @@ CODEBOOK_NUMBERS = 1280
 THRESHOLD_NUMBERS = 14
 
 _MOST_64 = 2**64 - 1
+# The Makefile's rule: the major number, and while it is 0 the minor one too.
+_SONAME = "libdsr.so.0.2"
 
 
 class Status(enum.IntEnum):
-    """What the library answers: DONE, or the number of a refusal. `text` has the words of 01 and 02 for when it is given."""
+    """What the library answers: DONE, or the number of a refusal. `text` has the words of 01 and 02 for when it is given; those of 0, of
+    97 to 99 and of a hunt's 15 are the library's own."""
 
     def __new__(cls, number, text):
         status = int.__new__(cls, number)
@@ -62,7 +65,7 @@ class Status(enum.IntEnum):
     READ_UNKNOWN = 12, "octets at p begin nothing known"
     READ_CUT = 13, "sync with too few octets, or a lone last 87 or 78"
     READ_NO_MULTIFRAME = 14, "no multiframe"
-    READ_TOO_MANY = 15, "a sync after 255 multiframes, even a cut one"
+    READ_TOO_MANY = 15, "a sync after 255 multiframes, even a cut one; in a hunt a match"
     READ_UNSETTLED = 16, "settings not settled"
     READ_SETTINGS = 17, "settled rate is 2 or any EXP is 1"
     READ_INDEX_SHORT = 18, "index buffer under 168m"
@@ -71,7 +74,7 @@ class Status(enum.IntEnum):
     HUNT_MATCH = 21, "T outside 12 to 16"
     HUNT_NOWHERE = 22, "no place found by the first hunt"
     HEADER_UNREADABLE = 97, "no codeword differs from the word in at most two bits"
-    WRONG_LENGTH = 98, "a length is not the multiframe's, or not 0 for a null pointer"
+    WRONG_LENGTH = 98, "a length is not the multiframe's, or none that lent memory has"
     READ_ANSWER_SHORT = 99, "answer too short"
 
 
@@ -136,7 +139,7 @@ class Reading:
     rate: Rate
     front_end: FrontEnd
     multiframes: int
-    speech: int  # frames up to the last one that is not padding
+    speech: int  # 24(m-1) plus the place (1 to 24, 0 if none) of the last nonzero frame of the last multiframe, after replacing
     bad: int  # bad pairs
     end: bool  # whether the last frame is zero, which marks the end of an utterance
     index: bytes = dataclasses.field(repr=False)  # all frames, seven octets each, 24 frames a multiframe
@@ -205,7 +208,9 @@ class Tables:
 def write(rate, front_end, indices):
     """Writes an utterance, seven index octets a frame (also as rows of a numpy array), and gives its image.
 
-    Refused: 1 to 5."""
+    Refused: 1 to 5. A Rate and a FrontEnd in each other's place are a TypeError."""
+    if isinstance(rate, FrontEnd) or isinstance(front_end, Rate):
+        raise TypeError("the rate comes first, then the front end")
     said = _octets(indices)
     frames = min(len(said) // FRAME_INDICES, MOST_FRAMES)
     out = ctypes.create_string_buffer(MULTIFRAME_OCTETS * (frames // MULTIFRAME_FRAMES + 1))
@@ -224,7 +229,7 @@ def read(octets, tables):
     return Reading(*lent.reading())
 
 
-def read_bits(octets, tables, least, start=0):
+def read_bits(octets, tables, *, least, start=0):
     """Reads bits with no octet boundary: hunts from bit `start` on, with at least `least` (12 to 16) of a sync's bits matching.
 
     Bit t is in octet t // 8, with value 2 ** (t % 8). Gives a BitsReading. Refused: 11, 15 (its place is here a bit) to 17 and 20 to 22."""
@@ -235,7 +240,7 @@ def read_bits(octets, tables, least, start=0):
     return BitsReading(*lent.reading(), *lent.answer[6:])
 
 
-def hunt(octets, least, start=0):
+def hunt(octets, *, least, start=0):
     """Finds the first multiframe from bit `start` on, and gives a Hunted. Refused: 21 and 22."""
     received = _octets(octets)
     found, tested, place = ctypes.c_uint64(), ctypes.c_uint64(), ctypes.c_uint64()
@@ -376,7 +381,7 @@ def _load():
         return ctypes.CDLL(named)
     made = pathlib.Path(__file__).resolve().parent.parent / "target" / "lib" / platform.machine() / "libdsr.so"
     reasons = []
-    for file in ("libdsr.so.0", str(made)):
+    for file in (_SONAME, str(made)):
         try:
             return ctypes.CDLL(file)
         except OSError as error:

@@ -43,9 +43,9 @@ def delayed(octets, idle, tail=0):
 
 
 class Case(unittest.TestCase):
-    def refused(self, status, place, function, *arguments):
+    def refused(self, status, place, function, *arguments, **named):
         with self.assertRaises(dsr.Refused) as caught:
-            function(*arguments)
+            function(*arguments, **named)
         self.assertEqual((caught.exception.status, caught.exception.place), (status, place))
         return caught.exception
 
@@ -151,39 +151,49 @@ class Reading(Case):
         self.assertEqual(speech, list(range(200, 264)))
 
 
+class Misuse(Case):
+    def test_rate_and_front_end_swapped(self):
+        self.assertRaises(TypeError, dsr.write, dsr.FrontEnd.NOISE_ROBUST, 0, b"")
+        self.assertRaises(TypeError, dsr.write, 0, dsr.Rate.KHZ_11, b"")
+
+    def test_far_place(self):
+        self.refused(14, 2**17, dsr.read, b"\x78\x4d" * 2**16, ZERO)
+
+
 class Hunting(Case):
     def setUp(self):
         self.image = dsr.write(0, 1, frames(24))
         self.modem = delayed(self.image, 19, 1)  # 288 + 3 + 1 octets
 
     def test_hunt(self):
-        self.assertEqual(dsr.hunt(self.modem, 14), dsr.Hunted(19, 20))
-        self.assertEqual(dsr.hunt(self.modem, 16, 20), dsr.Hunted(1171, 1152))
-        self.assertEqual(dsr.hunt(flipped(self.modem, 19, 20), 14, start=19), dsr.Hunted(19, 1))
+        self.assertEqual(dsr.hunt(self.modem, least=14), dsr.Hunted(19, 20))
+        self.assertEqual(dsr.hunt(self.modem, least=16, start=20), dsr.Hunted(1171, 1152))
+        self.assertEqual(dsr.hunt(flipped(self.modem, 19, 20), least=14, start=19), dsr.Hunted(19, 1))
 
     def test_read_bits(self):
-        reading = dsr.read_bits(flipped(self.modem, 19), ZERO, 14)
+        reading = dsr.read_bits(flipped(self.modem, 19), ZERO, least=14)
         self.assertEqual((reading.rate, reading.front_end, reading.multiframes), (dsr.Rate.KHZ_8, dsr.FrontEnd.NOISE_ROBUST, 2))
         self.assertEqual((reading.speech, reading.bad, reading.end, reading.outside, reading.tested), (24, 0, True, 32, 21))
         self.assertEqual((b"".join(reading.frames()), reading.report), (frames(24), bytes(26)))
         self.assertEqual(dsr.read_bits(self.modem, ZERO, least=16, start=19).outside, 13)
 
     def test_refusals(self):
-        self.refused(21, 11, dsr.hunt, self.modem, 11)
-        self.assertEqual(self.refused(22, 1172, dsr.hunt, self.modem, 14, 1172).tested, 13)
-        self.refused(22, 2**64 - 1, dsr.hunt, b"", 14, 2**64 - 1)
-        self.refused(11, 0, dsr.read_bits, self.modem, dsr.Tables([], []), 11)
-        self.refused(21, 17, dsr.read_bits, self.modem, ZERO, 17)
-        self.refused(22, 1172, dsr.read_bits, self.modem, ZERO, 14, 1172)
-        self.refused(15, 8 * 36720 + 3, dsr.read_bits, delayed(self.image[:144] * 256, 3), ZERO, 16)
-        self.refused(16, 0, dsr.read_bits, flipped(EXAMPLE, 16), ZERO, 16)
+        self.refused(21, 11, dsr.hunt, self.modem, least=11)
+        self.assertEqual(self.refused(22, 1172, dsr.hunt, self.modem, least=14, start=1172).tested, 13)
+        self.refused(22, 2**64 - 1, dsr.hunt, b"", least=14, start=2**64 - 1)
+        self.refused(11, 0, dsr.read_bits, self.modem, dsr.Tables([], []), least=11)
+        self.refused(21, 17, dsr.read_bits, self.modem, ZERO, least=17)
+        self.refused(22, 1172, dsr.read_bits, self.modem, ZERO, least=14, start=1172)
+        self.refused(15, 8 * 36720 + 3, dsr.read_bits, delayed(self.image[:144] * 256, 3), ZERO, least=16)
+        self.refused(16, 0, dsr.read_bits, flipped(EXAMPLE, 16), ZERO, least=16)
+        self.refused(22, 2**40, dsr.read_bits, self.modem, ZERO, least=14, start=2**40)
 
     def test_numbers_are_not_cut(self):
         for number in (-1, 2**64, 2**64 + 14):
-            self.assertRaises(OverflowError, dsr.hunt, self.modem, number)
-            self.assertRaises(OverflowError, dsr.hunt, self.modem, 14, number)
-            self.assertRaises(OverflowError, dsr.read_bits, self.modem, ZERO, number)
-            self.assertRaises(OverflowError, dsr.read_bits, self.modem, ZERO, 14, number)
+            self.assertRaises(OverflowError, dsr.hunt, self.modem, least=number)
+            self.assertRaises(OverflowError, dsr.hunt, self.modem, least=14, start=number)
+            self.assertRaises(OverflowError, dsr.read_bits, self.modem, ZERO, least=number)
+            self.assertRaises(OverflowError, dsr.read_bits, self.modem, ZERO, least=14, start=number)
 
 
 class Parts(Case):
@@ -319,8 +329,9 @@ class SameAsC(unittest.TestCase):
         self.assertEqual({"DSR_" + status.name: status.text for status in dsr.Status}, words)
 
     def test_other_numbers(self):
-        self.assertEqual({*dsr.Rate, 255}, {*self.enumeration("dsr_rate").values()})
-        self.assertEqual({*dsr.FrontEnd}, {*self.enumeration("dsr_front_end").values()})
+        rates = {"DSR_RATE_8_KHZ": dsr.Rate.KHZ_8, "DSR_RATE_11_KHZ": dsr.Rate.KHZ_11, "DSR_RATE_16_KHZ": dsr.Rate.KHZ_16, "DSR_RATE_NONE": 255}
+        self.assertEqual(rates, self.enumeration("dsr_rate"))
+        self.assertEqual({f"DSR_{end.name}": end for end in dsr.FrontEnd}, self.enumeration("dsr_front_end"))
         notes = self.enumeration("dsr_note")
         self.assertEqual([notes["DSR_PAIR_" + name] for name in ("GOOD", "CRC", "BAD")], list(dsr.PairNote))
 

@@ -1,11 +1,22 @@
-/* Drops the status of each function that gives a struct: the compiler has to warn of every line. */
+/* Drops what each function that can refuse returns: the compiler has to warn of every line. */
 #include "../../c/dsr.h"
 
-void drop_all(struct dsr_writing *w, struct dsr_reading *r, struct dsr_hunted *h);
+void drop_structs(struct dsr_writing *w, struct dsr_reading *r, struct dsr_hunted *h);
+void drop_numbers(uint8_t *octets, int32_t *tables, uint16_t *message, uint32_t *flips, uint64_t *answer);
 
-void drop_all(struct dsr_writing *w, struct dsr_reading *r, struct dsr_hunted *h) {
+void drop_structs(struct dsr_writing *w, struct dsr_reading *r, struct dsr_hunted *h) {
     dsr_write_utterance(0, 0, NULL, 0, NULL, 0, w);
     dsr_read_utterance(NULL, 0, NULL, NULL, 0, NULL, 0, r);
     dsr_hunt_utterance(NULL, 0, 0, 14, NULL, NULL, 0, NULL, 0, r);
     dsr_hunt_multiframe(NULL, 0, 0, 14, h);
+}
+
+void drop_numbers(uint8_t *octets, int32_t *tables, uint16_t *message, uint32_t *flips, uint64_t *answer) {
+    dsr_header_read(0, message, flips);
+    dsr_pack(octets, 0, octets, 0);
+    dsr_unpack(octets, 0, octets, 0, octets, 0);
+    dsr_write(0, 0, octets, 0, octets, 0, answer);
+    dsr_read(octets, 0, tables, 0, tables, 0, octets, 0, octets, 0, answer, 0, answer);
+    dsr_hunt(octets, 0, 0, 14, answer, answer, answer);
+    dsr_read_bits(octets, 0, 0, 14, tables, 0, tables, 0, octets, 0, octets, 0, answer, 0, answer);
 }

@@ -112,6 +112,7 @@ static void expect_writing_null(void) {
     EXPECT(w.status == DSR_DONE && w.place == 0 && w.octets == 144 && out[0] == 0x87 && out[1] == 0xB2);
     expect_not_written(&w, dsr_write_utterance(0, 0, NULL, 0, NULL, 0, &w), DSR_WRITE_OUTPUT_SHORT, 144);
     expect_not_written(&w, dsr_write_utterance(2, 0, NULL, 7, out, sizeof out, &w), DSR_WRONG_LENGTH, 0);
+    expect_not_written(&w, dsr_write_utterance(2, 0, said, SIZE_MAX, out, sizeof out, &w), DSR_WRONG_LENGTH, 0);
     expect_not_written(&w, dsr_write_utterance(0, 0, said, sizeof said, NULL, 288, &w), DSR_WRONG_LENGTH, 0);
 }
 
@@ -165,6 +166,7 @@ static void expect_reading_null(void) {
     expect_not_read(&r, dsr_read_utterance(NULL, 0, &zero, heard, sizeof heard, report, sizeof report, &r), DSR_READ_NO_MULTIFRAME, 0);
     expect_not_read(&r, dsr_read_utterance(image, sizeof image, &zero, NULL, 0, report, sizeof report, &r), DSR_READ_INDEX_SHORT, 336);
     expect_not_read(&r, dsr_read_utterance(image, sizeof image, &zero, heard, sizeof heard, NULL, 0, &r), DSR_READ_REPORT_SHORT, 26);
+    expect_not_read(&r, dsr_read_utterance(image, SIZE_MAX, &zero, heard, sizeof heard, report, sizeof report, &r), DSR_WRONG_LENGTH, 0);
     expect_not_read(&r, dsr_read_utterance(NULL, 1, NULL, heard, sizeof heard, report, sizeof report, &r), DSR_WRONG_LENGTH, 0);
     expect_not_read(&r, dsr_read_utterance(image, sizeof image, &zero, NULL, 336, report, sizeof report, &r), DSR_WRONG_LENGTH, 0);
     expect_not_read(&r, dsr_read_utterance(image, sizeof image, &zero, heard, sizeof heard, NULL, 26, &r), DSR_WRONG_LENGTH, 0);

@@ -15,9 +15,9 @@ use Rattle.writer.specs.Writing.{firstFrom, verdict, writing}
 use Rattle.hunting.specs.Hunting.{Outcome, outcome}
 use Rattle.refusals.specs.declared.Hunting.the-variants.{Octets, MatchRange, Nowhere, TooMany}
 use Rattle.hunting.specs.declared.Answer.the-variants.{Read, Refused}
-use Rattle.bits.specs.Bits.{numbers, value, fields, field, total}
+use Rattle.bits.specs.Bits.{numbers, value, fields, field, laid, total}
 use Rattle.crc.specs.Crc.{after, crc, alike, right}
-use Rattle.packet.specs.Packet.{apart}
+use Rattle.packet.specs.Packet.{apart, row, stream, packetOf, packet, guarded}
 use Rattle.bad_pairs.specs.BadPairs.{noteBy}
 use Rattle.notes.specs.Notes.{pairFails, framesOf, allFrames}
 use Rattle.header.specs.Reading.{reading}
@@ -25,14 +25,14 @@ use Rattle.header.specs.Reading.Examples as H
 use Rattle.dsr.specs.Entries.{headerRead, packed, packing, unpacked, unpacking, returning, givenOf, dsrWrite}
 use Rattle.dsr.specs.Bits.{huntReturning, bitsGiven}
 
--- 16 kHz, noise robust, 2 multiframes, 30 frames of speech, 4 bad pairs, end; 32 bits outside, 21 places tested
+-- 16 kHz, noise robust, 2 multiframes, 30 frames of speech, 4 bad pairs, no end; 32 bits outside, 21 places tested
 abbrev pub talk : Outcome
 talk =
-    outcome (Read (record { summary = record { settings = settings 3 1; multiframes = 2; speech = 30; bad = 4; end = 1 }; outside = 32; tested = 21 })) (1 ∷ []) (2 ∷ [])
+    outcome (Read (record { summary = record { settings = settings 3 1; multiframes = 2; speech = 30; bad = 4; end = 0 }; outside = 32; tested = 21 })) (1 ∷ []) (2 ∷ [])
 
 -- the same, read from octets
 abbrev pub heard : R.Outcome
-heard = R.outcome (RA.Read (record { settings = settings 3 1; multiframes = 2; speech = 30; bad = 4; end = 1 })) (1 ∷ []) (2 ∷ [])
+heard = R.outcome (RA.Read (record { settings = settings 3 1; multiframes = 2; speech = 30; bad = 4; end = 0 })) (1 ∷ []) (2 ∷ [])
 
 abbrev pub nine : List ℕ
 nine = 90 ∷ 91 ∷ 92 ∷ 93 ∷ 94 ∷ 95 ∷ 96 ∷ 97 ∷ 98 ∷ []
@@ -44,10 +44,10 @@ pub record Table : Type 0 where
   pub hunt-22 : huntReturning 7 8 (HA.Refused (HR.Nowhere 6 3)) ≡ record { number = 22; found = 7; tested = 3; place = 6 }
   -- eight numbers, a ninth stays; index and report came as 5 and 6
   pub eight : returning 8 nine 8 (5 ∷ []) (6 ∷ []) (bitsGiven talk)
-      ≡ record { number = 0; index = 1 ∷ []; report = 2 ∷ []; answer = 3 ∷ 1 ∷ 2 ∷ 30 ∷ 4 ∷ 1 ∷ 32 ∷ 21 ∷ 98 ∷ []; place = 8 }
+      ≡ record { number = 0; index = 1 ∷ []; report = 2 ∷ []; answer = 3 ∷ 1 ∷ 2 ∷ 30 ∷ 4 ∷ 0 ∷ 32 ∷ 21 ∷ 98 ∷ []; place = 8 }
   -- dsr_read's six, and two stay
   pub six : returning 6 nine 8 (5 ∷ []) (6 ∷ []) (givenOf heard)
-      ≡ record { number = 0; index = 1 ∷ []; report = 2 ∷ []; answer = 3 ∷ 1 ∷ 2 ∷ 30 ∷ 4 ∷ 1 ∷ 96 ∷ 97 ∷ 98 ∷ []; place = 8 }
+      ≡ record { number = 0; index = 1 ∷ []; report = 2 ∷ []; answer = 3 ∷ 1 ∷ 2 ∷ 30 ∷ 4 ∷ 0 ∷ 96 ∷ 97 ∷ 98 ∷ []; place = 8 }
   pub five : returning 6 (replicate 5 90) 8 (5 ∷ []) (6 ∷ []) (givenOf heard) ≡ record { number = 99; index = 5 ∷ []; report = 6 ∷ []; answer = replicate 5 90; place = 8 }
   pub octets-16 : returning 6 nine 8 (5 ∷ []) (6 ∷ []) (givenOf (R.outcome (RA.Refused RR.Unsettled) (5 ∷ []) (6 ∷ [])))
       ≡ record { number = 16; index = 5 ∷ []; report = 6 ∷ []; answer = nine; place = 0 }
@@ -99,23 +99,34 @@ pub second-fails : unpacking (replicate 11 0 ++ (0x10 ∷ replicate 126 0)) (rep
 unfolding unpacking allFrames framesOf apart numbers value fields field total pairFails right alike crc after xor noteBy
 second-fails = refl
 
+-- ---- and packed: frame 1,0,0,0,0,0,0 and zeros are 0, stream bits 0 and 90 (01), and nothing of what came as 9 stays
+pub first-packs : packing (1 ∷ replicate 167 0) (replicate 138 9) ≡ packed 0 (1 ∷ (replicate 10 0 ++ (4 ∷ replicate 126 0)))
+unfolding packing firstFrom numbers value stream packetOf packet guarded crc after laid field xor row
+first-packs = refl
+
 -- ---- a wrong length is 98 and comes before an index above 63, which is 4; what came as 9 stays
 pub record Lengths : Type 0 where
   pub indices-short : packing (replicate 167 64) (replicate 138 9) ≡ packed 98 (replicate 138 9)
+  pub indices-long : packing (replicate 169 0) (replicate 138 9) ≡ packed 98 (replicate 138 9)
   pub stream-long : packing (replicate 168 64) (replicate 139 9) ≡ packed 98 (replicate 139 9)
   pub wide : packing (replicate 161 0 ++ (0 ∷ 0 ∷ 0 ∷ 0 ∷ 0 ∷ 64 ∷ 0 ∷ [])) (replicate 138 9) ≡ packed 4 (replicate 138 9)
   pub stream-short : unpacking (replicate 137 0) (replicate 168 9) (replicate 12 9) ≡ unpacked 98 (replicate 168 9) (replicate 12 9)
-  pub indices-long : unpacking (replicate 138 0) (replicate 169 9) (replicate 12 9) ≡ unpacked 98 (replicate 169 9) (replicate 12 9)
+  pub sent-long : unpacking (replicate 139 0) (replicate 168 9) (replicate 12 9) ≡ unpacked 98 (replicate 168 9) (replicate 12 9)
+  pub frames-long : unpacking (replicate 138 0) (replicate 169 9) (replicate 12 9) ≡ unpacked 98 (replicate 169 9) (replicate 12 9)
+  pub notes-long : unpacking (replicate 138 0) (replicate 168 9) (replicate 13 9) ≡ unpacked 98 (replicate 168 9) (replicate 13 9)
   pub notes-short : unpacking (replicate 138 0) (replicate 168 9) (replicate 11 9) ≡ unpacked 98 (replicate 168 9) (replicate 11 9)
 
 pub lengths : Lengths
 unfolding packing unpacking firstFrom
 lengths = record {
   indices-short = refl;
+  indices-long = refl;
   stream-long = refl;
   wide = refl;
   stream-short = refl;
-  indices-long = refl;
+  sent-long = refl;
+  frames-long = refl;
+  notes-long = refl;
   notes-short = refl;
 }
 

@@ -17,7 +17,7 @@ use Rattle.consistency.specs.Tables.{tablesOf}
 
 -- 16 kHz, noise robust, 2 multiframes, 30 frames of speech, 4 bad pairs, end
 abbrev pub talk : Outcome
-talk = outcome (Read (record { settings = settings 3 1; multiframes = 2; speech = 30; bad = 4; end = 1 })) (1 ∷ []) (2 ∷ [])
+talk = outcome (Read (record { settings = settings 3 1; multiframes = 2; speech = 30; bad = 4; end = 0 })) (1 ∷ []) (2 ∷ [])
 
 -- seven numbers lent, which came as 90 to 96; index and report came as 5 and 6, the place as 8
 abbrev pub seven : List ℕ
@@ -25,7 +25,7 @@ seven = 90 ∷ 91 ∷ 92 ∷ 93 ∷ 94 ∷ 95 ∷ 96 ∷ []
 
 pub record Table : Type 0 where
   -- rate, type, multiframes, speech, bad, end; a seventh number stays
-  pub six-numbers : returning 6 seven 8 (5 ∷ []) (6 ∷ []) (givenOf talk) ≡ record { number = 0; index = 1 ∷ []; report = 2 ∷ []; answer = 3 ∷ 1 ∷ 2 ∷ 30 ∷ 4 ∷ 1 ∷ 96 ∷ []; place = 8 }
+  pub six-numbers : returning 6 seven 8 (5 ∷ []) (6 ∷ []) (givenOf talk) ≡ record { number = 0; index = 1 ∷ []; report = 2 ∷ []; answer = 3 ∷ 1 ∷ 2 ∷ 30 ∷ 4 ∷ 0 ∷ 96 ∷ []; place = 8 }
   -- a refusal has a place of its own, and leaves the answer and both buffers
   pub refused-13 : returning 6 seven 8 (5 ∷ []) (6 ∷ []) (givenOf (outcome (Refused (CutShort 290)) (5 ∷ []) (6 ∷ [])))
       ≡ record { number = 13; index = 5 ∷ []; report = 6 ∷ []; answer = seven; place = 290 }

@@ -105,34 +105,9 @@ fn is_inconsistent_if(
     false
 }
 
-// Every pair is judged, in place, from the first on: a pair's note stands before the next pair is judged, and the CRC's note of the pair
-// behind it still does.
-fn judge_each(
-    octets: &[u8],
-    places: &[usize],
-    codebook: &[i32],
-    thresholds: &[i32],
-    notes: &mut [u8],
-)
-    requires { ⌜ Placed (now octets) (now places) × (now notes ≡ crcNotes (received (now octets) (now places)) (pairCount (now places))) ⌝ }
-    requires { ⌜ RightTables (tablesOf (now codebook) (now thresholds)) ⌝ }
-    ensures { λ _. ⌜ left notes ≡ pairNotes (received (came octets) (came places)) (pairCount (came places)) (tablesIn codebook thresholds) ⌝ }
-{
-    let mut before = false;
-    let mut q = 0;
-    while q < notes.len() {
-        let failed = bad_pairs::is_bad(notes[q]);
-        let after = next_failed(notes, Pair(q));
-        let asked = bad_pairs::undecided(before, failed, after);
-        let inconsistent = is_inconsistent_if(asked, octets, places, codebook, thresholds, Pair(q));
-        let note = bad_pairs::note(before, failed, inconsistent, after);
-        notes[q] = note;
-        before = bad_pairs::is_bad(note);
-        q += 1;
-    }
-}
-
-// judge turns the notes of the CRCs into the notes of the pairs. Where no CRC failed they are the same, and no pair is judged.
+// judge turns the notes of the CRCs into the notes of the pairs. Where no CRC failed they are the same, and no pair is judged. Else every
+// pair is, in place, from the first on: a pair's note stands before the next pair is judged, and the CRC's note of the pair behind it still
+// does.
 pub fn judge(
     octets: &[u8],
     places: &[usize],
@@ -144,8 +119,20 @@ pub fn judge(
     requires { ⌜ RightTables (tablesOf (now codebook) (now thresholds)) ⌝ }
     ensures { λ _. ⌜ left notes ≡ pairNotes (received (came octets) (came places)) (pairCount (came places)) (tablesIn codebook thresholds) ⌝ }
 {
-    if bad_pairs::count_bad(notes) != 0 {
-        judge_each(octets, places, codebook, thresholds, notes);
+    if bad_pairs::count_bad(notes) == 0 {
+        return;
+    }
+    let mut before = false;
+    let mut q = 0;
+    while q < notes.len() {
+        let failed = bad_pairs::is_bad(notes[q]);
+        let after = next_failed(notes, Pair(q));
+        let asked = bad_pairs::undecided(before, failed, after);
+        let inconsistent = is_inconsistent_if(asked, octets, places, codebook, thresholds, Pair(q));
+        let note = bad_pairs::note(before, failed, inconsistent, after);
+        notes[q] = note;
+        before = bad_pairs::is_bad(note);
+        q += 1;
     }
 }
 

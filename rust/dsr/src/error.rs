@@ -41,12 +41,12 @@ macro_rules! refusals {
                 match *self { $(Error::$name { place } => place,)* }
             }
 
-            /// `words` are the document's words for when the refusal is given.
+            /// `words` are the document's words for when the refusal is given; those of a hunt's 15 are the library's own.
             pub const fn words(&self) -> &'static str {
                 match self { $(Error::$name { .. } => $words,)* }
             }
 
-            /// `meaning` is the document's words for what the place is.
+            /// `meaning` says what the place is.
             pub const fn meaning(&self) -> &'static str {
                 match self { $(Error::$name { .. } => $meaning,)* }
             }
@@ -63,14 +63,14 @@ refusals! {
     WriteSettings = 1, "rate not 0, 1 or 3, or type above 1", "0";
     WriteIndexCount = 2, "index octets no multiple of 7", "their number";
     WriteFrameCount = 3, "more than 6,119 frames", "frame count";
-    WriteIndexValue = 4, "one of the first six indices of a frame above 63", "first such frame";
-    WriteZeroFrame = 5, "an all-zero frame that is the last, or whose number is a multiple of 24", "first such frame";
+    WriteIndexValue = 4, "one of the first six indices of a frame above 63", "first such frame, from 1";
+    WriteZeroFrame = 5, "an all-zero frame that is the last, or whose number is a multiple of 24", "first such frame, from 1";
     WriteOutputShort = 6, "output shorter than 144m", "octets needed";
     ReadTables = 11, "codebook not 1,280 or thresholds not 14", "0";
     ReadUnknown = 12, "octets at p begin nothing known", "p";
     ReadCut = 13, "sync with too few octets, or a lone last 87 or 78", "p";
     ReadNoMultiframe = 14, "no multiframe", "octet count";
-    ReadTooMany = 15, "a sync after 255 multiframes, even a cut one", "p";
+    ReadTooMany = 15, "a sync after 255 multiframes, even a cut one; in a hunt a match", "p, in a hunt the bit";
     ReadUnsettled = 16, "settings not settled", "0";
     ReadSettings = 17, "settled rate is 2 or any EXP is 1", "0";
     ReadIndexShort = 18, "index buffer under 168m", "octets needed";

@@ -73,7 +73,7 @@ pub enum PairNote {
     Good,
     /// 1: the pair's CRC failed, and a reader has replaced its frames.
     CrcFailed,
-    /// 2: bad otherwise. The pair is inconsistent and stands beside a bad one, and its frames were replaced.
+    /// 2: bad otherwise. The pair is inconsistent, and the next pair's CRC failed or the pair before is bad. Its frames were replaced.
     BadOtherwise,
 }
 

@@ -5,8 +5,8 @@ use crate::{Error, CODEBOOK_NUMBERS, THRESHOLD_NUMBERS};
 ///
 /// A frame's index c (0 to 6) stands for an entry of codebook c, which is two numbers. Codebooks 0 to 5 have 64 entries and begin at number
 /// 128c; the seventh has 256 and begins at 768. Entry j is the two numbers from 2j on. Thresholds 2c and 2c+1 are for the two numbers of
-/// codebook c. An index pair is flagged if one of the second frame's numbers minus the first frame's exceeds its threshold; a pair of frames
-/// is inconsistent if two of its seven index pairs are flagged.
+/// codebook c. An index pair is flagged if one of the second frame's numbers minus the first frame's exceeds its threshold; a pair of
+/// frames is inconsistent if at least two of its seven index pairs are flagged.
 ///
 /// ```
 /// use dsr::{Error, Tables};

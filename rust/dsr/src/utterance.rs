@@ -13,8 +13,8 @@ pub struct Reading {
     pub settings: Settings,
     /// The number of multiframes, m: 1 to 255.
     pub multiframes: usize,
-    /// The number of frames of speech: 24(m-1) plus the place (1 to 24, 0 if none) of the last frame of the last multiframe that is not
-    /// zero, after replacing.
+    /// The number of frames of speech: 24(m-1) plus the place (1 to 24, 0 if none) of the last nonzero frame of the last multiframe,
+    /// after replacing.
     pub speech: usize,
     /// The number of bad pairs, which were replaced.
     pub bad: usize,

@@ -43,11 +43,11 @@ fn refusals_say_number_place_and_words() {
         (write_into(SETTINGS, &utterance(6120), &mut out), "refused 3 6120: more than 6,119 frames (place: frame count)"),
         (
             write_into(SETTINGS, &[64; 7], &mut out),
-            "refused 4 1: one of the first six indices of a frame above 63 (place: first such frame)",
+            "refused 4 1: one of the first six indices of a frame above 63 (place: first such frame, from 1)",
         ),
         (
             write_into(SETTINGS, &[0; 7], &mut out),
-            "refused 5 1: an all-zero frame that is the last, or whose number is a multiple of 24 (place: first such frame)",
+            "refused 5 1: an all-zero frame that is the last, or whose number is a multiple of 24 (place: first such frame, from 1)",
         ),
         (write_into(SETTINGS, &utterance(24), &mut out), "refused 6 288: output shorter than 144m (place: octets needed)"),
     ];

@@ -47,6 +47,8 @@ fn main() {
         let words: Vec<u32> = messages.flat_map(|m| flips.iter().map(move |f| encode(m) ^ f)).collect();
         readings(&mut driver, &mut chance, &code, &format!("every {count} flipped places of {codewords} codewords"), &words);
     }
+    let words: Vec<u32> = (0..8u32 << 16).map(|k| encode(k as u16) ^ 1 << chance.below(32) ^ 1 << chance.below(32)).collect();
+    readings(&mut driver, &mut chance, &code, "eight times two flipped places of every codeword", &words);
     let words: Vec<u32> = (0..200_000).map(|_| chance.word() as u32).collect();
     readings(&mut driver, &mut chance, &code, "random words", &words);
     driver.end(100_000);
