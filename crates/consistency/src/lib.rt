@@ -4,9 +4,10 @@ ghost use mathlib.Core.Path.{_≡_};
 ghost use Prim.Native.Nat.{_+_, _*_, _<_, _≤_};
 ghost use lib.ListN.{length};
 ghost use Rattle.lists.specs.Parts.{part};
+ghost use Rattle.lists.specs.Lent.{came};
 ghost use Rattle.layout.specs.Layout.{frameIndices, codebookNumbers};
 ghost use Rattle.consistency.specs.Tables.{tablesOf, RightTables};
-ghost use Rattle.consistency.specs.Lent.{came, tablesIn};
+ghost use Rattle.consistency.specs.Lent.{tablesIn};
 ghost use Rattle.consistency.specs.Consistency.{exceeding, at, entryPlace, flagged, inconsistent, InRange};
 
 // Each codebook has room for 64 entries of two numbers; the seventh comes last and goes on.
