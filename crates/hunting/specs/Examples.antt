@@ -7,7 +7,7 @@ use native.Mathlib.Omega.{arith}
 use lib.IntN.{ℤ, pos}
 use lib.ListN.{length, replicate}
 use Rattle.bits.specs.Bits.{bits, fields}
-use Rattle.consistency.specs.Tables.{tablesOf}
+use Rattle.consistency.specs.Tables.{tablesOf, tablesRight}
 use Rattle.bits.specs.Laws.{length-bits}
 use Rattle.hunt.specs.Hunt.{inRange, found, misses}
 use Rattle.hunt.specs.Laws.{searched-all}
@@ -54,7 +54,7 @@ five s e =
     omega (arith, searched-all (bits s) (omega arith))
 
 pub table : Table
-unfolding huntingReading readingFound inRange gathering found misses fields
+unfolding huntingReading tablesRight readingFound inRange gathering found misses fields
 table = record {
   number-11 = refl;
   place-11 = refl;

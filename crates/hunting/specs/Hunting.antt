@@ -5,11 +5,10 @@ use mathlib.Core.Path.{_≡_}
 use mathlib.Core.List.{List, [], _∷_, _++_}
 use mathlib.Core.Bool.{Bool}
 use lib.ListN.{length, take}
-use lib.Dec.{eqb}
 use Rattle.lists.specs.Tests.{when}
 use Rattle.lists.specs.Parts.{part}
-use Rattle.layout.specs.Layout.{syncOctets, multiframeOctets, mostMultiframes, codebookNumbers, thresholdNumbers, syncFirst, syncSecond}
-use Rattle.consistency.specs.Tables.{Tables}
+use Rattle.layout.specs.Layout.{syncOctets, multiframeOctets, mostMultiframes, syncFirst, syncSecond}
+use Rattle.consistency.specs.Tables.{Tables, tablesRight}
 use Rattle.bits.specs.Bits.{bits, octets}
 use Rattle.hunt.specs.Hunt.{syncBits, multiframeBits, inRange, searched, huntedFrom}
 use Rattle.hunt.specs.declared.Hunted.{Hunted}
@@ -126,6 +125,4 @@ module _ (s : List ℕ) (from least : ℕ) (tables : Tables) (index report : Lis
   -- 11 comes first, then 21
   unfoldable pub huntingReading : Outcome
   huntingReading =
-      when (eqb (length (tables .codebook)) codebookNumbers)
-      (when (eqb (length (tables .thresholds)) thresholdNumbers) (when (inRange least) readingFound (refuse (MatchRange least))) (refuse (Octets WrongTables)))
-      (refuse (Octets WrongTables))
+      when (tablesRight tables) (when (inRange least) readingFound (refuse (MatchRange least))) (refuse (Octets WrongTables))
