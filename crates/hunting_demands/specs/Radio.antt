@@ -20,10 +20,11 @@ use Rattle.hunt.specs.Hunt.{fewestMatches, multiframeBits, sync, matches, passe
 use Rattle.header.specs.Reading.{reading}
 use Rattle.hunting.specs.Hunting as G
 use Rattle.hunting.specs.Hunting.{Gathering, gathering}
-use Rattle.writer.specs.Laws.{few-multiframes, length-image}
-use Rattle.writer.specs.Made.{syncIn, wordIn, packetIn}
-use Rattle.writer.specs.Image as I
-use Rattle.writer.specs.Image.{Utterance, multiframesOf, pairsOf, imageOf, is-accepted}
+use Rattle.image.specs.Made.{syncIn, wordIn, packetIn}
+use Rattle.image.specs.Laws.{length-image}
+use Rattle.writer.specs.Laws.{few-multiframes}
+use Rattle.image.specs.Laws as I
+use Rattle.writer.specs.Utterance.{Utterance, multiframesOf, pairsOf, imageOf, is-accepted}
 use Rattle.demands.specs.Damage.{Damage, headerFlips, header-read}
 use Rattle.demands.specs.Whole.{Lent}
 use Rattle.demands.specs.Received.{BadPair}

@@ -28,7 +28,7 @@ use Rattle.reader.specs.Reading as R
 use Rattle.hunting.specs.Hunting.{Ending, whole, ended, prepend, step, last, gathering, outsideOf, aligned, imageOf, counted, readingBy, readingFound, huntingReading}
 use Rattle.hunting.specs.Laws.{image-more}
 use Rattle.hunting.specs.Says.{nothing-found}
-use Rattle.writer.specs.Made.{Small, syncIn, wordIn, streamIn, framed, made, length-made, small-made, made-sync, made-word, made-stream}
+use Rattle.image.specs.Made.{Small, syncIn, wordIn, streamIn, framed, made, length-made, small-made, made-sync, made-word, made-stream}
 
 -- ---- places
 -- the k-th of multiframes that stand one behind the other from bit `at` on
