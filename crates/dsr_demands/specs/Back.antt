@@ -16,7 +16,7 @@ use Rattle.writer.specs.Utterance.{Utterance, whole-frames}
 use Rattle.reader.specs.Reading.{Outcome, reading}
 use Rattle.reader.specs.declared.Summary.{Summary}
 use Rattle.reader.specs.declared.Answer.the-variants.{Read}
-use Rattle.dsr.specs.Entries.{answerNumbers, summaryNumbers, Returned, returned, WriteReturned, dsrWrite, dsrRead}
+use Rattle.entries.specs.Entries.{answerNumbers, summaryNumbers, Returned, returned, WriteReturned, dsrWrite, dsrRead}
 use Rattle.demands.specs.Whole.{Lent, front-at}
 use Rattle.demands.specs.ReadsBack.{spoken, padded, no-more, length-padded, padded-at}
 use Rattle.demands.specs.ReadsBack as R

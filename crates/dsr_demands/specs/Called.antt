@@ -18,7 +18,7 @@ use Rattle.writer.specs.Utterance.{Utterance, imageOf, success}
 use Rattle.writer.specs.declared.Answer as WA
 use Rattle.writer.specs.declared.Answer.the-variants.{Written}
 use Rattle.writer.specs.declared.Answer.the-variants as WV
-use Rattle.dsr.specs.Entries.{dsrWrite}
+use Rattle.entries.specs.Entries.{dsrWrite}
 use Rattle.dsr_demands.specs.Calls.{beyond, write-zero}
 
 -- dsr_write's success is the writer's

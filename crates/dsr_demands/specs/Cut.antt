@@ -13,7 +13,7 @@ use Rattle.refusals.specs.Refusals.{readingNumber, readingPlace}
 use Rattle.reader.specs.Reading.{Outcome, reading}
 use Rattle.reader.specs.declared.Summary.{Summary}
 use Rattle.writer.specs.Utterance.{Utterance, multiframesOf, imageOf}
-use Rattle.dsr.specs.Entries.{answerNumbers, Returned, returned, returning, givenOf, dsrRead}
+use Rattle.entries.specs.Entries.{answerNumbers, Returned, returned, returning, givenOf, dsrRead}
 use Rattle.demands.specs.Damage.{Damage}
 use Rattle.demands.specs.Whole.{pairNoteIn}
 use Rattle.promises.specs.Chunks.{Refuses}

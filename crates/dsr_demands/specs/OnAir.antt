@@ -30,8 +30,8 @@ use Rattle.hunting.specs.declared.Counted.{Counted}
 use Rattle.hunting.specs.declared.Answer.the-variants.{Read}
 use Rattle.writer.specs.Writing.{frameCount}
 use Rattle.writer.specs.Utterance.{Utterance, multiframesOf, imageOf, whole-frames, pairsOf}
-use Rattle.dsr.specs.Entries.{Returned}
-use Rattle.dsr.specs.Bits.{countedNumbers, numbersOf, dsrReadBits}
+use Rattle.entries.specs.Entries.{Returned}
+use Rattle.entries.specs.Bits.{countedNumbers, numbersOf, dsrReadBits}
 use Rattle.demands.specs.Damage.{headerFlips}
 use Rattle.demands.specs.Whole.{front-at}
 use Rattle.demands.specs.NamesTheDamage as N

@@ -17,8 +17,8 @@ use Rattle.reader.specs.Reading.{reading}
 use Rattle.reader.specs.declared.Summary.{Summary}
 use Rattle.reader.specs.declared.Answer.the-variants.{Read}
 use Rattle.writer.specs.Utterance.{Utterance, multiframesOf, imageOf}
-use Rattle.dsr.specs.Entries.{answerNumbers, Returned, dsrRead}
-use Rattle.dsr.specs.Bits.{dsrReadBits}
+use Rattle.entries.specs.Entries.{answerNumbers, Returned, dsrRead}
+use Rattle.entries.specs.Bits.{dsrReadBits}
 use Rattle.demands.specs.Damage.{loosened, headerFlips, DamageUpTo}
 use Rattle.demands.specs.Damages.{unharmed}
 use Rattle.demands.specs.Met.{zeroTables, indexFor, reportFor, lent-zeros, says24}

@@ -21,7 +21,7 @@ use Rattle.notes.specs.Laws.{over-all}
 use Rattle.reader.specs.Reading.{Outcome, outcome}
 use Rattle.reader.specs.declared.Answer.{Answer}
 use Rattle.writer.specs.Writing.{Search, at, nowhere, firstWide, verdict, writing}
-use Rattle.dsr.specs.Entries.{Packing, packed, narrowPacking, packing, Unpacking, unpacked, unpacking, answerNumbers, Told, numbers, refusal, Given, given, returned, answered, returning, toldOf, givenOf, writeReturned, dsrWrite}
+use Rattle.entries.specs.Entries.{Packing, packed, narrowPacking, packing, Unpacking, unpacked, unpacking, answerNumbers, Told, numbers, refusal, Given, given, returned, answered, returning, toldOf, givenOf, writeReturned, dsrWrite}
 
 -- ---- packing
 module _ (idx s : List ℕ) where

@@ -19,7 +19,7 @@ use Rattle.hunting.specs.Says.{never-12-to-14}
 use Rattle.hunting.specs.declared.Counted.{Counted}
 use Rattle.hunting.specs.declared.Answer.{Answer}
 use Rattle.hunting.specs.declared.Answer.the-variants.{Read, Refused}
-use Rattle.dsr.specs.Entries.{answerNumbers, summaryNumbers, Told, numbers, refusal, Given, given, Returned, answered, returning}
+use Rattle.entries.specs.Entries.{answerNumbers, summaryNumbers, Told, numbers, refusal, Given, given, Returned, answered, returning}
 
 -- ---- the hunt: its number, and the three lent numbers
 pub record HuntReturned : Type 0 where

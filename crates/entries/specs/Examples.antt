@@ -22,8 +22,8 @@ use Rattle.bad_pairs.specs.BadPairs.{noteBy}
 use Rattle.notes.specs.Notes.{pairFails, framesOf, allFrames}
 use Rattle.header.specs.Reading.{reading}
 use Rattle.header.specs.Reading.Examples as H
-use Rattle.dsr.specs.Entries.{headerRead, packed, packing, unpacked, unpacking, returning, givenOf, dsrWrite}
-use Rattle.dsr.specs.Bits.{huntReturning, bitsGiven}
+use Rattle.entries.specs.Entries.{headerRead, packed, packing, unpacked, unpacking, returning, givenOf, dsrWrite}
+use Rattle.entries.specs.Bits.{huntReturning, bitsGiven}
 
 -- 16 kHz, noise robust, 2 multiframes, 30 frames of speech, 4 bad pairs, no end; 32 bits outside, 21 places tested
 abbrev pub talk : Outcome
