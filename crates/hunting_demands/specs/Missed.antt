@@ -45,7 +45,8 @@ use Rattle.hunt.specs.Laws.{searched-all}
 use Rattle.reader.specs.Reading as R
 use Rattle.reader.specs.declared.Answer.the-variants as RA
 use Rattle.refusals.specs.declared.Reading.the-variants.{Unsettled}
-use Rattle.hunting.specs.Hunting.{outsideOf, counted, outcome, huntingReading}
+use Rattle.gathering.specs.Gathering.{outsideOf}
+use Rattle.hunting.specs.Hunting.{counted, outcome, huntingReading}
 use Rattle.hunting.specs.declared.Answer.the-variants.{Read}
 use Rattle.writer.specs.Writing.{verdict, roomAnswer, firstFrom, frameCount, needed}
 use Rattle.writer.specs.Laws.{length-image}
