@@ -45,7 +45,8 @@ use Rattle.hunt.specs.Laws.{searched-all}
 use Rattle.reader.specs.Reading as R
 use Rattle.reader.specs.declared.Answer.the-variants as RA
 use Rattle.refusals.specs.declared.Reading.the-variants.{Unsettled}
-use Rattle.hunting.specs.Hunting.{outsideOf, counted, outcome, huntingReading}
+use Rattle.gathering.specs.Gathering.{outsideOf}
+use Rattle.hunting.specs.Hunting.{counted, outcome, huntingReading}
 use Rattle.hunting.specs.declared.Answer.the-variants.{Read}
 use Rattle.image.specs.Made.{Small, syncIn, wordIn, streamIn, packetIn, made, length-made, small-made, made-sync, made-word, made-stream}
 use Rattle.image.specs.Laws.{length-image, image-small, image-sync, image-word, image-stream}

@@ -45,7 +45,8 @@ use Rattle.reader.specs.Reading as R
 use Rattle.reader.specs.ReadingLaws.{Usable}
 use Rattle.reader.specs.declared.Answer.the-variants as RA
 use Rattle.refusals.specs.declared.Reading.the-variants.{Unsettled, IndexShort}
-use Rattle.hunting.specs.Hunting.{imageOf as foundImage, outsideOf, counted, Outcome, outcome, huntingReading}
+use Rattle.gathering.specs.Gathering.{imageOf as foundImage, outsideOf}
+use Rattle.hunting.specs.Hunting.{counted, Outcome, outcome, huntingReading}
 use Rattle.hunting.specs.Says.{nowhere-exactly}
 use Rattle.hunting.specs.declared.Answer.the-variants.{Refused}
 use Rattle.refusals.specs.declared.Hunting.{Hunting as Refusal}

@@ -30,9 +30,10 @@ use Rattle.notes.specs.Laws.{length-notes}
 use Rattle.reader.specs.Reading as R
 use Rattle.hunt.specs.Hunt.{sync, matches, readable, passes, multiframeBits}
 use Rattle.hunt.specs.Laws.{searched-le}
+use Rattle.gathering.specs.Gathering.{aligned, imageOf}
+use Rattle.gathering.specs.Laws.{Apart, length-aligned}
 use Rattle.hunting.specs.Hunting as G
-use Rattle.hunting.specs.Hunting.{aligned, imageOf, huntingReading}
-use Rattle.hunting.specs.Laws.{Apart, length-aligned}
+use Rattle.hunting.specs.Hunting.{huntingReading}
 use Rattle.hunting.specs.Says.{image-cut, success}
 use Rattle.hunting.specs.declared.Counted.{Counted}
 use Rattle.hunting.specs.declared.Answer.the-variants.{Read}

@@ -1,6 +1,6 @@
--- What a reader of 02 would ask of the hunting reading.
+-- What a reader of 02 would ask of finding the multiframes.
 -- Assumes nothing.
-use Prim.Native.Nat.{ℕ, zero, suc, _+_, _*_, _≤_, _<_}
+use Prim.Native.Nat.{ℕ, zero, suc, _+_, _-_, _*_, _≤_, _<_}
 use mathlib.Core.Path.{_≡_, refl, sym, ap, _∙_}
 use mathlib.Core.Logic.{_⊎_, inl, inr}
 use mathlib.Core.List.{List, [], _∷_, _++_, append-assoc}
@@ -9,14 +9,14 @@ use native.Mathlib.Decide.{decLt, ℕ-discrete}
 use native.Mathlib.Omega.{arith}
 use lib.ListN.{length, length-append}
 use Rattle.lists.specs.Tests.{true-false}
-use Rattle.layout.specs.Layout.{multiframeOctets}
+use Rattle.layout.specs.Layout.{syncOctets, multiframeOctets}
 use Rattle.bits.specs.Laws.{length-octets}
 use Rattle.hunt.specs.Hunt.{multiframeBits, searched, passes, huntedFrom}
 use Rattle.hunt.specs.Laws.{Says, says}
 use Rattle.hunt.specs.declared.Hunted.{Hunted}
 use Rattle.hunt.specs.declared.Hunted.the-variants as H
 use Rattle.refusals.specs.declared.Hunt.the-variants as HR
-use Rattle.hunting.specs.Hunting.{Ending, whole, tooMany, Gathering, step, last, gathering, aligned, imageOf}
+use Rattle.gathering.specs.Gathering.{Ending, whole, tooMany, Gathering, step, last, gathering, aligned, imageOf}
 
 -- some place of the list is t
 abbrev pub Among : ℕ → List ℕ → Type 0
@@ -93,7 +93,7 @@ module _ (l : List Bool) (least : ℕ) where
 -- ---- the image
 pub length-aligned : (s : List ℕ) (p : ℕ) → length (aligned s p) ≡ multiframeOctets
 unfolding aligned
-length-aligned s p = ap (λ (n : ℕ). suc (suc n)) (length-octets 142 _)
+length-aligned s p = ap (λ (n : ℕ). suc (suc n)) (length-octets (multiframeOctets - syncOctets) _)
 
 pub length-image : (s ps : List ℕ) → length (imageOf s ps) ≡ multiframeOctets * length ps
 unfolding imageOf

@@ -8,12 +8,12 @@ use Rattle.layout.specs.Layout.{multiframeOctets}
 use Rattle.bits.specs.Bits.{bits}
 use Rattle.bits.specs.Laws.{length-bits}
 use Rattle.hunt.specs.Laws.{searched-le, searched-lt}
-use Rattle.hunting.proofs.Steps.{put-is}
+use Rattle.gathering.proofs.Steps.{put-is}
 use borrow.Author.Needs.{needs}
-use Rattle.hunting.proofs.put_found.Statement.{statement}
-use Rattle.hunting.proofs.put_found.Tie as tie
-use Rattle.hunting.proofs.put_found.Reads as reads
-use Rattle.hunting.proofs.put_found.Lts as lts
+use Rattle.gathering.proofs.put_found.Statement.{statement}
+use Rattle.gathering.proofs.put_found.Tie as tie
+use Rattle.gathering.proofs.put_found.Reads as reads
+use Rattle.gathering.proofs.put_found.Lts as lts
 use Rattle.bits.proofs.copy.Reads as copy-reads
 
 mul-at : tie.Need-mul-at

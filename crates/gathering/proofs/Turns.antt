@@ -16,10 +16,10 @@ use Rattle.hunt.specs.declared.Hunted.{Hunted}
 use Rattle.hunt.specs.declared.Hunted.the-variants as H
 use Rattle.refusals.specs.declared.Hunt.{Hunt as Refusal}
 use Rattle.refusals.specs.declared.Hunt.the-variants as HR
-use Rattle.hunting.specs.Hunting.{Ending, whole, tooMany, Gathering, ended, prepend, step, last, gathering, aligned, imageOf, answeredBy, answered, LaidBy, Laid}
-use Rattle.hunting.specs.Laws.{length-aligned, image-more}
-use Rattle.hunting.specs.declared.Gathered.{Gathered}
-use Rattle.hunting.specs.declared.Gathered.the-variants as G
+use Rattle.gathering.specs.Gathering.{Ending, whole, tooMany, Gathering, ended, prepend, step, last, gathering, aligned, imageOf, answeredBy, answered, LaidBy, Laid}
+use Rattle.gathering.specs.Laws.{length-aligned, image-more}
+use Rattle.gathering.specs.declared.Gathered.{Gathered}
+use Rattle.gathering.specs.declared.Gathered.the-variants as G
 
 -- ---- the recursion, by what the hunt answers
 module _ (l : List Bool) (least at : ℕ) where

@@ -8,13 +8,13 @@ use denote.Ref.{now}
 use Rattle.layout.specs.Layout.{mostMultiframes}
 use Rattle.bits.specs.Bits.{bits}
 use Rattle.hunt.specs.Laws.{searched-lt}
-use Rattle.hunting.proofs.Turns.{Going, begun, room-for-more, in-bits, few-tested, going-on, too-many, few-tested-last, finished}
-use Rattle.hunting.proofs.gather.Statement.{statement}
-use Rattle.hunting.proofs.gather.Tie as tie
-use Rattle.hunting.proofs.gather.Reads as reads
-use Rattle.hunting.proofs.gather.Lts as lts
+use Rattle.gathering.proofs.Turns.{Going, begun, room-for-more, in-bits, few-tested, going-on, too-many, few-tested-last, finished}
+use Rattle.gathering.proofs.gather.Statement.{statement}
+use Rattle.gathering.proofs.gather.Tie as tie
+use Rattle.gathering.proofs.gather.Reads as reads
+use Rattle.gathering.proofs.gather.Lts as lts
 use Rattle.hunt.proofs.seek.Reads as seek-reads
-use Rattle.hunting.proofs.put_found.Reads as put-found-reads
+use Rattle.gathering.proofs.put_found.Reads as put-found-reads
 
 abbrev Inv-loop : tie.InvT-loop
 Inv-loop octets from least image₀ m₀ at₀ tested₀ image m at tested = Going octets from least image m at tested × (length image ≡ length image₀)
