@@ -12,7 +12,7 @@ use Rattle.refusals.specs.declared.Reading.the-variants.{CutShort, IndexShort, 
 use Rattle.reader.specs.declared.Answer.the-variants.{Read, Refused}
 use Rattle.writer.specs.Writing as W
 use Rattle.writer.specs.Writing.{firstFrom, roomAnswer, writing}
-use Rattle.dsr.specs.Entries.{returning, givenOf, dsrWrite, dsrRead}
+use Rattle.entries.specs.Entries.{returning, givenOf, dsrWrite, dsrRead}
 use Rattle.consistency.specs.Tables.{tablesOf, tablesRight}
 
 -- 16 kHz, noise robust, 2 multiframes, 30 frames of speech, 4 bad pairs, end

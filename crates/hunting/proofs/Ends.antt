@@ -13,9 +13,10 @@ use Rattle.hunt.specs.Hunt.{multiframeBits, inRange, searched}
 use Rattle.reader.specs.Reading as R
 use Rattle.reader.specs.declared.Answer.{Answer as OctetAnswer}
 use Rattle.refusals.specs.declared.Reading.the-variants.{WrongTables}
-use Rattle.hunting.specs.Hunting.{Ending, whole, tooMany, Gathering, gathering, outsideOf, imageOf, answeredBy, answered, LaidBy, Laid, Outcome, outcome, withCounts, counted, readingBy, readingFound, huntingReading}
-use Rattle.hunting.specs.Laws.{room-for, at-most, apart}
-use Rattle.hunting.specs.declared.Gathered.the-variants as G
+use Rattle.gathering.specs.Gathering.{Ending, whole, tooMany, Gathering, gathering, outsideOf, imageOf, answeredBy, answered, LaidBy, Laid}
+use Rattle.gathering.specs.Laws.{room-for, at-most, apart}
+use Rattle.gathering.specs.declared.Gathered.the-variants as G
+use Rattle.hunting.specs.Hunting.{Outcome, outcome, withCounts, counted, readingBy, readingFound, huntingReading}
 use Rattle.refusals.specs.declared.Hunting.the-variants.{Octets, MatchRange, Nowhere, TooMany}
 use Rattle.hunting.specs.declared.Answer.the-variants.{Refused}
 

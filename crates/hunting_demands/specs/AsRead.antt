@@ -19,13 +19,15 @@ use Rattle.hunt.specs.Hunt.{fewestMatches, syncBits, multiframeBits, sync, matc
 use Rattle.reader.specs.Reading as R
 use Rattle.reader.specs.declared.Summary.{Summary}
 use Rattle.reader.specs.declared.Answer.{Answer}
+use Rattle.gathering.specs.Gathering.{imageOf as foundImage, outsideOf}
 use Rattle.hunting.specs.Hunting as G
-use Rattle.hunting.specs.Hunting.{outsideOf, counted, huntingReading}
+use Rattle.hunting.specs.Hunting.{counted, huntingReading}
 use Rattle.hunting.specs.declared.Counted.{Counted}
 use Rattle.hunting.specs.declared.Answer.the-variants.{Read}
-use Rattle.writer.specs.Laws.{few-multiframes, length-image}
-use Rattle.writer.specs.Made.{Small, syncIn, wordIn, streamIn, framed, made-again}
-use Rattle.writer.specs.Image.{image-sync, Utterance, multiframesOf, imageOf, is-accepted}
+use Rattle.image.specs.Made.{Small, syncIn, wordIn, streamIn, framed, made-again}
+use Rattle.image.specs.Laws.{length-image, image-sync}
+use Rattle.writer.specs.Laws.{few-multiframes}
+use Rattle.writer.specs.Utterance.{Utterance, multiframesOf, imageOf, is-accepted}
 use Rattle.demands.specs.Damage.{Damage, header-read}
 use Rattle.demands.specs.NamesTheDamage as N
 use Rattle.hunting_demands.specs.Standing.{placeInRow, row, syncAt, wordAt, streamAt, at-most-all, passes-there, InARow, testedInRow, reads-in-a-row, image-made}
@@ -43,7 +45,7 @@ pub record Stands (img : List ℕ) (m : ℕ) (s : List ℕ) (at : ℕ) : Type 0 
 
 module _ (img : List ℕ) (m : ℕ) (w : Multiframes img m) (s : List ℕ) (at : ℕ) (there : Stands img m s at) where
   -- put together they are those octets again
-  pub put-together : at + multiframeBits * m ≤ searched (bits s) → G.imageOf s (row at m) ≡ img
+  pub put-together : at + multiframeBits * m ≤ searched (bits s) → foundImage s (row at m) ≡ img
   put-together inside =
       image-made s at m inside
       ∙ same-joined (λ k. framed (wordAt (bits s) (placeInRow at k)) (streamAt (bits s) (placeInRow at k))) (λ k. framed (wordIn img k) (bits (streamIn img k))) m

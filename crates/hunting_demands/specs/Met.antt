@@ -22,10 +22,12 @@ use Rattle.bits.specs.Laws.{length-bits, bits-part, bits-octets}
 use Rattle.crc.specs.Crc.{flip}
 use Rattle.hunt.specs.Hunt.{syncBits, multiframeBits, fewestMatches, sync, matches, passes, searched}
 use Rattle.hunt.specs.Laws.{searched-all}
-use Rattle.hunting.specs.Hunting.{outsideOf, Outcome, outcome, huntingReading}
+use Rattle.gathering.specs.Gathering.{outsideOf}
+use Rattle.hunting.specs.Hunting.{Outcome, outcome, huntingReading}
 use Rattle.hunting.specs.declared.Answer.the-variants.{Read}
-use Rattle.writer.specs.Laws.{few-multiframes, length-image}
-use Rattle.writer.specs.Image.{image-sync, Utterance, multiframesOf, imageOf, is-accepted}
+use Rattle.image.specs.Laws.{length-image, image-sync}
+use Rattle.writer.specs.Laws.{few-multiframes}
+use Rattle.writer.specs.Utterance.{Utterance, multiframesOf, imageOf, is-accepted}
 use Rattle.demands.specs.Whole.{Lent}
 use Rattle.demands.specs.ReadsBack.{spoken, padded}
 use Rattle.demands.specs.Met.{indexFor, reportFor, lent-zeros, says24, two-multiframes}

@@ -30,13 +30,14 @@ use Rattle.notes.specs.Laws.{length-notes}
 use Rattle.reader.specs.Reading as R
 use Rattle.hunt.specs.Hunt.{sync, matches, readable, passes, multiframeBits}
 use Rattle.hunt.specs.Laws.{searched-le}
+use Rattle.gathering.specs.Gathering.{aligned, imageOf}
+use Rattle.gathering.specs.Laws.{Apart, length-aligned}
 use Rattle.hunting.specs.Hunting as G
-use Rattle.hunting.specs.Hunting.{aligned, imageOf, huntingReading}
-use Rattle.hunting.specs.Laws.{Apart, length-aligned}
+use Rattle.hunting.specs.Hunting.{huntingReading}
 use Rattle.hunting.specs.Says.{image-cut, success}
 use Rattle.hunting.specs.declared.Counted.{Counted}
 use Rattle.hunting.specs.declared.Answer.the-variants.{Read}
-use Rattle.writer.specs.Made.{wordIn, framed, length-framed, framed-header}
+use Rattle.image.specs.Made.{wordIn, framed, length-framed, framed-header}
 use Rattle.demands.specs.Whole.{rowOf, readings-are, headerNoteIn, header-note-is}
 use Rattle.demands.specs.WritesAgain as A
 use Rattle.hunting_demands.specs.Standing.{wordAt, streamAt, aligned-framed}

@@ -25,10 +25,11 @@ use Rattle.hunt.specs.Laws.{in-range, searched-le, says, once, nowhere-exactly}
 use Rattle.hunt.specs.declared.Hunted.{Hunted}
 use Rattle.hunt.specs.declared.Hunted.the-variants as H
 use Rattle.reader.specs.Reading as R
-use Rattle.hunting.specs.Hunting.{Ending, whole, ended, prepend, step, last, gathering, outsideOf, aligned, imageOf, counted, readingBy, readingFound, huntingReading}
-use Rattle.hunting.specs.Laws.{image-more}
-use Rattle.hunting.specs.Says.{nothing-found}
-use Rattle.writer.specs.Made.{Small, syncIn, wordIn, streamIn, framed, made, length-made, small-made, made-sync, made-word, made-stream}
+use Rattle.gathering.specs.Gathering.{Ending, whole, ended, prepend, step, last, gathering, outsideOf, aligned, imageOf}
+use Rattle.gathering.specs.Laws.{image-more}
+use Rattle.gathering.specs.Says.{nothing-found}
+use Rattle.hunting.specs.Hunting.{counted, readingBy, readingFound, huntingReading}
+use Rattle.image.specs.Made.{Small, syncIn, wordIn, streamIn, framed, made, length-made, small-made, made-sync, made-word, made-stream}
 
 -- ---- places
 -- the k-th of multiframes that stand one behind the other from bit `at` on
