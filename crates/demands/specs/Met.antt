@@ -31,11 +31,11 @@ use Rattle.header_code.specs.Code.Distance.{codeword-lt}
 use Rattle.header.specs.Message.Laws.{message-lt}
 use Rattle.header.specs.Reading.Laws.{flips-of}
 use Rattle.reader.specs.Reading.{Outcome, reading}
+use Rattle.image.specs.Made.{Small, made, made-packet}
+use Rattle.image.specs.Laws.{length-image, image-small, image-packet}
 use Rattle.writer.specs.Writing.{verdict, roomAnswer, firstFrom, frameCount, needed, writing}
 use Rattle.writer.specs.Writing as W
-use Rattle.writer.specs.Laws.{length-image}
-use Rattle.writer.specs.Made.{Small, made, made-packet}
-use Rattle.writer.specs.Image.{image-small, image-packet, Utterance, multiframesOf, imageOf, whole-frames, writes}
+use Rattle.writer.specs.Utterance.{Utterance, multiframesOf, imageOf, whole-frames, writes}
 use Rattle.writer.specs.declared.Answer.the-variants.{Written}
 use Rattle.demands.specs.Damage.{Damage, sentMessage}
 use Rattle.demands.specs.Damages.{damage-made}

@@ -29,7 +29,7 @@ use Rattle.reader.specs.ReadingLaws.{Usable, Fitting, Accepted, accepting, leng
 use Rattle.reader.specs.declared.Verdict.{Verdict}
 use Rattle.refusals.specs.declared.Reading.the-variants.{Unsettled, AllBad}
 use Rattle.reader.specs.declared.Answer.the-variants.{Read, Refused}
-use Rattle.writer.specs.Made.{syncIn, wordIn, packetIn, streamIn}
+use Rattle.image.specs.Made.{syncIn, wordIn, packetIn, streamIn}
 
 -- the places of m multiframes, one behind the other
 abbrev pub rowOf : ℕ → List ℕ

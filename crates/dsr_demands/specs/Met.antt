@@ -13,10 +13,10 @@ use Rattle.layout.specs.Layout.{frameIndices, multiframeOctets, reportOctets}
 use Rattle.hunt.specs.Hunt.{fewestMatches}
 use Rattle.reader.specs.Reading.{Outcome, reading}
 use Rattle.writer.specs.Writing as W
+use Rattle.image.specs.Laws.{length-image}
 use Rattle.writer.specs.Writing.{needed, writing}
 use Rattle.writer.specs.declared.Answer.the-variants.{Written}
-use Rattle.writer.specs.Laws.{length-image}
-use Rattle.writer.specs.Image.{Utterance, multiframesOf, imageOf, writes}
+use Rattle.writer.specs.Utterance.{Utterance, multiframesOf, imageOf, writes}
 use Rattle.entries.specs.Entries.{answerNumbers, summaryNumbers, Returned, returned, dsrWrite, dsrRead}
 use Rattle.entries.specs.Bits.{dsrReadBits}
 use Rattle.demands.specs.Damage.{DamageUpTo, headerBits, loosened, headerFlips}

@@ -22,7 +22,7 @@ use Rattle.reader.specs.declared.Summary.{Summary}
 use Rattle.reader.specs.declared.Answer.{Answer}
 use Rattle.reader.specs.declared.Answer.the-variants.{Read}
 use Rattle.writer.specs.Writing.{frameCount}
-use Rattle.writer.specs.Image.{Utterance, multiframesOf, pairsOf, imageOf, whole-frames}
+use Rattle.writer.specs.Utterance.{Utterance, multiframesOf, pairsOf, imageOf, whole-frames}
 use Rattle.entries.specs.Entries.{answerNumbers, summaryNumbers, Returned, returned, dsrRead}
 use Rattle.demands.specs.Damage.{DamageUpTo, Touched, headerFlips}
 use Rattle.demands.specs.Whole.{front-at, pairNoteIn}

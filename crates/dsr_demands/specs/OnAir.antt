@@ -13,7 +13,7 @@ use lib.Dec.{lit≤}
 use lib.ListN.{length, getD, List·getD-eq-default, drop, replicate}
 use lib.Seq.{getD-take, getD-drop}
 use Rattle.hunting_demands.specs.HuntsBack.{receivedFlips}
-use Rattle.writer.specs.Made.{packetIn}
+use Rattle.image.specs.Made.{packetIn}
 use Rattle.lists.specs.Rows.{joined, length-joined, joined-part}
 use Rattle.lists.specs.Parts.{over}
 use Rattle.layout.specs.Layout.{indexOctets, reportOctets, multiframePairs}
@@ -30,7 +30,7 @@ use Rattle.hunting.specs.Says as F
 use Rattle.hunting.specs.declared.Counted.{Counted}
 use Rattle.hunting.specs.declared.Answer.the-variants.{Read}
 use Rattle.writer.specs.Writing.{frameCount}
-use Rattle.writer.specs.Image.{Utterance, multiframesOf, imageOf, whole-frames, pairsOf}
+use Rattle.writer.specs.Utterance.{Utterance, multiframesOf, imageOf, whole-frames, pairsOf}
 use Rattle.entries.specs.Entries.{Returned}
 use Rattle.entries.specs.Bits.{countedNumbers, numbersOf, dsrReadBits}
 use Rattle.demands.specs.Damage.{headerFlips}

@@ -16,7 +16,7 @@ use Rattle.hunt.specs.Hunt.{fewestMatches}
 use Rattle.reader.specs.Reading.{reading}
 use Rattle.reader.specs.declared.Summary.{Summary}
 use Rattle.reader.specs.declared.Answer.the-variants.{Read}
-use Rattle.writer.specs.Image.{Utterance, multiframesOf, imageOf}
+use Rattle.writer.specs.Utterance.{Utterance, multiframesOf, imageOf}
 use Rattle.entries.specs.Entries.{answerNumbers, Returned, dsrRead}
 use Rattle.entries.specs.Bits.{dsrReadBits}
 use Rattle.demands.specs.Damage.{loosened, headerFlips, DamageUpTo}

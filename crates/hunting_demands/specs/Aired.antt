@@ -27,9 +27,10 @@ use Rattle.header.specs.Message.Laws.{message-lt}
 use Rattle.header.specs.Reading.Laws.{flips-of}
 use Rattle.hunt.specs.Hunt.{syncBits, headerBits, multiframeBits, fewestMatches, sync, matches, passes, searched}
 use Rattle.hunt.specs.Laws.{searched-all}
+use Rattle.image.specs.Made.{packetIn, made-packet}
+use Rattle.image.specs.Laws.{image-word, image-packet}
 use Rattle.writer.specs.Laws.{few-multiframes}
-use Rattle.writer.specs.Made.{packetIn, made-packet}
-use Rattle.writer.specs.Image.{image-word, image-packet, Utterance, multiframesOf, pairsOf, imageOf, is-accepted}
+use Rattle.writer.specs.Utterance.{Utterance, multiframesOf, pairsOf, imageOf, is-accepted}
 use Rattle.demands.specs.Damage.{sentMessage}
 use Rattle.demands.specs.Received.{BadPair}
 use Rattle.demands.specs.Met.{zeroTables, zero-consistent, indexFor, reportFor, lent-zeros, hurtWord, hurtStream, hurtImage, length-hurt, part-on, hurts, says24, two-multiframes}

@@ -24,9 +24,10 @@ use Rattle.hunting.specs.Hunting as G
 use Rattle.hunting.specs.Hunting.{counted, huntingReading}
 use Rattle.hunting.specs.declared.Counted.{Counted}
 use Rattle.hunting.specs.declared.Answer.the-variants.{Read}
-use Rattle.writer.specs.Laws.{few-multiframes, length-image}
-use Rattle.writer.specs.Made.{Small, syncIn, wordIn, streamIn, framed, made-again}
-use Rattle.writer.specs.Image.{image-sync, Utterance, multiframesOf, imageOf, is-accepted}
+use Rattle.image.specs.Made.{Small, syncIn, wordIn, streamIn, framed, made-again}
+use Rattle.image.specs.Laws.{length-image, image-sync}
+use Rattle.writer.specs.Laws.{few-multiframes}
+use Rattle.writer.specs.Utterance.{Utterance, multiframesOf, imageOf, is-accepted}
 use Rattle.demands.specs.Damage.{Damage, header-read}
 use Rattle.demands.specs.NamesTheDamage as N
 use Rattle.hunting_demands.specs.Standing.{placeInRow, row, syncAt, wordAt, streamAt, at-most-all, passes-there, InARow, testedInRow, reads-in-a-row, image-made}

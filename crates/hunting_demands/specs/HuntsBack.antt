@@ -25,10 +25,11 @@ use Rattle.gathering.specs.Gathering.{imageOf as foundImage, outsideOf}
 use Rattle.hunting.specs.Hunting as G
 use Rattle.hunting.specs.Hunting.{counted, outcome, huntingReading}
 use Rattle.hunting.specs.declared.Answer.the-variants.{Read}
-use Rattle.writer.specs.Laws.{few-multiframes, length-image}
-use Rattle.writer.specs.Made.{wordIn, streamIn, packetIn}
-use Rattle.writer.specs.Image as I
-use Rattle.writer.specs.Image.{Utterance, multiframesOf, pairsOf, imageOf, is-accepted}
+use Rattle.image.specs.Made.{wordIn, streamIn, packetIn}
+use Rattle.image.specs.Laws.{length-image}
+use Rattle.writer.specs.Laws.{few-multiframes}
+use Rattle.image.specs.Laws as I
+use Rattle.writer.specs.Utterance.{Utterance, multiframesOf, pairsOf, imageOf, is-accepted}
 use Rattle.demands.specs.Damage.{Damage, headerFlips, header-read}
 use Rattle.demands.specs.Damages.{unharmed}
 use Rattle.demands.specs.Whole.{Lent}

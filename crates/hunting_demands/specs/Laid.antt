@@ -15,7 +15,7 @@ use Rattle.layout.specs.Layout.{multiframeOctets}
 use Rattle.bits.specs.Bits.{field, value, bits, octets}
 use Rattle.bits.specs.Laws.{length-field, value-field, bits-octets}
 use Rattle.hunt.specs.Hunt.{syncBits, headerBits, multiframeBits}
-use Rattle.writer.specs.Made.{part-within}
+use Rattle.image.specs.Made.{part-within}
 use Rattle.hunting_demands.specs.Standing.{placeInRow, streamBits, syncAt, wordAt, streamAt}
 
 -- sixteen bits, a header word and a stream

@@ -25,8 +25,9 @@ use Rattle.hunt.specs.Laws.{searched-all}
 use Rattle.gathering.specs.Gathering.{outsideOf}
 use Rattle.hunting.specs.Hunting.{Outcome, outcome, huntingReading}
 use Rattle.hunting.specs.declared.Answer.the-variants.{Read}
-use Rattle.writer.specs.Laws.{few-multiframes, length-image}
-use Rattle.writer.specs.Image.{image-sync, Utterance, multiframesOf, imageOf, is-accepted}
+use Rattle.image.specs.Laws.{length-image, image-sync}
+use Rattle.writer.specs.Laws.{few-multiframes}
+use Rattle.writer.specs.Utterance.{Utterance, multiframesOf, imageOf, is-accepted}
 use Rattle.demands.specs.Whole.{Lent}
 use Rattle.demands.specs.ReadsBack.{spoken, padded}
 use Rattle.demands.specs.Met.{zeroTables, indexFor, reportFor, lent-zeros, says24, two-multiframes}

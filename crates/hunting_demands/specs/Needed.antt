@@ -51,9 +51,10 @@ use Rattle.hunting.specs.Says.{nowhere-exactly}
 use Rattle.hunting.specs.declared.Answer.the-variants.{Refused}
 use Rattle.refusals.specs.declared.Hunting.{Hunting as Refusal}
 use Rattle.refusals.specs.declared.Hunting.the-variants.{Octets, MatchRange, Nowhere}
+use Rattle.image.specs.Made.{syncIn, wordIn, streamIn, packetIn, made-packet}
+use Rattle.image.specs.Laws.{image-packet}
 use Rattle.writer.specs.Laws.{few-multiframes}
-use Rattle.writer.specs.Made.{syncIn, wordIn, streamIn, packetIn, made-packet}
-use Rattle.writer.specs.Image.{image-packet, Utterance, multiframesOf, imageOf, is-accepted, rate-not-2}
+use Rattle.writer.specs.Utterance.{Utterance, multiframesOf, imageOf, is-accepted, rate-not-2}
 use Rattle.demands.specs.Damage.{Touched, sentMessage, differs}
 use Rattle.demands.specs.Whole.{Lent, rowOf, readings-are, cut-is, pairNoteIn, front-at, refuses-16}
 use Rattle.demands.specs.Headers.{sentCommon, common-sent, rate-sent, exp-sent}

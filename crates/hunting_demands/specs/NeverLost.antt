@@ -37,7 +37,7 @@ use Rattle.hunting.specs.Hunting.{huntingReading}
 use Rattle.hunting.specs.Says.{image-cut, success}
 use Rattle.hunting.specs.declared.Counted.{Counted}
 use Rattle.hunting.specs.declared.Answer.the-variants.{Read}
-use Rattle.writer.specs.Made.{wordIn, framed, length-framed, framed-header}
+use Rattle.image.specs.Made.{wordIn, framed, length-framed, framed-header}
 use Rattle.demands.specs.Whole.{rowOf, readings-are, headerNoteIn, header-note-is}
 use Rattle.demands.specs.WritesAgain as A
 use Rattle.hunting_demands.specs.Standing.{wordAt, streamAt, aligned-framed}

@@ -19,10 +19,11 @@ use Rattle.crc.specs.Crc.{Damaged}
 use Rattle.hunt.specs.Hunt.{fewestMatches, multiframeBits, sync, matches, passes, searched}
 use Rattle.header.specs.Reading.{reading}
 use Rattle.gathering.specs.Gathering.{Gathering, gathering, imageOf as foundImage}
-use Rattle.writer.specs.Laws.{few-multiframes, length-image}
-use Rattle.writer.specs.Made.{syncIn, wordIn, packetIn}
-use Rattle.writer.specs.Image as I
-use Rattle.writer.specs.Image.{Utterance, multiframesOf, pairsOf, imageOf, is-accepted}
+use Rattle.image.specs.Made.{syncIn, wordIn, packetIn}
+use Rattle.image.specs.Laws.{length-image}
+use Rattle.writer.specs.Laws.{few-multiframes}
+use Rattle.image.specs.Laws as I
+use Rattle.writer.specs.Utterance.{Utterance, multiframesOf, pairsOf, imageOf, is-accepted}
 use Rattle.demands.specs.Damage.{Damage, headerFlips, header-read}
 use Rattle.demands.specs.Whole.{Lent}
 use Rattle.demands.specs.Received.{BadPair}

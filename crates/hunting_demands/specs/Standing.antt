@@ -29,7 +29,7 @@ use Rattle.gathering.specs.Gathering.{Ending, whole, ended, prepend, step, last
 use Rattle.gathering.specs.Laws.{image-more}
 use Rattle.gathering.specs.Says.{nothing-found}
 use Rattle.hunting.specs.Hunting.{counted, readingBy, readingFound, huntingReading}
-use Rattle.writer.specs.Made.{Small, syncIn, wordIn, streamIn, framed, made, length-made, small-made, made-sync, made-word, made-stream}
+use Rattle.image.specs.Made.{Small, syncIn, wordIn, streamIn, framed, made, length-made, small-made, made-sync, made-word, made-stream}
 
 -- ---- places
 -- the k-th of multiframes that stand one behind the other from bit `at` on

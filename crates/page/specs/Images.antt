@@ -26,10 +26,12 @@ use Rattle.header_code.specs.Code.Distance.{codeword-lt}
 use Rattle.header_code.specs.Code.Examples as C
 use Rattle.header.specs.Message.{message}
 use Rattle.header.specs.Message.Laws.{message-lt, message-nothing, message-rate-1, count-mod}
-use Rattle.writer.specs.Writing.{firstFrom, roomAnswer, verdict, image, outcome, writing}
+use Rattle.image.specs.Image.{image}
+use Rattle.image.specs.Made.{Small, headerIn}
+use Rattle.image.specs.Laws.{image-header}
+use Rattle.writer.specs.Writing.{firstFrom, roomAnswer, verdict, outcome, writing}
 use Rattle.writer.specs.declared.Answer.the-variants.{Written}
-use Rattle.writer.specs.Made.{Small, headerIn}
-use Rattle.writer.specs.Image.{image-header, Utterance, writes}
+use Rattle.writer.specs.Utterance.{Utterance, writes}
 use Rattle.reader.specs.Reading.{reading}
 use Rattle.reader.specs.Reading as R
 use Rattle.reader.specs.declared.Answer.the-variants.{Read}

@@ -46,9 +46,9 @@ use Rattle.refusals.specs.Refusals.{readingNumber, readingPlace}
 use Rattle.refusals.specs.declared.Reading.{Reading as Refusal}
 use Rattle.refusals.specs.declared.Reading.the-variants.{WrongTables, Empty, Unsettled, Unfit, IndexShort, ReportShort, AllBad}
 use Rattle.reader.specs.declared.Answer.the-variants.{Refused}
+use Rattle.image.specs.Made.{wordIn, part-within}
 use Rattle.writer.specs.Writing.{firstFrom, roomAnswer, verdict, needed}
-use Rattle.writer.specs.Made.{wordIn, part-within}
-use Rattle.writer.specs.Image.{Utterance}
+use Rattle.writer.specs.Utterance.{Utterance}
 use Rattle.writer.specs.declared.Answer.the-variants.{Written}
 use Rattle.demands.specs.Whole.{rowOf, cut-is, readings-are}
 use Rattle.demands.specs.ReadsBack.{reads-image}

@@ -27,8 +27,8 @@ use Rattle.replacing.specs.Speech.{endOf}
 use Rattle.reader.specs.Reading.{indexPart, reportPart, summary, Outcome, outcome, reading, receivedFrames, receivedNotes}
 use Rattle.reader.specs.declared.Summary.{Summary}
 use Rattle.reader.specs.declared.Answer.the-variants.{Read}
-use Rattle.writer.specs.Made.{packetIn}
-use Rattle.writer.specs.Image.{Utterance, multiframesOf, pairsOf, imageOf}
+use Rattle.image.specs.Made.{packetIn}
+use Rattle.writer.specs.Utterance.{Utterance, multiframesOf, pairsOf, imageOf}
 use Rattle.demands.specs.Damage.{Damage, Fate, whole, hit, fate, not-touched}
 use Rattle.demands.specs.Whole.{rowOf, pairNoteIn, pair-note-is}
 use Rattle.demands.specs.Headers.{sentCommon}

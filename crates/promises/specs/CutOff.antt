@@ -44,9 +44,9 @@ use Rattle.reader.specs.Reading.{indexPart, reportPart, summary, Outcome, outco
 use Rattle.reader.specs.ReadingLaws.{Accepted}
 use Rattle.reader.specs.declared.Summary.{Summary}
 use Rattle.reader.specs.declared.Answer.the-variants.{Read, Refused}
-use Rattle.writer.specs.Laws.{length-image}
-use Rattle.writer.specs.Made.{wordIn, packetIn}
-use Rattle.writer.specs.Image.{image-packet, Utterance, multiframesOf, imageOf, whole-frames}
+use Rattle.image.specs.Made.{wordIn, packetIn}
+use Rattle.image.specs.Laws.{length-image, image-packet}
+use Rattle.writer.specs.Utterance.{Utterance, multiframesOf, imageOf, whole-frames}
 use Rattle.demands.specs.Damage.{Damage, headerFlips, header-near}
 use Rattle.demands.specs.Damages.{unharmed}
 use Rattle.demands.specs.Whole.{rowOf, Lent, nothing-replaced}

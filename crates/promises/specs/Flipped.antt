@@ -48,11 +48,12 @@ use Rattle.bad_pairs.specs.Laws.{Good, none-good, badBefore, note-at, consisten
 use Rattle.reader.specs.Reading.{indexPart, reportPart, summary, Outcome, outcome, reading, receivedNotes}
 use Rattle.reader.specs.ReadingLaws.{Usable}
 use Rattle.reader.specs.declared.Answer.the-variants.{Read}
+use Rattle.image.specs.Made.{syncIn, wordIn, packetIn, made, framed, length-made, made-sync, made-word, made-packet}
+use Rattle.image.specs.Laws.{length-image, image-sync, image-packet}
 use Rattle.writer.specs.Writing.{verdict, needed}
 use Rattle.writer.specs.declared.Answer.the-variants.{Written}
-use Rattle.writer.specs.Laws.{few-multiframes, length-image, accepts}
-use Rattle.writer.specs.Made.{syncIn, wordIn, packetIn, made, framed, length-made, made-sync, made-word, made-packet}
-use Rattle.writer.specs.Image.{image-sync, image-packet, Utterance, multiframesOf, pairsOf, imageOf, is-accepted, kind-small, rate-not-2}
+use Rattle.writer.specs.Laws.{few-multiframes, accepts}
+use Rattle.writer.specs.Utterance.{Utterance, multiframesOf, pairsOf, imageOf, is-accepted, kind-small, rate-not-2}
 use Rattle.demands.specs.Damage.{DamageUpTo, Touched, differs, headerFlips, sentMessage, header-near, header-read}
 use Rattle.demands.specs.Damages.{damage-up-to}
 use Rattle.demands.specs.Whole.{rowOf, Lent, pairNoteIn, packet-at, readings-are, reads-as}

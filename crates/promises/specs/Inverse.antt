@@ -18,9 +18,10 @@ use Rattle.refusals.specs.declared.Reading.the-variants as RR
 use Rattle.reader.specs.Reading.{Outcome, reading}
 use Rattle.reader.specs.declared.Summary.{Summary}
 use Rattle.reader.specs.declared.Answer.the-variants.{Read, Refused}
-use Rattle.writer.specs.Laws.{few-multiframes, length-image}
-use Rattle.writer.specs.Made.{syncIn}
-use Rattle.writer.specs.Image.{image-sync, Utterance, multiframesOf, imageOf, is-accepted}
+use Rattle.image.specs.Made.{syncIn}
+use Rattle.image.specs.Laws.{length-image, image-sync}
+use Rattle.writer.specs.Laws.{few-multiframes}
+use Rattle.writer.specs.Utterance.{Utterance, multiframesOf, imageOf, is-accepted}
 use Rattle.demands.specs.Damage.{Damage}
 use Rattle.demands.specs.Whole.{rowOf, cut-is}
 use Rattle.demands.specs.Met.{zeroTables, indexFor, reportFor, lent-zeros, hurtImage, hurts, says24, two-multiframes, names-says24}

@@ -39,9 +39,10 @@ use Rattle.notes.specs.Laws.{length-notes}
 use Rattle.reader.specs.Reading.{indexPart, reportPart, summary, Outcome, outcome, reading}
 use Rattle.reader.specs.declared.Summary.{Summary}
 use Rattle.reader.specs.declared.Answer.the-variants.{Read}
+use Rattle.image.specs.Made.{Small, wordIn, packetIn, framed, made}
+use Rattle.image.specs.Laws.{image-packet}
 use Rattle.writer.specs.Writing.{verdict, roomAnswer, firstFrom, frameCount, needed}
-use Rattle.writer.specs.Made.{Small, wordIn, packetIn, framed, made}
-use Rattle.writer.specs.Image.{image-packet, Utterance, multiframesOf, pairsOf, imageOf}
+use Rattle.writer.specs.Utterance.{Utterance, multiframesOf, pairsOf, imageOf}
 use Rattle.writer.specs.declared.Answer.the-variants.{Written}
 use Rattle.demands.specs.Damage.{DamageUpTo, Damage, headerBits, Touched, differs, headerFlips, sentMessage, header-near, header-read}
 use Rattle.demands.specs.Damages.{unharmed}

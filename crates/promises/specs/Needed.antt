@@ -52,10 +52,12 @@ use Rattle.reader.specs.declared.Verdict.{Verdict}
 use Rattle.reader.specs.declared.Summary.{Summary}
 use Rattle.refusals.specs.declared.Reading.the-variants.{Unsettled}
 use Rattle.reader.specs.declared.Answer.the-variants.{Read, Refused}
-use Rattle.writer.specs.Writing.{frameCount, needed, image}
-use Rattle.writer.specs.Laws.{few-multiframes, length-image}
-use Rattle.writer.specs.Made.{syncIn, wordIn, packetIn}
-use Rattle.writer.specs.Image.{image-sync, image-word, image-packet, image-small, last-speaks, Utterance, multiframesOf, pairsOf, imageOf, is-accepted, whole-frames}
+use Rattle.image.specs.Image.{image}
+use Rattle.image.specs.Made.{syncIn, wordIn, packetIn}
+use Rattle.image.specs.Laws.{length-image, image-sync, image-word, image-packet, image-small}
+use Rattle.writer.specs.Writing.{frameCount, needed}
+use Rattle.writer.specs.Laws.{few-multiframes}
+use Rattle.writer.specs.Utterance.{last-speaks, Utterance, multiframesOf, pairsOf, imageOf, is-accepted, whole-frames}
 use Rattle.demands.specs.Damage.{DamageUpTo, headerBits, loosened, headerFlips, sentMessage, header-near, header-read}
 use Rattle.demands.specs.Whole.{rowOf, Lent, headerNoteIn, pairNoteIn, readings-are, refuses-16}
 use Rattle.demands.specs.Headers.{sentCommon, common-sent, TwoReadable, heardAs, heard-read, heard-lost, headers-read}

@@ -33,7 +33,7 @@ use Rattle.reader.specs.declared.Verdict.{Verdict}
 use Rattle.reader.specs.declared.Verdict.the-variants.{Refuse, Accept}
 use Rattle.reader.specs.declared.Answer.the-variants.{Read}
 use Rattle.refusals.specs.declared.Reading.the-variants.{WrongTables}
-use Rattle.writer.specs.Made.{part-within}
+use Rattle.image.specs.Made.{part-within}
 
 -- two lists of octets, each with the places of as many multiframes, the k-th of the one the same as the k-th of the other
 module _ (o₁ p₁ o₂ p₂ : List ℕ) (count : length p₁ ≡ length p₂)

@@ -13,10 +13,12 @@ use Rattle.consistency.specs.Tables.{Tables, tablesOf}
 use Rattle.settings.specs.declared.Settings.{Settings}
 use Rattle.settings.specs.Settings.{settings}
 use Rattle.writer.specs.Writing as W
-use Rattle.writer.specs.Writing.{needed, multiframesFor, frameCount, verdict, image, writing}
-use Rattle.writer.specs.Laws.{length-image, accepted, accepts}
-use Rattle.writer.specs.Made.{Small}
-use Rattle.writer.specs.Image.{Utterance, imageOf, is-accepted}
+use Rattle.image.specs.Image.{image}
+use Rattle.image.specs.Made.{Small}
+use Rattle.image.specs.Laws.{length-image}
+use Rattle.writer.specs.Writing.{needed, multiframesFor, frameCount, verdict, writing}
+use Rattle.writer.specs.Laws.{accepted, accepts}
+use Rattle.writer.specs.Utterance.{Utterance, imageOf, is-accepted}
 use Rattle.writer.specs.declared.Answer as WA
 use Rattle.writer.specs.declared.Answer.the-variants.{Written, Refused}
 use Rattle.refusals.specs.declared.Writing as WR
@@ -229,7 +231,7 @@ module _ (settings : Settings) (idx : List ℕ) (tables : Tables) (out index rep
       same-length : (v : WA.Answer) → verdict settings idx (length out) ≡ v → length (W.finished settings idx out v .output) ≡ length out
       same-length (Written k) ev =
           let b = accepted settings idx (length out) k ev in
-          length-over out (W.image settings idx (multiframesFor (frameCount idx))) 0 k (omega (arith, b .octets-needed, b .room))
+          length-over out (image settings idx (multiframesFor (frameCount idx))) 0 k (omega (arith, b .octets-needed, b .room))
           (length-image settings idx (multiframesFor (frameCount idx)) ∙ sym (b .octets-needed))
       same-length (Refused r) ev = refl
 

@@ -1,19 +1,16 @@
 // The writer: index octets, seven a frame, become the protected multiframes of an utterance, or a refusal with 01's number and place.
-use header::Fields;
 use layout::Frame;
 use layout::FrameLayout;
-use layout::Multiframe;
 use layout::MultiframeLayout;
 use layout::UtteranceLayout;
 use refusals::Writing;
 use settings::Settings;
 ghost use mathlib.Core.Path.{_≡_};
-ghost use Prim.Native.Nat.{ℕ, _+_, _*_, _%_, _^_, _≤_, _<_};
+ghost use Prim.Native.Nat.{_+_, _*_, _^_, _≤_, _<_};
 ghost use lib.ListN.{length};
-ghost use Rattle.lists.specs.Parts.{over};
 ghost use Rattle.lists.specs.Lent.{came, left};
-ghost use Rattle.layout.specs.Layout.{frameIndices, multiframeOctets, mostFrames, mostMultiframes};
-ghost use Rattle.writer.specs.Writing.{frameCount, isWide, endsEarly, firstWide, firstEarly, verdict, multiframe, image, outcome, writing, numberOf, placeOf};
+ghost use Rattle.layout.specs.Layout.{frameIndices};
+ghost use Rattle.writer.specs.Writing.{isWide, endsEarly, firstWide, firstEarly, verdict, outcome, writing, numberOf, placeOf};
 ghost use Rattle.writer.specs.Laws.{foundAs};
 
 // The largest index of six bits.
@@ -114,46 +111,6 @@ fn decide(settings: Settings, indices: &[u8], room: usize) -> Answer
     Answer::Written { octets: needed }
 }
 
-// One multiframe at its place. It asks for whole frames, at most 255 multiframes and room, which `decide` has tested.
-fn put_multiframe(settings: Settings, indices: &[u8], k: Multiframe, out: &mut [u8])
-    requires { ⌜ (length (now indices) % frameIndices ≡ 0) × (k .0 < mostMultiframes) ⌝ }
-    requires { ⌜ multiframeOctets * k .0 + multiframeOctets ≤ length (now out) ⌝ }
-    ensures { λ _. ⌜ left out ≡ over (came out) (multiframeOctets * k .0) multiframeOctets (multiframe settings (came indices) (k .0)) ⌝ }
-{
-    let at = MultiframeLayout::OCTETS * k.0;
-    let count = ((k.0 + 1) & 15) as u8;
-    let message = header::message_of(Fields {
-        settings,
-        count,
-        exp: 0,
-    });
-    let word = header::encode(message) as u64;
-    bits::store(out, at, MultiframeLayout::SYNC_WORD, MultiframeLayout::SYNC);
-    bits::store(
-        out,
-        at + MultiframeLayout::SYNC,
-        word,
-        MultiframeLayout::HEADER,
-    );
-    packet::put_stream(
-        indices,
-        k.first_pair(),
-        out,
-        at + MultiframeLayout::SYNC + MultiframeLayout::HEADER,
-    );
-}
-
-// The first m multiframes, one behind the other.
-fn put_image(settings: Settings, indices: &[u8], m: usize, out: &mut [u8])
-    requires { ⌜ (length (now indices) % frameIndices ≡ 0) × (m ≤ mostMultiframes) ⌝ }
-    requires { ⌜ multiframeOctets * m ≤ length (now out) ⌝ }
-    ensures { λ _. ⌜ left out ≡ over (came out) 0 (multiframeOctets * m) (image settings (came indices) m) ⌝ }
-{
-    for k in 0..m {
-        put_multiframe(settings, indices, Multiframe(k), out);
-    }
-}
-
 // write puts the utterance of these settings and index octets, seven a frame, into the front of out as multiframes and answers the number
 // of octets written; octets beyond stay. Or it refuses, in 01's order, and every octet of out is as it came. 01's number and place of the
 // answer are those of the definition.
@@ -165,7 +122,7 @@ pub fn write(settings: Settings, indices: &[u8], out: &mut [u8]) -> Answer
 {
     match decide(settings, indices, out.len()) {
         Answer::Written { octets } => {
-            put_image(settings, indices, octets / MultiframeLayout::OCTETS, out);
+            image::put_image(settings, indices, octets / MultiframeLayout::OCTETS, out);
             Answer::Written { octets }
         }
         Answer::Refused(r) => Answer::Refused(r),

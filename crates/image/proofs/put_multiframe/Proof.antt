@@ -7,9 +7,9 @@ use borrow.Author.Needs.{needs}
 use Rattle.header_code.specs.Code.{codeword}
 use Rattle.header.specs.Message.{message}
 use Rattle.header.specs.Message.Laws.{count-mod}
-use Rattle.writer.proofs.Steps.{laid-multiframe}
-use Rattle.writer.proofs.put_multiframe.Statement.{statement}
-use Rattle.writer.proofs.put_multiframe.Tie as tie
+use Rattle.image.proofs.Steps.{laid-multiframe}
+use Rattle.image.proofs.put_multiframe.Statement.{statement}
+use Rattle.image.proofs.put_multiframe.Tie as tie
 
 mul-at : tie.Need-mul-at
 mul-at c = search needs

@@ -6,11 +6,11 @@ use lib.ListN.{length}
 use borrow.Author.Needs.{needs}
 use Rattle.lists.specs.Parts.{over, length-over}
 use Rattle.layout.specs.Layout.{multiframeOctets}
-use Rattle.writer.specs.Writing.{multiframe, image}
-use Rattle.writer.specs.Laws.{length-multiframe}
-use Rattle.writer.proofs.Steps.{image-none, image-more}
-use Rattle.writer.proofs.put_image.Statement.{statement}
-use Rattle.writer.proofs.put_image.Tie as tie
+use Rattle.image.specs.Image.{multiframe, image}
+use Rattle.image.specs.Laws.{length-multiframe}
+use Rattle.image.proofs.Steps.{image-none, image-more}
+use Rattle.image.proofs.put_image.Statement.{statement}
+use Rattle.image.proofs.put_image.Tie as tie
 
 abbrev Inv-loop : tie.InvT-loop
 Inv-loop settings indices m out₀ k₀ out k = (k ≤ m) × (length out ≡ length out₀) × (out ≡ over out₀ 0 (multiframeOctets * k) (image settings indices k))

@@ -17,7 +17,6 @@ use Rattle.layout.specs.Layout.{packetBits, multiframePairs, multiframeOctets, 
 use Rattle.bits.specs.Bits.{value, bits, field, octets, Fits}
 use Rattle.bits.specs.Laws.{length-octets, length-field, value-field, field-value, length-bits, bits-octets, octets-bits, fits-numbers}
 use Rattle.carrier.specs.Carrier.{syncFrom, headerFrom, wordAt, streamAt, streamPacket, packetAt, inRow}
-use Rattle.writer.specs.Writing.{at}
 
 -- ---- multiframes one behind the other in octets: the sync and the header word of multiframe k, and the packet of pair q
 abbrev pub syncIn : List ℕ → ℕ → List ℕ
