@@ -27,7 +27,8 @@ else
 BUILD := target/outside/$(ARCH)
 TOOLS := $(ARCH)-linux-gnu-
 STATIC := -static
-RUN := qemu-$(ARCH)
+# rt links dsrlist for x86-64 with a shared C library: -L says where that is.
+RUN := qemu-$(ARCH) -L /usr/$(ARCH)-linux-gnu
 SANITIZE :=
 NOT_JUDGED := "emulated, no time of a processor"
 endif
@@ -112,7 +113,8 @@ packages:
 
 # --- the proved code, compiled
 
-# rt proves, and compiles for x86-64. For aarch64 the same module, proved once more, goes to the same compiler with another target.
+# rt proves, and compiles for x86-64. The same module, proved once more, goes to the same compiler for both (tools/compile); that the
+# archive for x86-64 comes out as rt's own is a check (twin).
 target/staticlib/libdsr.a: $(RATTLE)
 	@tools/prove staticlib dsr
 	@touch $@
@@ -121,10 +123,13 @@ target/lib/x86_64/libdsr.a: target/staticlib/libdsr.a
 	@mkdir -p $(@D)
 	@cp $< $@
 
-target/lib/aarch64/libdsr.a: target/staticlib/libdsr.a
+target/compiled/aarch64/libdsr.a: target/staticlib/libdsr.a
 	@echo 'compiling dsr for aarch64'
+	@tools/compile dsr target/compiled >target/compiling-dsr.log 2>&1 || { tail -n 20 target/compiling-dsr.log; exit 1; }
+
+target/lib/aarch64/libdsr.a: target/compiled/aarch64/libdsr.a
 	@mkdir -p $(@D)
-	@tools/compile aarch64 dsr $@ >target/compiling-dsr.log 2>&1 || { tail -n 20 target/compiling-dsr.log; exit 1; }
+	@cp $< $@
 
 # The archive's code is position independent. The C library gives memset.
 $(SHARED): $(ARCHIVE) c/dsr.map
@@ -138,15 +143,18 @@ target/bin/dsrlist: $(RATTLE)
 	@touch $@
 
 target/bin/x86_64/dsrlist: target/bin/dsrlist
+	@.ci/packages x86_64
 	@mkdir -p $(@D)
 	@cp $< $@
 
-target/bin/aarch64/dsrlist: target/bin/dsrlist
+target/compiled/aarch64/dsrlist.o: target/bin/dsrlist
 	@echo 'compiling dsrlist for aarch64'
-	@mkdir -p $(@D)
-	@tools/compile aarch64 dsrlist $(@D)/dsrlist.o >target/compiling-dsrlist.log 2>&1 || { tail -n 20 target/compiling-dsrlist.log; exit 1; }
+	@tools/compile dsrlist target/compiled >target/compiling-dsrlist.log 2>&1 || { tail -n 20 target/compiling-dsrlist.log; exit 1; }
+
+target/bin/aarch64/dsrlist: target/compiled/aarch64/dsrlist.o
 	@.ci/packages aarch64
-	@$(TOOLS)gcc $(STATIC) $(@D)/dsrlist.o -o $@
+	@mkdir -p $(@D)
+	@$(TOOLS)gcc $(STATIC) $< -o $@
 
 # The writer alone as one object, for a terminal that never reads.
 writer: $(MADE)/dsr_write.o ## the writer alone as one object that wants memset only, target/lib/ARCH/dsr_write.o
@@ -332,10 +340,9 @@ crctable: $(ARCHIVE)
 	$(TOOLS)objdump -h $< | grep -E '\.crctable[^ ]* +0*100 '
 	$(TOOLS)objdump -r $< | grep -m 1 -E 'R_(X86_64_PC32|AARCH64_ADR_PREL_PG_HI21) .*\.crctable'
 
-# What tools/compile makes for x86-64 is what rt makes, octet for octet: for aarch64 it does nothing else but name another target.
-twin: target/staticlib/libdsr.a
-	@tools/compile x86_64 dsr target/twin/libdsr.a >target/compiling-twin.log 2>&1 || { tail -n 20 target/compiling-twin.log; exit 1; }
-	cmp target/twin/libdsr.a $<
+# What tools/compile made for x86-64 is what rt makes, octet for octet: for aarch64 it did nothing else but name another target.
+twin: target/staticlib/libdsr.a target/compiled/aarch64/libdsr.a
+	cmp target/compiled/x86_64/libdsr.a $<
 
 # --- dsr.h's inline functions, as C99, C++11 and C++20
 
