@@ -237,10 +237,11 @@ independent-build:
 independent:
 	cd checks/independent && $(CARGO) test --quiet --offline --release --lib
 
-# Bugs planted in the literal version, one at a time: the comparisons have to notice each (checks/planted/list).
+# Bugs planted in the literal version, one at a time: the comparisons have to notice each (checks/planted/list). PLANTED is the words
+# for checks/planted/run: with none, the comparisons also run with no bug planted.
 .PHONY: planted
 planted: independent-build ## plants bugs in the literal version: the comparisons have to notice each
-	$(PYTHON) checks/planted/run
+	$(PYTHON) checks/planted/run $(PLANTED)
 
 # The Rust package over the library, and over the literal version.
 wrapper: $(ARCHIVE)
