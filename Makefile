@@ -219,8 +219,7 @@ $(BUILD)/libliteral.so: $(BUILD)/libliteral.a
     fuzz drawing drawing-check twin writer writer-size writer-alone stack
 
 # What more than one check calls.
-programs: $(foreach l,library literal,$(foreach p,$(ENTRIES),$(BUILD)/$(l)/drive-$(p))) $(BUILD)/literal/sample-list $(BUILD)/libliteral.a \
-    $(BUILD)/libliteral.so
+programs: $(foreach p,$(ENTRIES),$(BUILD)/$(LIB)/drive-$(p)) $(if $(filter literal,$(LIB)),$(addprefix $(BUILD)/,literal/sample-list libliteral.a libliteral.so))
 
 # The independent implementation against the library (or, with LIB=literal, the literal version).
 compare-%: $(BUILD)/$(LIB)/drive-% independent-build
