@@ -215,7 +215,7 @@ $(BUILD)/libliteral.so: $(BUILD)/libliteral.a
 
 # --- the checks
 
-.PHONY: programs independent independent-build wrapper wrapper-literal example crctable sample-check listing readme-c readme-rust crates-named installed man-pages versions \
+.PHONY: programs independent independent-build wrapper wrapper-literal example crctable sample-check listing readme-c readme-rust readme-printed crates-named installed man-pages versions \
     fuzz drawing drawing-check twin writer writer-size writer-alone stack
 
 # What more than one check calls.
@@ -289,6 +289,10 @@ readme-rust: $(README_WITH)
 	    >$(README)/rust/Cargo.toml
 	cd $(README)/rust && $(README_ENV) $(CARGO) run --quiet --offline >got
 	diff $(README)/rust/got $(README)/rust/output
+
+# README's commands themselves, as printed, in a copy of the repository; and errors planted in the page, which have to be noticed.
+readme-printed: lib dsrlist
+	.ci/printed $(BUILD)/printed
 
 # What make install puts into a folder of its own: the README's C programs are built against it as a user would.
 installed: lib dsrlist
