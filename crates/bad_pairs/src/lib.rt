@@ -1,5 +1,6 @@
 // Which pairs are bad: the notes of the report, from each pair's CRC, its consistency and its neighbours.
 ghost use mathlib.Core.Path.{_≡_};
+ghost use Rattle.lists.specs.Lent.{came};
 ghost use Rattle.bad_pairs.specs.BadPairs.{bad, undecidedBy, noteBy, badPairs};
 
 // The notes of a pair.
@@ -48,7 +49,7 @@ pub fn note(before: bool, fails: bool, inconsistent: bool, after: bool) -> u8
 
 // count_bad counts the notes that are not 0.
 pub fn count_bad(notes: &[u8]) -> usize
-    ensures { λ r. ⌜ r ≡ badPairs (now (notes .entry)) ⌝ }
+    ensures { λ r. ⌜ r ≡ badPairs (came notes) ⌝ }
 {
     let mut count = 0;
     let mut k = 0;

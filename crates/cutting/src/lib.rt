@@ -4,6 +4,7 @@ use layout::UtteranceLayout;
 use refusals::Reading;
 ghost use mathlib.Core.Path.{_≡_};
 ghost use lib.ListN.{length};
+ghost use Rattle.lists.specs.Lent.{came, left};
 ghost use Rattle.layout.specs.Layout.{mostMultiframes};
 ghost use Rattle.cutting.specs.Cutting.{pieceOf, syncMet, cutting, answered, laid};
 
@@ -25,7 +26,7 @@ pub enum Cut {
 
 // piece_of names what the octets begin, after so many multiframes.
 pub fn piece_of(rest: &[u8], count: usize) -> Piece
-    ensures { λ r. ⌜ r ≡ pieceOf (now (rest .entry)) count ⌝ }
+    ensures { λ r. ⌜ r ≡ pieceOf (came rest) count ⌝ }
 {
     if rest.len() == 0 {
         return Piece::End;
@@ -72,8 +73,8 @@ fn sync_met(octets: usize, count: usize) -> Piece
 // It asks for room for as many as an utterance may have: its caller lends an array of its own.
 pub fn cut_into(s: &[u8], places: &mut [usize]) -> Cut
     requires { ⌜ length (now places) ≡ mostMultiframes ⌝ }
-    ensures answer { λ r. ⌜ r ≡ answered (cutting (now (s .entry))) ⌝ }
-    ensures places { λ _. ⌜ now (places .exit) ≡ laid 0 (cutting (now (s .entry)) .places) (now (places .entry)) ⌝ }
+    ensures answer { λ r. ⌜ r ≡ answered (cutting (came s)) ⌝ }
+    ensures places { λ _. ⌜ left places ≡ laid 0 (cutting (came s) .places) (came places) ⌝ }
 {
     let mut p = 0;
     let mut m = 0;

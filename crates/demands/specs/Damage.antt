@@ -23,8 +23,9 @@ use Rattle.header.specs.Message.Laws.{message-lt}
 use Rattle.header.specs.Reading.{decodedAs, reading}
 use Rattle.header.specs.Reading.Laws.{near, lost-at-three}
 use Rattle.header.specs.declared.Header.the-variants.{Codeword, Lost}
-use Rattle.writer.specs.Made.{Small, syncIn, headerIn, wordIn, packetIn}
-use Rattle.writer.specs.Image.{image-word, image-packet, Utterance, multiframesOf, pairsOf, imageOf}
+use Rattle.image.specs.Made.{Small, syncIn, headerIn, wordIn, packetIn}
+use Rattle.image.specs.Laws.{image-word, image-packet}
+use Rattle.writer.specs.Utterance.{Utterance, multiframesOf, pairsOf, imageOf}
 
 -- ---- the damage: `sent` is an image of m multiframes, `got` is what came of it
 -- in how many bits header k differs

@@ -15,9 +15,9 @@ use Rattle.carrier.specs.Carrier.{streamPacket}
 use Rattle.crc.specs.Crc.{Damaged}
 use Rattle.packet.specs.Packet.{packetOf}
 use Rattle.header_code.specs.Code.{flipsTo}
-use Rattle.writer.specs.Made.{wordIn, packetIn, made, length-made, small-made, made-sync, made-word, made-packet}
-use Rattle.writer.specs.Laws.{length-image}
-use Rattle.writer.specs.Image.{image-sync, image-word, image-packet, image-small, Utterance, multiframesOf, pairsOf, imageOf}
+use Rattle.image.specs.Made.{wordIn, packetIn, made, length-made, small-made, made-sync, made-word, made-packet}
+use Rattle.image.specs.Laws.{length-image, image-sync, image-word, image-packet, image-small}
+use Rattle.writer.specs.Utterance.{Utterance, multiframesOf, pairsOf, imageOf}
 use Rattle.demands.specs.Damage.{DamageUpTo, Damage, sentMessage}
 
 -- any header words within so many flips of those sent, and any streams of packets that are damaged or not, make one

@@ -27,9 +27,9 @@ use Rattle.header_code.specs.Code.{codeword, flipsTo}
 use Rattle.header_code.specs.Code.Distance.{codeword-lt}
 use Rattle.header.specs.Message.Laws.{message-lt}
 use Rattle.header.specs.Reading.Laws.{flips-of}
+use Rattle.image.specs.Made.{Small, made}
 use Rattle.writer.specs.Writing.{verdict, roomAnswer, firstFrom, needed}
-use Rattle.writer.specs.Made.{Small, made}
-use Rattle.writer.specs.Image.{Utterance, multiframesOf, pairsOf, imageOf}
+use Rattle.writer.specs.Utterance.{Utterance, multiframesOf, pairsOf, imageOf}
 use Rattle.writer.specs.declared.Answer.the-variants.{Written}
 use Rattle.demands.specs.Damage.{Damage, sentMessage}
 use Rattle.demands.specs.Damages.{damage-made}

@@ -17,7 +17,7 @@ use Rattle.polynomials.specs.Light.{ones-in}
 use Rattle.lists.specs.Tests.{true-false}
 use Rattle.lists.specs.Parts.{part, over}
 use Rattle.layout.specs.Layout.{frameIndices, packetBits, multiframePairs, streamOctets, indexOctets, reportOctets, codebookNumbers, thresholdNumbers, firstPair}
-use Rattle.consistency.specs.Tables.{Tables, tablesOf}
+use Rattle.consistency.specs.Tables.{zeroTables}
 use Rattle.settings.specs.Settings.{settings}
 use Rattle.frames.specs.Frames.{zeroFrame}
 use Rattle.carrier.specs.Carrier.{streamPacket}
@@ -31,11 +31,11 @@ use Rattle.header_code.specs.Code.Distance.{codeword-lt}
 use Rattle.header.specs.Message.Laws.{message-lt}
 use Rattle.header.specs.Reading.Laws.{flips-of}
 use Rattle.reader.specs.Reading.{Outcome, reading}
+use Rattle.image.specs.Made.{Small, made, made-packet}
+use Rattle.image.specs.Laws.{length-image, image-small, image-packet}
 use Rattle.writer.specs.Writing.{verdict, roomAnswer, firstFrom, frameCount, needed, writing}
 use Rattle.writer.specs.Writing as W
-use Rattle.writer.specs.Laws.{length-image}
-use Rattle.writer.specs.Made.{Small, made, made-packet}
-use Rattle.writer.specs.Image.{image-small, image-packet, Utterance, multiframesOf, imageOf, whole-frames, writes}
+use Rattle.writer.specs.Utterance.{Utterance, multiframesOf, imageOf, whole-frames, writes}
 use Rattle.writer.specs.declared.Answer.the-variants.{Written}
 use Rattle.demands.specs.Damage.{Damage, sentMessage}
 use Rattle.demands.specs.Damages.{damage-made}
@@ -47,9 +47,6 @@ use Rattle.demands.specs.WritesAgain as A
 use Rattle.demands.specs.NamesTheDamage as N
 
 -- ---- tables of zeros, and just enough room
-abbrev pub zeroTables : Tables
-zeroTables = tablesOf (replicate codebookNumbers (pos 0)) (replicate thresholdNumbers (pos 0))
-
 abbrev pub indexFor : ℕ → List ℕ
 indexFor m = replicate (indexOctets * m) 0
 

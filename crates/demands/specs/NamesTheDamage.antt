@@ -32,10 +32,11 @@ use Rattle.reader.specs.Reading.{indexPart, reportPart, summary, Outcome, outco
 use Rattle.reader.specs.ReadingLaws.{Fitting, length-index}
 use Rattle.reader.specs.declared.Summary.{Summary}
 use Rattle.reader.specs.declared.Answer.the-variants.{Read}
+use Rattle.image.specs.Made.{part-within}
+use Rattle.image.specs.Laws.{length-image, image-sync}
 use Rattle.writer.specs.Writing.{frameCount}
-use Rattle.writer.specs.Laws.{few-multiframes, length-image}
-use Rattle.writer.specs.Made.{part-within}
-use Rattle.writer.specs.Image.{image-sync, Utterance, multiframesOf, pairsOf, imageOf, is-accepted, rate-not-2, whole-frames}
+use Rattle.writer.specs.Laws.{few-multiframes}
+use Rattle.writer.specs.Utterance.{Utterance, multiframesOf, pairsOf, imageOf, is-accepted, rate-not-2, whole-frames}
 use Rattle.demands.specs.Damage.{DamageUpTo, Damage, loosened, Touched, headerFlips}
 use Rattle.demands.specs.Whole.{rowOf, Lent, reads-as, headerNoteIn, pairNoteIn, header-note-is, pair-note-is, front-part}
 use Rattle.demands.specs.Headers.{Settling, enough, settles, note-of-header, sentCommon, settings-sent, rate-sent, exp-sent}

@@ -17,7 +17,10 @@ use Rattle.replacing.specs.Speech.{speechOf, endOf}
 use Rattle.reader.specs.Reading.{indexPart, Outcome, receivedNotes}
 use Rattle.reader.specs.ReadingLaws.{length-index}
 use Rattle.reader.specs.declared.Summary.{Summary}
-use Rattle.writer.specs.Image.{success}
+use Rattle.image.specs.Image.{image}
+use Rattle.image.specs.Made.{Small, syncIn, wordIn, packetIn, made, made-sync, made-word, made-packet}
+use Rattle.image.specs.Laws.{length-image, image-made, image-sync, image-word, image-packet}
+use Rattle.writer.specs.Utterance.{success}
 use Rattle.demands.specs.Noteless.{spoken, count-spoken, speech-lt, speech-le, speech-full}
 use Rattle.demands.specs.WritesAgain as A
 use borrow.Author.Tests.{ne-eqb}
@@ -26,7 +29,7 @@ use Rattle.polynomials.specs.Xor.{xor-swap}
 use Rattle.lists.specs.Tests.{true-false}
 use Rattle.lists.specs.Rows.{each, joined, length-joined, joined-part}
 use Rattle.layout.specs.Layout.{frameIndices, multiframeFrames, indexOctets, packetBits, multiframePairs, multiframeOctets, mostMultiframes, streamOctets, firstPair, multiframeOf, sync}
-use Rattle.consistency.specs.Tables.{Tables}
+use Rattle.consistency.specs.Tables.{Tables, zeroTables}
 use Rattle.settings.specs.declared.Settings.{Settings}
 use Rattle.settings.specs.Settings.{settings}
 use Rattle.frames.specs.Frames.{zeroFrame}
@@ -49,15 +52,14 @@ use Rattle.bad_pairs.specs.BadPairs.{bad, badPairs}
 use Rattle.reader.specs.Reading.{outcome, reading}
 use Rattle.refusals.specs.declared.Reading.the-variants.{Unsettled, AllBad}
 use Rattle.reader.specs.declared.Answer.the-variants.{Read, Refused}
-use Rattle.writer.specs.Writing.{verdict, roomAnswer, firstFrom, needed, image, writing}
-use Rattle.writer.specs.Laws.{few-multiframes, length-image}
-use Rattle.writer.specs.Made.{Small, syncIn, wordIn, packetIn, made, made-sync, made-word, made-packet}
-use Rattle.writer.specs.Image.{image-made, image-sync, image-word, image-packet, Utterance, multiframesOf, pairsOf, imageOf, is-accepted, rate-not-2}
+use Rattle.writer.specs.Writing.{verdict, roomAnswer, firstFrom, needed, writing}
+use Rattle.writer.specs.Laws.{few-multiframes}
+use Rattle.writer.specs.Utterance.{Utterance, multiframesOf, pairsOf, imageOf, is-accepted, rate-not-2}
 use Rattle.writer.specs.declared.Answer.the-variants.{Written}
 use Rattle.demands.specs.Damage.{Damage, loosened, headerFlips, sentMessage, header-near, differs}
 use Rattle.demands.specs.Damages.{damage-made}
 use Rattle.demands.specs.Instances.{lone, small-lone, says1, past-packet}
-use Rattle.demands.specs.Met.{zeroTables, indexFor, reportFor, lent-zeros, hurtWord, hurtStream, hurtImage, hurts}
+use Rattle.demands.specs.Met.{indexFor, reportFor, lent-zeros, hurtWord, hurtStream, hurtImage, hurts}
 use Rattle.demands.specs.Whole.{rowOf, Lent, refuses-16, refuses-20}
 use Rattle.demands.specs.Headers.{enough, settles, touched-unsettles, sentCommon, rate-sent, exp-sent}
 use Rattle.demands.specs.Received.{BadPair, Tells, is-so, not-so, tells-bad}

@@ -38,12 +38,12 @@ use Rattle.replacing.specs.Speech.{lastNonzero, speechOf, endOf, place-le, zero
 use Rattle.reader.specs.Reading.{indexPart, reportPart, summary, Outcome, outcome, reading, receivedFrames, receivedNotes}
 use Rattle.reader.specs.declared.Summary.{Summary}
 use Rattle.reader.specs.declared.Answer.the-variants.{Read}
+use Rattle.image.specs.Made.{wordIn, packetIn}
+use Rattle.image.specs.Laws.{length-image}
 use Rattle.writer.specs.Writing.{frameCount, needed, writing}
 use Rattle.writer.specs.Writing as W
-use Rattle.writer.specs.Laws.{length-image}
 use Rattle.writer.specs.declared.Answer.the-variants.{Written}
-use Rattle.writer.specs.Made.{wordIn, packetIn}
-use Rattle.writer.specs.Image.{last-speaks, Utterance, multiframesOf, pairsOf, imageOf, is-accepted, whole-frames, writes}
+use Rattle.writer.specs.Utterance.{last-speaks, Utterance, multiframesOf, pairsOf, imageOf, is-accepted, whole-frames, writes}
 use Rattle.demands.specs.Damage.{DamageUpTo, Damage, loosened, headerFlips}
 use Rattle.demands.specs.Damages.{unharmed}
 use Rattle.demands.specs.Whole.{rowOf, Lent, nothing-replaced}

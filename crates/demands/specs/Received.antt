@@ -26,8 +26,8 @@ use Rattle.notes.specs.Notes.{pairFails, framesOf, pairInconsistent, pairNotes}
 use Rattle.notes.specs.Laws.{length-notes}
 use Rattle.bad_pairs.specs.BadPairs.{bad, badPairs, noteBy, notes}
 use Rattle.bad_pairs.specs.Laws.{badBefore, note-at, failed-is-1}
-use Rattle.writer.specs.Made.{packetIn}
-use Rattle.writer.specs.Image.{Utterance, multiframesOf, pairsOf, imageOf, fits-each-frame}
+use Rattle.image.specs.Made.{packetIn}
+use Rattle.writer.specs.Utterance.{Utterance, multiframesOf, pairsOf, imageOf, fits-each-frame}
 use Rattle.demands.specs.Damage.{DamageUpTo, Touched, Fate, whole, hit, fate, not-touched}
 use Rattle.demands.specs.Whole.{rowOf, packet-at}
 

@@ -13,9 +13,9 @@ use Rattle.layout.specs.Layout.{firstFrame, secondFrame}
 use Rattle.packet.specs.Packet.{packetOf, frameAt}
 use Rattle.header_code.specs.Code.Distance.{far-from-one}
 use Rattle.header.specs.Message.Laws.{message-lt}
-use Rattle.writer.specs.Laws.{length-image}
-use Rattle.writer.specs.Made.{wordIn}
-use Rattle.writer.specs.Image.{Utterance, multiframesOf, pairsOf, imageOf, same-settings, same-pair}
+use Rattle.image.specs.Made.{wordIn}
+use Rattle.image.specs.Laws.{length-image}
+use Rattle.writer.specs.Utterance.{Utterance, multiframesOf, pairsOf, imageOf, same-settings, same-pair}
 use Rattle.demands.specs.Damage.{DamageUpTo, Damage, headerBits, loosened, headerFlips, Touched, sentMessage, header-near, fate, Fate, whole, hit, not-touched}
 
 -- a damaged image of one accepted utterance equals a damaged image of another

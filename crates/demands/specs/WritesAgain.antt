@@ -40,11 +40,12 @@ use Rattle.reader.specs.declared.Verdict.{Verdict}
 use Rattle.reader.specs.declared.Verdict.the-variants.{Refuse, Accept}
 use Rattle.reader.specs.declared.Answer.{Answer}
 use Rattle.reader.specs.declared.Answer.the-variants.{Read, Refused}
-use Rattle.writer.specs.Writing.{frameCount, multiframesFor, image, writing}
+use Rattle.image.specs.Image.{image}
+use Rattle.image.specs.Made.{Small, syncIn, wordIn, streamIn, packetIn}
+use Rattle.writer.specs.Writing.{frameCount, multiframesFor, writing}
 use Rattle.writer.specs.Writing as W
 use Rattle.writer.specs.declared.Answer.the-variants as Done
-use Rattle.writer.specs.Image.{success}
-use Rattle.writer.specs.Made.{Small, syncIn, wordIn, streamIn, packetIn}
+use Rattle.writer.specs.Utterance.{success}
 use Rattle.demands.specs.Whole.{rowOf, readings-are, packet-at, headerNoteIn, pairNoteIn, header-note-is, pair-note-is, nothing-replaced}
 use Rattle.demands.specs.Noteless.{clean-header, is-image, spoken, multiframes-spoken, speech-lt, packet-spoken}
 

@@ -1,35 +1,26 @@
 // The entries for C and Rust: numbers and slices only, and nothing is asked of the caller. All but the encoder of headers answer 0 if they
-// are done, and else the number of a refusal. c/dsr.h says the same in C.
+// are done, and else the number of a refusal. What each gives is defined in the crate entries; c/dsr.h says the same in C.
 use header::Header;
 use hunt::Hunted;
-use hunting::Counted;
 use layout::MultiframeLayout;
 use layout::Pair;
 use layout::ReadingLayout;
 use reader::Answer;
-use reader::Summary;
 use refusals::Writing;
 use settings::Settings;
 use writer::Found;
 ghost use mathlib.Core.Path.{_≡_};
-ghost use Prim.Native.Nat.{_≤_};
-ghost use lib.ListN.{length};
-ghost use Rattle.lists.specs.Parts.{over};
-ghost use Rattle.consistency.specs.Lent.{came, left, tablesIn};
+ghost use Rattle.lists.specs.Lent.{came, left};
+ghost use Rattle.consistency.specs.Lent.{tablesIn};
 ghost use Rattle.header_code.specs.Code.{codeword};
 ghost use Rattle.header.specs.Reading.{reading};
-ghost use Rattle.dsr.specs.Bits.{huntReturned, dsrHunt, countedNumbers, numbersOf, dsrReadBits};
-ghost use Rattle.dsr.specs.Entries.{answerNumbers, summaryNumbers, writeReturned, dsrWrite, returned, dsrRead};
-ghost use Rattle.dsr.specs.Entries.{headerRead, packed, packing, unpacked, unpacking};
-ghost use Rattle.dsr.specs.Laws.{settingsFit};
+ghost use Rattle.entries.specs.Bits.{huntReturned, dsrHunt, dsrReadBits};
+ghost use Rattle.entries.specs.Entries.{headerRead, packed, packing, unpacked, unpacking, writeReturned, dsrWrite, returned, dsrRead};
 
 // The numbers of a reading's answer, and those of a hunting reading's.
 const ANSWER: usize = 6;
 
 const COUNTED: usize = 8;
-
-// The largest number of eight bits.
-const OCTET: u64 = 255;
 
 // dsr_header_encode gives the codeword of a 16-bit message.
 #[no_mangle]
@@ -96,19 +87,6 @@ pub extern "C" fn dsr_unpack(stream: &[u8], indices: &mut [u8], notes: &mut [u8]
     refusals::SUCCESS
 }
 
-// Do rate and type fit the octets that the writer takes? What does not is no setting, and must not be cut to one.
-fn fits(rate: u64, kind: u64) -> bool
-    ensures { λ r. ⌜ r ≡ settingsFit rate kind ⌝ }
-{
-    if OCTET < rate {
-        return false;
-    }
-    if OCTET < kind {
-        return false;
-    }
-    true
-}
-
 // dsr_write answers 01's number, 0 for success, and puts the octets written or the refusal's place into place. Rate and type are numbers of
 // 64 bits, so that a caller's number arrives as it is: 256 is refused, and not taken for 0.
 #[no_mangle]
@@ -121,7 +99,7 @@ pub extern "C" fn dsr_write(
 ) -> u32
     ensures { λ r. ⌜ writeReturned r (left out) (left place) ≡ dsrWrite rate kind (came indices) (came out) ⌝ }
 {
-    if !fits(rate, kind) {
+    if !entries::fits(rate, kind) {
         *place = refusals::writing_place(Writing::WrongSettings) as u64;
         return refusals::writing_number(Writing::WrongSettings);
     }
@@ -132,19 +110,6 @@ pub extern "C" fn dsr_write(
     let answer = writer::write(settings, indices, out);
     *place = writer::place_of(answer) as u64;
     writer::number_of(answer)
-}
-
-// The six numbers of a success, in 01's order. It asks for their room, which dsr_read has tested.
-fn put_summary(s: Summary, answer: &mut [u64])
-    requires { ⌜ answerNumbers ≤ length (now answer) ⌝ }
-    ensures { λ _. ⌜ left answer ≡ over (came answer) 0 answerNumbers (summaryNumbers s) ⌝ }
-{
-    answer[0] = s.settings.rate as u64;
-    answer[1] = s.settings.kind as u64;
-    answer[2] = s.multiframes as u64;
-    answer[3] = s.speech as u64;
-    answer[4] = s.bad as u64;
-    answer[5] = s.end as u64;
 }
 
 // dsr_read answers 0 and puts six numbers (rate, type, multiframes, speech, bad, end) into answer, and place stays; or 01's number, and puts
@@ -168,7 +133,7 @@ pub extern "C" fn dsr_read(
     }
     match reader::read(octets, codebook, thresholds, index, report) {
         Answer::Read(s) => {
-            put_summary(s, answer);
+            entries::put_summary(s, answer);
             refusals::SUCCESS
         }
         Answer::Refused(r) => {
@@ -208,18 +173,6 @@ pub extern "C" fn dsr_hunt(
     }
 }
 
-// The eight numbers of a success: the octet reader's six, the bits outside and the places tested. It asks for their room, which
-// dsr_read_bits has tested.
-fn put_counted(c: Counted, answer: &mut [u64])
-    requires { ⌜ countedNumbers ≤ length (now answer) ⌝ }
-    ensures { λ _. ⌜ left answer ≡ over (came answer) 0 countedNumbers (numbersOf c) ⌝ }
-{
-    let s = c.summary;
-    put_summary(s, answer);
-    answer[6] = c.outside as u64;
-    answer[7] = c.tested as u64;
-}
-
 // dsr_read_bits is dsr_read for bits with no octet boundary: it answers 0 and puts eight numbers (dsr_read's six, bits outside, places
 // tested) into answer, and place stays; or the refusal's number, and puts its place into place, and all other lent memory stays. Room for
 // fewer than eight numbers is refused with 99, and then all lent memory stays.
@@ -251,7 +204,7 @@ pub extern "C" fn dsr_read_bits(
         report,
     ) {
         hunting::Answer::Read(c) => {
-            put_counted(c, answer);
+            entries::put_counted(c, answer);
             refusals::SUCCESS
         }
         hunting::Answer::Refused(r) => {

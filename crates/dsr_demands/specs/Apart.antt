@@ -10,8 +10,8 @@ use Rattle.layout.specs.Layout.{frameIndices, multiframePairs, multiframeOctets
 use Rattle.settings.specs.declared.Settings.{Settings}
 use Rattle.packet.specs.Packet.{frameAt}
 use Rattle.packet.specs.Laws.{getD-row}
-use Rattle.writer.specs.Image.{imageOf}
-use Rattle.dsr.specs.Entries.{dsrWrite}
+use Rattle.writer.specs.Utterance.{imageOf}
+use Rattle.entries.specs.Entries.{dsrWrite}
 use Rattle.demands.specs.Damage.{DamageUpTo, headerBits, headerFlips, Touched}
 use Rattle.demands.specs.ToldApart.{Alike, told-by-one}
 use Rattle.dsr_demands.specs.Called.{Call, octetsOf, countOf, called, place-is, octets-are}

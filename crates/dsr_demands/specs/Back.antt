@@ -9,14 +9,14 @@ use lib.ListN.{length, take, drop, getD, replicate, length-replicate, List·getD
 use Rattle.lists.specs.Parts.{over}
 use Rattle.layout.specs.Layout.{frameIndices, multiframeOctets, indexOctets, reportOctets}
 use Rattle.consistency.specs.Tables.{Tables}
+use Rattle.image.specs.Made.{Small}
 use Rattle.writer.specs.Writing.{frameCount, multiframesFor}
 use Rattle.writer.specs.Laws.{accepts}
-use Rattle.writer.specs.Made.{Small}
-use Rattle.writer.specs.Image.{Utterance, whole-frames}
+use Rattle.writer.specs.Utterance.{Utterance, whole-frames}
 use Rattle.reader.specs.Reading.{Outcome, reading}
 use Rattle.reader.specs.declared.Summary.{Summary}
 use Rattle.reader.specs.declared.Answer.the-variants.{Read}
-use Rattle.dsr.specs.Entries.{answerNumbers, summaryNumbers, Returned, returned, WriteReturned, dsrWrite, dsrRead}
+use Rattle.entries.specs.Entries.{answerNumbers, summaryNumbers, Returned, returned, WriteReturned, dsrWrite, dsrRead}
 use Rattle.demands.specs.Whole.{Lent, front-at}
 use Rattle.demands.specs.ReadsBack.{spoken, padded, no-more, length-padded, padded-at}
 use Rattle.demands.specs.ReadsBack as R

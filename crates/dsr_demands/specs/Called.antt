@@ -9,15 +9,16 @@ use lib.Seq.{take-at}
 use Rattle.layout.specs.Layout.{multiframeOctets}
 use Rattle.settings.specs.Settings.{settings}
 use Rattle.writer.specs.Writing as W
+use Rattle.image.specs.Made.{Small}
+use Rattle.image.specs.Laws.{length-image}
 use Rattle.writer.specs.Writing.{frameCount, multiframesFor, needed, writing, verdict}
-use Rattle.writer.specs.Laws.{length-image, Accepted, accepts}
+use Rattle.writer.specs.Laws.{Accepted, accepts}
 use Rattle.writer.specs.Laws as L
-use Rattle.writer.specs.Made.{Small}
-use Rattle.writer.specs.Image.{Utterance, imageOf, success}
+use Rattle.writer.specs.Utterance.{Utterance, imageOf, success}
 use Rattle.writer.specs.declared.Answer as WA
 use Rattle.writer.specs.declared.Answer.the-variants.{Written}
 use Rattle.writer.specs.declared.Answer.the-variants as WV
-use Rattle.dsr.specs.Entries.{dsrWrite}
+use Rattle.entries.specs.Entries.{dsrWrite}
 use Rattle.dsr_demands.specs.Calls.{beyond, write-zero}
 
 -- dsr_write's success is the writer's

@@ -34,8 +34,8 @@ use Rattle.hunting.specs.declared.Counted.{Counted}
 use Rattle.refusals.specs.declared.Hunting as GR
 use Rattle.hunting.specs.declared.Answer as GA
 use Rattle.hunting.specs.declared.Answer.the-variants as GW
-use Rattle.dsr.specs.Entries.{answerNumbers, summaryNumbers, Told, numbers, refusal, Given, given, returned, answered, returning, toldOf, givenOf, dsrWrite, dsrRead}
-use Rattle.dsr.specs.Bits.{countedNumbers, numbersOf, bitsTold, bitsGiven, dsrReadBits}
+use Rattle.entries.specs.Entries.{answerNumbers, summaryNumbers, Told, numbers, refusal, Given, given, returned, answered, returning, toldOf, givenOf, dsrWrite, dsrRead}
+use Rattle.entries.specs.Bits.{countedNumbers, numbersOf, bitsTold, bitsGiven, dsrReadBits}
 
 -- octets beyond what is laid over a buffer's front stay
 pub beyond : (l f : List ℕ) (w : ℕ) → w ≤ length l → length f ≡ w → drop w (over l 0 w f) ≡ drop w l

@@ -12,8 +12,8 @@ use Rattle.cutting.specs.Cutting.{cutting, whole}
 use Rattle.refusals.specs.Refusals.{readingNumber, readingPlace}
 use Rattle.reader.specs.Reading.{Outcome, reading}
 use Rattle.reader.specs.declared.Summary.{Summary}
-use Rattle.writer.specs.Image.{Utterance, multiframesOf, imageOf}
-use Rattle.dsr.specs.Entries.{answerNumbers, Returned, returned, returning, givenOf, dsrRead}
+use Rattle.writer.specs.Utterance.{Utterance, multiframesOf, imageOf}
+use Rattle.entries.specs.Entries.{answerNumbers, Returned, returned, returning, givenOf, dsrRead}
 use Rattle.demands.specs.Damage.{Damage}
 use Rattle.demands.specs.Whole.{pairNoteIn}
 use Rattle.promises.specs.Chunks.{Refuses}

@@ -12,7 +12,7 @@ use Rattle.hunt.specs.Laws.{range-says, in-range, Says, says, range-exactly, hu
 use Rattle.hunt.specs.declared.Hunted.{Hunted}
 use Rattle.hunt.specs.declared.Hunted.the-variants.{Found, Refused}
 use Rattle.refusals.specs.declared.Hunt.the-variants.{MatchRange, Nowhere}
-use Rattle.dsr.specs.Bits.{HuntReturned, huntReturning, dsrHunt}
+use Rattle.entries.specs.Bits.{HuntReturned, huntReturning, dsrHunt}
 
 module _ (s : List ℕ) (from least found place : ℕ) where
   abbrev c : HuntReturned

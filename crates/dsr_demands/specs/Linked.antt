@@ -8,9 +8,9 @@ use Prim.Native.Nat.{ℕ, _*_, _≤_, _<_}
 use lib.ListN.{length, getD}
 use Rattle.layout.specs.Layout.{reportOctets}
 use Rattle.consistency.specs.Tables.{Tables}
-use Rattle.writer.specs.Made.{syncIn}
-use Rattle.writer.specs.Image.{Utterance, imageOf}
-use Rattle.dsr.specs.Entries.{Returned, dsrRead}
+use Rattle.image.specs.Made.{syncIn}
+use Rattle.writer.specs.Utterance.{Utterance, imageOf}
+use Rattle.entries.specs.Entries.{Returned, dsrRead}
 use Rattle.demands.specs.Damage.{DamageUpTo, headerBits, headerFlips}
 use Rattle.dsr_demands.specs.Called.{Call, octetsOf, countOf, called, octets-are}
 use Rattle.dsr_demands.specs.Named.{Tells, HearsAll, c-names-if-read, c-trusted, c-never-misled}

@@ -13,15 +13,15 @@ use Rattle.layout.specs.Layout.{frameIndices, multiframeOctets, reportOctets}
 use Rattle.hunt.specs.Hunt.{fewestMatches}
 use Rattle.reader.specs.Reading.{Outcome, reading}
 use Rattle.writer.specs.Writing as W
+use Rattle.image.specs.Laws.{length-image}
 use Rattle.writer.specs.Writing.{needed, writing}
 use Rattle.writer.specs.declared.Answer.the-variants.{Written}
-use Rattle.writer.specs.Laws.{length-image}
-use Rattle.writer.specs.Image.{Utterance, multiframesOf, imageOf, writes}
-use Rattle.dsr.specs.Entries.{answerNumbers, summaryNumbers, Returned, returned, dsrWrite, dsrRead}
-use Rattle.dsr.specs.Bits.{dsrReadBits}
+use Rattle.writer.specs.Utterance.{Utterance, multiframesOf, imageOf, writes}
+use Rattle.entries.specs.Entries.{answerNumbers, summaryNumbers, Returned, returned, dsrWrite, dsrRead}
+use Rattle.entries.specs.Bits.{dsrReadBits}
 use Rattle.demands.specs.Damage.{DamageUpTo, headerBits, loosened, headerFlips}
 use Rattle.demands.specs.Instances.{says1, says2, hurt1, equal-images}
-use Rattle.demands.specs.Met.{zeroTables, indexFor, reportFor, lent-zeros, writes-again-met, says24, hurtImage, names-says24}
+use Rattle.demands.specs.Met.{indexFor, reportFor, lent-zeros, writes-again-met, says24, hurtImage, names-says24}
 use Rattle.demands.specs.ReadsBack.{spoken}
 use Rattle.hunting_demands.specs.Aired.{aired, aired-on-air, names-aired-24}
 use Rattle.hunting_demands.specs.Radio.{together}
@@ -31,6 +31,7 @@ use Rattle.dsr_demands.specs.Named.{Tells, c-names-the-damage}
 use Rattle.dsr_demands.specs.OnAir.{c-names-on-air}
 use Rattle.dsr_demands.specs.Called.{Call, octetsOf}
 use Rattle.dsr_demands.specs.Apart.{Meet}
+use Rattle.consistency.specs.Tables.{zeroTables}
 
 -- room for six numbers, and for eight
 abbrev pub six : List ℕ

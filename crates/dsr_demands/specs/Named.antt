@@ -22,8 +22,8 @@ use Rattle.reader.specs.declared.Summary.{Summary}
 use Rattle.reader.specs.declared.Answer.{Answer}
 use Rattle.reader.specs.declared.Answer.the-variants.{Read}
 use Rattle.writer.specs.Writing.{frameCount}
-use Rattle.writer.specs.Image.{Utterance, multiframesOf, pairsOf, imageOf, whole-frames}
-use Rattle.dsr.specs.Entries.{answerNumbers, summaryNumbers, Returned, returned, dsrRead}
+use Rattle.writer.specs.Utterance.{Utterance, multiframesOf, pairsOf, imageOf, whole-frames}
+use Rattle.entries.specs.Entries.{answerNumbers, summaryNumbers, Returned, returned, dsrRead}
 use Rattle.demands.specs.Damage.{DamageUpTo, Touched, headerFlips}
 use Rattle.demands.specs.Whole.{front-at, pairNoteIn}
 use Rattle.demands.specs.Received.{ByRule, BadPair, Count}

@@ -13,7 +13,7 @@ use lib.Dec.{lit≤}
 use lib.ListN.{length, getD, List·getD-eq-default, drop, replicate}
 use lib.Seq.{getD-take, getD-drop}
 use Rattle.hunting_demands.specs.HuntsBack.{receivedFlips}
-use Rattle.writer.specs.Made.{packetIn}
+use Rattle.image.specs.Made.{packetIn}
 use Rattle.lists.specs.Rows.{joined, length-joined, joined-part}
 use Rattle.lists.specs.Parts.{over}
 use Rattle.layout.specs.Layout.{indexOctets, reportOctets, multiframePairs}
@@ -23,15 +23,16 @@ use Rattle.bits.specs.Bits.{bits}
 use Rattle.reader.specs.Reading as R
 use Rattle.reader.specs.declared.Summary.{Summary}
 use Rattle.reader.specs.declared.Answer.the-variants as RA
+use Rattle.gathering.specs.Gathering.{imageOf as foundImage, outsideOf}
 use Rattle.hunting.specs.Hunting as G
-use Rattle.hunting.specs.Hunting.{outsideOf, huntingReading}
+use Rattle.hunting.specs.Hunting.{huntingReading}
 use Rattle.hunting.specs.Says as F
 use Rattle.hunting.specs.declared.Counted.{Counted}
 use Rattle.hunting.specs.declared.Answer.the-variants.{Read}
 use Rattle.writer.specs.Writing.{frameCount}
-use Rattle.writer.specs.Image.{Utterance, multiframesOf, imageOf, whole-frames, pairsOf}
-use Rattle.dsr.specs.Entries.{Returned}
-use Rattle.dsr.specs.Bits.{countedNumbers, numbersOf, dsrReadBits}
+use Rattle.writer.specs.Utterance.{Utterance, multiframesOf, imageOf, whole-frames, pairsOf}
+use Rattle.entries.specs.Entries.{Returned}
+use Rattle.entries.specs.Bits.{countedNumbers, numbersOf, dsrReadBits}
 use Rattle.demands.specs.Damage.{headerFlips}
 use Rattle.demands.specs.Whole.{front-at}
 use Rattle.demands.specs.NamesTheDamage as N
@@ -159,7 +160,7 @@ module _ (u : Utterance) (s : List ℕ) (from at least : ℕ) (tables : Tables) 
       let g = z .1 .0 in
       let e = bits-success answer place index report o (z .0) g (z .1 .1) in
       let y : R.reading (together u s at) tables index report ≡ R.outcome (RA.Read (g .summary)) (o .index) (o .report) =
-      ap (λ (ps : List ℕ). R.reading (G.imageOf s ps) tables index report) (sym (found-on-air u s from at least (a .caught)))
+      ap (λ (ps : List ℕ). R.reading (foundImage s ps) tables index report) (sym (found-on-air u s from at least (a .caught)))
       ∙ F.success s from least tables index report g (z .1 .1) .as-01-says in
       let w = T.trusted u (together u s at) (on-air u s from at least a) tables index report (g .summary)
       (record {
@@ -179,7 +180,7 @@ module _ (u : Utterance) (s : List ℕ) (from at least : ℕ) (tables : Tables) 
       let g = z .1 .0 in
       let e = bits-success answer place index report o (z .0) g (z .1 .1) in
       let y : R.reading (together u s at) tables index report ≡ R.outcome (RA.Read (g .summary)) (o .index) (o .report) =
-      ap (λ (ps : List ℕ). R.reading (G.imageOf s ps) tables index report) (sym (found-on-air u s from at least a))
+      ap (λ (ps : List ℕ). R.reading (foundImage s ps) tables index report) (sym (found-on-air u s from at least a))
       ∙ F.success s from least tables index report g (z .1 .1) .as-01-says in
       let w = M.never-misled u (together u s at) premises tables index report (g .summary) (ap (λ (x : R.Outcome). x .answer) y) in
       let f : (k : ℕ) → getD (c .answer) k 0 ≡ getD (over answer 0 countedNumbers (numbersOf g)) k 0 = λ k. ap (λ (x : Returned). getD (x .answer) k 0) e in
@@ -217,7 +218,7 @@ c-bits-stay s from least tables index report answer place zero =
     let g = z .1 .0 in
     let e = bits-success answer place index report o (z .0) g (z .1 .1) in
     let y = F.success s from least tables index report g (z .1 .1) .as-01-says in
-    let b = beyond-both (G.imageOf s (G.all s from least tables index report .places)) tables index report (g .summary) (ap (λ (x : R.Outcome). x .answer) y) in
+    let b = beyond-both (foundImage s (G.all s from least tables index report .places)) tables index report (g .summary) (ap (λ (x : R.Outcome). x .answer) y) in
     let m : getD (dsrReadBits s from least tables index report answer place .answer) 2 0 ≡ g .summary .multiframes = ap (λ (x : Returned). getD (x .answer) 2 0) e in
     record {
       index-beyond = subst (λ (n : ℕ). drop (indexOctets * n) (dsrReadBits s from least tables index report answer place .index) ≡ drop (indexOctets * n) index) (sym m)

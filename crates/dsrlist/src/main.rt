@@ -5,6 +5,7 @@ use libc::STDOUT_FILENO;
 ghost use mathlib.Core.Path.{_≡_};
 ghost use Prim.Native.Nat.{_-_, _≤_};
 ghost use lib.ListN.{length, take};
+ghost use Rattle.lists.specs.Lent.{came, left};
 ghost use Rattle.dsrlist.specs.Input.{Within};
 
 // The most octets that are listed; one more tells that there are more.
@@ -19,8 +20,8 @@ enum Input {
 // One read into buffer from place at on. What came before stays.
 fn read_on(buffer: &mut [u8], at: usize) -> Input
     requires { ⌜ at ≤ length (now buffer) ⌝ }
-    ensures { λ r. ⌜ Within (length (now (buffer .entry)) - at) r ⌝ }
-    ensures { λ _. ⌜ take at (now (buffer .exit)) ≡ take at (now (buffer .entry)) ⌝ }
+    ensures { λ r. ⌜ Within (length (came buffer) - at) r ⌝ }
+    ensures { λ _. ⌜ take at (left buffer) ≡ take at (came buffer) ⌝ }
 {
     let rest: &mut [u8] = &mut buffer[at..];
     let got = libc::read(STDIN_FILENO, rest);
@@ -32,7 +33,7 @@ fn read_on(buffer: &mut [u8], at: usize) -> Input
 
 // Reads until the input ends, the buffer is full or a read fails.
 fn read_all(buffer: &mut [u8]) -> Input
-    ensures { λ r. ⌜ Within (length (now (buffer .entry))) r ⌝ }
+    ensures { λ r. ⌜ Within (length (came buffer)) r ⌝ }
 {
     let mut at = 0;
     while at < buffer.len() {

@@ -4,13 +4,14 @@ use layout::FrameLayout;
 ghost use mathlib.Core.Path.{_≡_};
 ghost use Prim.Native.Nat.{_+_, _*_, _≤_};
 ghost use lib.ListN.{length};
+ghost use Rattle.lists.specs.Lent.{came};
 ghost use Rattle.layout.specs.Layout.{frameIndices};
 ghost use Rattle.frames.specs.Frames.{zeroFrame};
 
 // is_zero says whether all indices of a frame are zero. It asks that the index octets hold the frame.
 pub fn is_zero(index: &[u8], frame: Frame) -> bool
     requires { ⌜ frameIndices * (frame .0) + frameIndices ≤ length (now index) ⌝ }
-    ensures { λ r. ⌜ r ≡ zeroFrame (now (index .entry)) (frame .0) ⌝ }
+    ensures { λ r. ⌜ r ≡ zeroFrame (came index) (frame .0) ⌝ }
 {
     let start = FrameLayout::INDICES * frame.0;
     let mut j = 0;

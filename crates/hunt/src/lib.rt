@@ -5,6 +5,7 @@ use layout::MultiframeLayout;
 ghost use mathlib.Core.Path.{_≡_};
 ghost use Prim.Native.Nat.{_+_, _*_, _/_, _%_, _^_, _≤_, _<_};
 ghost use lib.ListN.{length};
+ghost use Rattle.lists.specs.Lent.{came};
 ghost use Rattle.bits.specs.Bits.{field, bits};
 ghost use Rattle.header.specs.Reading.{reading};
 ghost use Rattle.hunt.specs.Hunt.{syncBits, headerBits, sync, inRange, matches, readable, headPasses, searched, placesLeft, huntedFrom, hunted};
@@ -58,7 +59,7 @@ fn passes(head: u64, least: usize) -> bool
 
 // searched_bits gives how many bits are searched: their number has to fit 64 bits.
 pub fn searched_bits(octets: &[u8]) -> usize
-    ensures { λ r. ⌜ r ≡ searched (bits (now (octets .entry))) ⌝ }
+    ensures { λ r. ⌜ r ≡ searched (bits (came octets)) ⌝ }
 {
     if MOST < octets.len() {
         return 8 * MOST;
@@ -68,7 +69,7 @@ pub fn searched_bits(octets: &[u8]) -> usize
 
 // How many places have a whole multiframe's bits left.
 fn places(octets: &[u8]) -> usize
-    ensures { λ r. ⌜ r ≡ placesLeft (bits (now (octets .entry))) 0 ⌝ }
+    ensures { λ r. ⌜ r ≡ placesLeft (bits (came octets)) 0 ⌝ }
 {
     let searched = searched_bits(octets);
     if searched < BITS {
@@ -80,7 +81,7 @@ fn places(octets: &[u8]) -> usize
 // seek is the hunt itself. It asks for a number of matching bits that there can be, which hunt has tested.
 pub fn seek(octets: &[u8], from: usize, least: usize) -> Hunted
     requires { ⌜ least ≤ syncBits ⌝ }
-    ensures { λ r. ⌜ r ≡ huntedFrom (bits (now (octets .entry))) from least ⌝ }
+    ensures { λ r. ⌜ r ≡ huntedFrom (bits (came octets)) from least ⌝ }
 {
     let end = places(octets);
     let mut t = from;
@@ -112,7 +113,7 @@ pub fn in_range(least: usize) -> bool
 // hunt gives the smallest place from bit from on with a whole multiframe's bits left, where at least least bits of the sync match and the
 // header behind it is readable, and how many places were tested. Nothing is asked of the caller.
 pub fn hunt(octets: &[u8], from: usize, least: usize) -> Hunted
-    ensures { λ r. ⌜ r ≡ hunted (now (octets .entry)) from least ⌝ }
+    ensures { λ r. ⌜ r ≡ hunted (came octets) from least ⌝ }
 {
     if in_range(least) {
         return seek(octets, from, least);

@@ -3,16 +3,14 @@
 use mathlib.Core.Path.{_≡_, refl}
 use mathlib.Core.List.{List, []}
 use Prim.Native.Nat.{ℕ}
-use native.Mathlib.Omega.{arith}
 use lib.IntN.{ℤ, pos}
-use lib.ListN.{length, replicate}
-use Rattle.bits.specs.Bits.{bits, fields}
-use Rattle.consistency.specs.Tables.{tablesOf}
-use Rattle.bits.specs.Laws.{length-bits}
+use lib.ListN.{replicate}
+use Rattle.bits.specs.Bits.{fields}
+use Rattle.consistency.specs.Tables.{tablesOf, tablesRight}
 use Rattle.hunt.specs.Hunt.{inRange, found, misses}
-use Rattle.hunt.specs.Laws.{searched-all}
 use Rattle.refusals.specs.declared.Reading.the-variants as RR
-use Rattle.hunting.specs.Hunting.{gathering, outsideOf, outcome, readingFound, huntingReading}
+use Rattle.gathering.specs.Gathering.{gathering}
+use Rattle.hunting.specs.Hunting.{outcome, readingFound, huntingReading}
 use Rattle.refusals.specs.Refusals.{huntingNumber, huntingPlace}
 use Rattle.refusals.specs.declared.Hunting.the-variants.{Octets, MatchRange, Nowhere, TooMany}
 use Rattle.hunting.specs.declared.Answer.the-variants.{Refused}
@@ -45,16 +43,9 @@ pub record Table : Type 0 where
   pub first-11-too : huntingReading [] 5 17 (tablesOf [] limits) [] [] ≡ outcome (Refused (Octets RR.WrongTables)) [] []
   pub then-21 : huntingReading [] 5 17 (tablesOf book limits) [] [] ≡ outcome (Refused (MatchRange 17)) [] []
   pub then-22 : huntingReading [] 5 16 (tablesOf book limits) [] [] ≡ outcome (Refused (Nowhere 5 0)) [] []
-  -- of 145 octets searched from bit 3 on, with one multiframe found, five bits are outside
-  pub five-outside : (s : List ℕ) → length s ≡ 145 → outsideOf (bits s) 3 1 ≡ 5
-
-five : (s : List ℕ) → length s ≡ 145 → outsideOf (bits s) 3 1 ≡ 5
-five s e =
-    let n : length (bits s) ≡ 1160 = omega (arith, length-bits s) in
-    omega (arith, searched-all (bits s) (omega arith))
 
 pub table : Table
-unfolding huntingReading readingFound inRange gathering found misses fields
+unfolding huntingReading tablesRight readingFound inRange gathering found misses fields
 table = record {
   number-11 = refl;
   place-11 = refl;
@@ -75,5 +66,4 @@ table = record {
   first-11-too = refl;
   then-21 = refl;
   then-22 = refl;
-  five-outside = five;
 }

@@ -1,5 +1,4 @@
 pub mod Hunting
-pub mod Laws
 pub mod Says
 pub mod Once
 pub mod Examples

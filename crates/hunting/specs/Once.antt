@@ -1,90 +1,24 @@
 -- What the laws of the hunting reading say leaves only one answer: the places, and with them the count, the bits outside and the places tested.
 -- Assumes nothing.
-use Prim.Native.Nat.{ℕ, _+_, _≤_, _<_}
-use mathlib.Core.Path.{_≡_, refl, sym, ap₂, _∙_, subst}
-use mathlib.Core.Logic.{_⊎_, inl, inr}
-use mathlib.Core.List.{List, [], _∷_}
-use mathlib.Core.Bool.{Bool, true, false}
-use native.Mathlib.Decide.{decLt}
+use Prim.Native.Nat.{ℕ}
+use mathlib.Core.Path.{_≡_, sym, _∙_}
+use mathlib.Core.List.{List}
+use mathlib.Core.Bool.{false}
 use native.Mathlib.Omega.{arith}
-use lib.Dec.{eqb}
 use lib.ListN.{length}
-use borrow.Author.Tests.{eq-eqb, eqb-true}
-use Rattle.lists.specs.Tests.{true-false}
 use Rattle.layout.specs.Layout.{mostMultiframes, codebookNumbers, thresholdNumbers}
-use Rattle.consistency.specs.Tables.{Tables, RightTables}
+use Rattle.consistency.specs.Tables.{Tables, RightTables, right-passes, wrong-fails}
 use Rattle.bits.specs.Bits.{bits}
-use Rattle.hunt.specs.Hunt.{multiframeBits, inRange, searched, passes}
+use Rattle.hunt.specs.Hunt.{inRange}
 use Rattle.refusals.specs.declared.Reading.the-variants as RR
-use Rattle.hunting.specs.Hunting.{gathering, Outcome, outcome, huntingReading}
-use Rattle.hunting.specs.Laws.{Among, Overlapped, Apart}
-use Rattle.hunting.specs.Says.{Success, Tested, Beyond}
+use Rattle.gathering.specs.Gathering.{gathering}
+use Rattle.gathering.specs.Laws.{Apart}
+use Rattle.gathering.specs.Once.{Takes, places-once, tested-once}
+use Rattle.hunting.specs.Hunting.{Outcome, outcome, huntingReading}
+use Rattle.hunting.specs.Says.{Success}
 use Rattle.hunting.specs.declared.Counted.{Counted}
 use Rattle.refusals.specs.declared.Hunting.the-variants.{Octets, MatchRange}
 use Rattle.hunting.specs.declared.Answer.the-variants.{Refused}
-
-module _ (l : List Bool) (least : ℕ) where
-  -- every place from `at` on that passes is among these, or one of these that stands before it overlaps it
-  abbrev pub Takes : ℕ → List ℕ → Type 0
-  Takes at ps = (t : ℕ) → at ≤ t → t + multiframeBits ≤ searched l → passes least l t ≡ true → Among t ps ⊎ Overlapped t ps
-
-  among-later : (ps : List ℕ) (at t : ℕ) → Apart l least at ps → Among t ps → at ≤ t
-  among-later [] at t a m = absurd m
-  among-later (p ∷ ps) at t a (inl e) = omega (arith, a .0)
-  among-later (p ∷ ps) at t a (inr m) = let i = among-later ps (p + multiframeBits) t (a .3) m in omega (arith, a .0)
-
-  over-later : (ps : List ℕ) (at t : ℕ) → Apart l least at ps → Overlapped t ps → at ≤ t
-  over-later [] at t a m = absurd m
-  over-later (p ∷ ps) at t a (inl e) = omega (arith, a .0, e .0)
-  over-later (p ∷ ps) at t a (inr m) = let i = over-later ps (p + multiframeBits) t (a .3) m in omega (arith, a .0)
-
-  first-le : (at t p : ℕ) (ps : List ℕ) → Apart l least at (p ∷ ps) → Among t (p ∷ ps) ⊎ Overlapped t (p ∷ ps) → p ≤ t
-  first-le at t p ps a (inl (inl e)) = omega arith
-  first-le at t p ps a (inl (inr m)) = let i = among-later ps (p + multiframeBits) t (a .3) m in omega arith
-  first-le at t p ps a (inr (inl e)) = omega (arith, e .0)
-  first-le at t p ps a (inr (inr m)) = let i = over-later ps (p + multiframeBits) t (a .3) m in omega arith
-
-  behind-first : (t p : ℕ) (ps : List ℕ) → p + multiframeBits ≤ t → Among t (p ∷ ps) ⊎ Overlapped t (p ∷ ps) → Among t ps ⊎ Overlapped t ps
-  behind-first t p ps h (inl (inl e)) = absurd (omega arith)
-  behind-first t p ps h (inl (inr m)) = inl m
-  behind-first t p ps h (inr (inl e)) = absurd (omega (arith, e .1))
-  behind-first t p ps h (inr (inr m)) = inr m
-
-  -- ONLY ONE LIST of places stands apart and takes every place that passes
-  pub places-once : (at : ℕ) (ps qs : List ℕ) → Apart l least at ps → Takes at ps → Apart l least at qs → Takes at qs → ps ≡ qs
-  places-once at [] [] a f b g = refl
-  places-once at [] (q ∷ qs) a f b g = absurd (none (f q (b .0) (b .1) (b .2)))
-    where
-      none : Among q [] ⊎ Overlapped q [] → ⊥
-      none (inl m) = m
-      none (inr m) = m
-  places-once at (p ∷ ps) [] a f b g = absurd (none (g p (a .0) (a .1) (a .2)))
-    where
-      none : Among p [] ⊎ Overlapped p [] → ⊥
-      none (inl m) = m
-      none (inr m) = m
-  places-once at (p ∷ ps) (q ∷ qs) a f b g =
-      let le : q ≤ p = first-le at p q qs b (g p (a .0) (a .1) (a .2)) in
-      let ge : p ≤ q = first-le at q p ps a (f q (b .0) (b .1) (b .2)) in
-      let e : p ≡ q = omega arith in
-      let b′ : Apart l least (p + multiframeBits) qs = subst (λ (x : ℕ). Apart l least (x + multiframeBits) qs) (sym e) (b .3) in
-      let rest : ps ≡ qs =
-      places-once (p + multiframeBits) ps qs (a .3) (λ t h r y. behind-first t p ps h (f t (omega (arith, a .0)) r y)) b′
-      (λ t h r y. behind-first t q qs (omega arith) (g t (omega (arith, a .0)) r y)) in
-      ap₂ (λ (x : ℕ) (xs : List ℕ). x ∷ xs) e rest
-
-  tested-once : (at n k : ℕ) (ps : List ℕ) → Tested l least at n ps → Tested l least at k ps → n ≡ k
-  tested-once at n k [] a b = a ∙ sym b
-  tested-once at n k (p ∷ ps) a b = omega arith
-
-  -- and 15 has one place
-  pub many-once : (k at p q : ℕ) (places : List ℕ) → Beyond l least k at p places → Beyond l least k at q places → p ≡ q
-  many-once k at p q places a b = same (decLt p q) (decLt q p)
-    where
-      same : Dec (p < q) → Dec (q < p) → p ≡ q
-      same (yes h) y = absurd (true-false (sym (a .matches) ∙ b .first p (a .behind) h))
-      same (no h) (yes i) = absurd (true-false (sym (b .matches) ∙ a .first q (b .behind) i))
-      same (no h) (no i) = omega arith
 
 module _ (s : List ℕ) (from least : ℕ) (tables : Tables) (index report : List ℕ) where
   abbrev result : Outcome
@@ -110,14 +44,9 @@ module _ (s : List ℕ) (from least : ℕ) (tables : Tables) (index report : Lis
   -- 11 COMES FIRST, whatever T is and whatever was received
   pub tables-first : (RightTables tables → ⊥) → result ≡ outcome (Refused (Octets RR.WrongTables)) index report
   unfolding huntingReading
-  tables-first n = by (eqb (length (tables .codebook)) codebookNumbers) (eqb (length (tables .thresholds)) thresholdNumbers) refl refl
-    where
-      by : (a b : Bool) → eqb (length (tables .codebook)) codebookNumbers ≡ a → eqb (length (tables .thresholds)) thresholdNumbers ≡ b → result ≡ outcome (Refused (Octets RR.WrongTables)) index report
-      by false b ea eb = rw ea
-      by true false ea eb = rw (ea, eb)
-      by true true ea eb = absurd (n (eqb-true (length (tables .codebook)) codebookNumbers ea, eqb-true (length (tables .thresholds)) thresholdNumbers eb))
+  tables-first n = rw (wrong-fails tables n)
 
   -- THEN 21, whatever was received
   pub range-next : length (tables .codebook) ≡ codebookNumbers → length (tables .thresholds) ≡ thresholdNumbers → inRange least ≡ false → result ≡ outcome (Refused (MatchRange least)) index report
   unfolding huntingReading
-  range-next sc st e = rw (eq-eqb (length (tables .codebook)) codebookNumbers sc, eq-eqb (length (tables .thresholds)) thresholdNumbers st, e)
+  range-next sc st e = rw (right-passes tables (sc, st), e)

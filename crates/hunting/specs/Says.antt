@@ -10,21 +10,17 @@ use native.Mathlib.Omega.{arith}
 use lib.Dec.{eqb, ltb}
 use lib.ListN.{length, getD}
 use lib.Seq.{getD-append-add}
-use borrow.Author.Tests.{eq-eqb, ne-eqb, eqb-true, eqb-false}
+use borrow.Author.Tests.{ne-eqb}
 use Rattle.lists.specs.Tests.{by-test, true-false}
 use Rattle.layout.specs.Layout.{multiframeOctets, mostMultiframes, indexOctets, reportOctets, codebookNumbers, thresholdNumbers, syncFirst, syncSecond}
-use Rattle.consistency.specs.Tables.{Tables, RightTables}
+use Rattle.consistency.specs.Tables.{Tables, tablesRight, RightTables, right-passes, passes-right, fails-wrong}
 use Rattle.bits.specs.Bits.{bits}
 use Rattle.cutting.specs.Cutting.{Cutting, cutting, whole as uncut}
 use Rattle.cutting.specs.Laws.{every, every-length, whole-image}
 use Rattle.settling.specs.declared.Settlement.{Settlement}
 use Rattle.settling.specs.declared.Settlement.the-variants as S
 use Rattle.header.specs.Message.{rateOf, expOf}
-use Rattle.hunt.specs.Hunt.{multiframeBits, inRange, searched, passes, placesLeft, huntedFrom}
-use Rattle.hunt.specs.Laws as Hunt
-use Rattle.hunt.specs.declared.Hunted.{Hunted}
-use Rattle.hunt.specs.declared.Hunted.the-variants as H
-use Rattle.refusals.specs.declared.Hunt.the-variants as HR
+use Rattle.hunt.specs.Hunt.{multiframeBits, inRange, searched, passes, placesLeft}
 use Rattle.reader.specs.Reading as R
 use Rattle.reader.specs.Reading.{roomVerdict, settledVerdict, wholeVerdict}
 use Rattle.reader.specs.declared.Verdict.{Verdict}
@@ -34,10 +30,12 @@ use Rattle.refusals.specs.declared.Reading.the-variants as RR
 use Rattle.reader.specs.declared.Summary.{Summary}
 use Rattle.reader.specs.declared.Answer.{Answer as OctetAnswer}
 use Rattle.reader.specs.declared.Answer.the-variants as RA
-use Rattle.hunting.specs.Hunting.{Ending, whole, tooMany, Gathering, ended, step, last, gathering, outsideOf, aligned, imageOf, withCounts, counted, Outcome, outcome, readingBy, readingFound, huntingReading}
+use Rattle.gathering.specs.Gathering.{Ending, whole, tooMany, Gathering, gathering, outsideOf, aligned, imageOf}
+use Rattle.gathering.specs.Laws.{Among, Overlapped, Apart, Ends, taken, apart, at-most, room-for, length-aligned, length-image}
+use Rattle.gathering.specs.Says.{NonePasses, Tested, tested-says, none-found, nothing-found, Beyond, many-says}
+use Rattle.hunting.specs.Hunting.{withCounts, counted, Outcome, outcome, readingBy, readingFound, huntingReading}
 use Rattle.refusals.specs.Refusals.{readingNumber, huntingNumber, huntingPlace}
 use Rattle.refusals.specs.Laws.{huntingTested, huntingOf, hunting-one-case}
-use Rattle.hunting.specs.Laws.{Among, Overlapped, Apart, Ends, taken, apart, at-most, room-for, length-aligned, length-image}
 use Rattle.hunting.specs.declared.Counted.{Counted}
 use Rattle.refusals.specs.declared.Hunting.{Hunting as Refusal}
 use Rattle.refusals.specs.declared.Hunting.the-variants.{Octets, MatchRange, Nowhere, TooMany}
@@ -100,7 +98,7 @@ module _ (s ps : List ℕ) (some : 0 < length ps) (few : length ps ≤ mostMulti
       ≡ R.finished image tables index report rows (wholeVerdict image tables (length index) (length report) rows)
   unfolding R.reading R.verdict
   decided =
-      rw (eq-eqb (length (tables .codebook)) codebookNumbers sc, eq-eqb (length (tables .thresholds)) thresholdNumbers st)
+      rw (right-passes tables (sc, st))
       (ap (λ (w : Cutting). R.finished image tables index report (w .places) (R.endVerdict image tables (length index) (length report) (w .places) (w .ending)))
       (image-cut s ps few))
 
@@ -126,100 +124,6 @@ module _ (s ps : List ℕ) (some : 0 < length ps) (few : length ps ≤ mostMulti
           let x = R.summary image rows (R.receivedNotes image rows tables) c in
           let z : x ≡ g = cc in
           sym (ap (λ (y : Summary). y .multiframes) z) ∙ every-length 0 (length ps)
-
--- ---- what gathering says
--- the last of the places p and then ps
-abbrev pub lastOf : ℕ → List ℕ → ℕ
-lastOf p [] = p
-lastOf p (q ∷ ps) = lastOf q ps
-
-module _ (l : List Bool) (least : ℕ) where
-  abbrev pub NonePasses : ℕ → Type 0
-  NonePasses at = (t : ℕ) → at ≤ t → t + multiframeBits ≤ searched l → passes least l t ≡ false
-
-  -- PLACES TESTED from bit `at` on: with nothing found, all; else all up to the last multiframe's, but for those inside the multiframes before
-  -- it, and all behind it
-  abbrev pub Tested : ℕ → ℕ → List ℕ → Type 0
-  Tested at n [] = n ≡ placesLeft l at
-  Tested at n (p ∷ ps) = n + (multiframeBits - 1) * length ps ≡ (lastOf p ps + 1 - at) + placesLeft l (lastOf p ps + multiframeBits)
-
-  last-later : (at p : ℕ) (ps : List ℕ) → Apart l least at (p ∷ ps) → at ≤ lastOf p ps
-  last-later at p [] a = a .0
-  last-later at p (q ∷ ps) a = let i = last-later (p + multiframeBits) q ps (a .3) in omega (arith, a .0)
-
-  tested-more : (at p n more : ℕ) (ps : List ℕ) → at ≤ p → n ≡ suc p - at → Apart l least (p + multiframeBits) ps → Tested (p + multiframeBits) more ps → Tested at (n + more) (p ∷ ps)
-  tested-more at p n more [] le e a i = omega arith
-  tested-more at p n more (q ∷ ps) le e a i = omega (arith, last-later (p + multiframeBits) q ps a)
-
-  tested-done : (at : ℕ) (h : Hunted) → Hunt.Says least l at h → last h .ending ≡ whole → Tested at (last h .tested) (last h .places)
-  tested-done at (H.Found p n) a e = let z : _≡_ {A = ℕ} 0 1 = cc in absurd (omega arith)
-  tested-done at (H.Refused (HR.Nowhere q n)) a e = a .2
-  tested-done at (H.Refused (HR.MatchRange q)) a e = absurd a
-
-  tested-step : (at : ℕ) (h : Hunted) (on : ℕ → Gathering) → Hunt.Says least l at h → ((p : ℕ) → Apart l least (p + multiframeBits) (on p .places))
-      → ((p : ℕ) → on p .ending ≡ whole → Tested (p + multiframeBits) (on p .tested) (on p .places)) → step h on .ending ≡ whole
-      → Tested at (step h on .tested) (step h on .places)
-  tested-step at (H.Found p n) on a far next e = tested-more at p n (on p .tested) (on p .places) (a .0) (a .4) (far p) (next p e)
-  tested-step at (H.Refused (HR.Nowhere q n)) on a far next e = a .2
-  tested-step at (H.Refused (HR.MatchRange q)) on a far next e = absurd a
-
-  pub tested-says : (k at : ℕ) → gathering l least k at .ending ≡ whole → Tested at (gathering l least k at .tested) (gathering l least k at .places)
-  unfolding gathering
-  tested-says zero at e = tested-done at (huntedFrom l at least) (Hunt.says least l at) e
-  tested-says (suc k) at e =
-      tested-step at (huntedFrom l at least) (λ p. gathering l least k (p + multiframeBits)) (Hunt.says least l at) (λ p. apart l least k (p + multiframeBits))
-      (λ p. tested-says k (p + multiframeBits)) e
-
-  -- nothing is found exactly if no place passes
-  none-step : (at : ℕ) (h : Hunted) (on : ℕ → Gathering) → Hunt.Says least l at h → step h on .places ≡ [] → NonePasses at
-  none-step at (H.Found p n) on a e = let z : _≡_ {A = ℕ} 0 1 = cc in absurd (omega arith)
-  none-step at (H.Refused (HR.Nowhere q n)) on a e = a .1
-  none-step at (H.Refused (HR.MatchRange q)) on a e = absurd a
-
-  pub none-found : (k at : ℕ) → gathering l least (suc k) at .places ≡ [] → NonePasses at
-  unfolding gathering
-  none-found k at e = none-step at (huntedFrom l at least) (λ p. gathering l least k (p + multiframeBits)) (Hunt.says least l at) e
-
-  pub nothing-found : (k at : ℕ) → NonePasses at → gathering l least (suc k) at ≡ ended whole (placesLeft l at)
-  unfolding gathering
-  nothing-found k at none = ap (λ (h : Hunted). step h (λ p. gathering l least k (p + multiframeBits))) (Hunt.nowhere-exactly least l at .1 none)
-
-  -- the end of the last of the places, or `at` if there is none
-  abbrev pub endOf : ℕ → List ℕ → ℕ
-  endOf at [] = at
-  endOf at (p ∷ ps) = endOf (p + multiframeBits) ps
-
-  -- 15 is for the first whole match behind as many multiframes as may be taken
-  pub record Beyond (k at p : ℕ) (places : List ℕ) : Type 0 where
-    pub count : length places ≡ k
-    pub behind : endOf at places ≤ p
-    pub first : (t : ℕ) → endOf at places ≤ t → t < p → passes least l t ≡ false
-    pub room : p + multiframeBits ≤ searched l
-    pub matches : passes least l p ≡ true
-
-  many-done : (at p : ℕ) (h : Hunted) → Hunt.Says least l at h → last h .ending ≡ tooMany p → Beyond 0 at p (last h .places)
-  many-done at p (H.Found q n) a e =
-      let z : q ≡ p = cc in
-      record {
-        count = refl;
-        behind = omega (arith, a .0);
-        first = λ t h i. a .3 t h (omega arith);
-        room = omega (arith, a .1);
-        matches = subst (λ (x : ℕ). passes least l x ≡ true) z (a .2);
-      }
-  many-done at p (H.Refused r) a e = let z : _≡_ {A = ℕ} 0 1 = cc in absurd (omega arith)
-
-  many-step : (k at p : ℕ) (h : Hunted) (on : ℕ → Gathering) → ((q : ℕ) → on q .ending ≡ tooMany p → Beyond k (q + multiframeBits) p (on q .places)) → step h on .ending ≡ tooMany p
-      → Beyond (suc k) at p (step h on .places)
-  many-step k at p (H.Found q n) on next e =
-      let i = next q e in
-      record { count = omega (arith, i .count); behind = i .behind; first = i .first; room = i .room; matches = i .matches }
-  many-step k at p (H.Refused r) on next e = let z : _≡_ {A = ℕ} 0 1 = cc in absurd (omega arith)
-
-  pub many-says : (k at p : ℕ) → gathering l least k at .ending ≡ tooMany p → Beyond k at p (gathering l least k at .places)
-  unfolding gathering
-  many-says zero at p e = many-done at p (huntedFrom l at least) (Hunt.says least l at) e
-  many-says (suc k) at p e = many-step k at p (huntedFrom l at least) (λ q. gathering l least k (q + multiframeBits)) (λ q. many-says k (q + multiframeBits) p) e
 
 -- ---- the answer
 counted-read : (a : OctetAnswer) (n t : ℕ) (c : Counted) → withCounts a n t ≡ Read c → (a ≡ RA.Read (c .summary)) × (c .outside ≡ n) × (c .tested ≡ t)
@@ -266,14 +170,12 @@ module _ (s : List ℕ) (from least : ℕ) (tables : Tables) (index report : Lis
 
   pub fate : Fate
   unfolding huntingReading readingFound
-  fate = by (eqb (length (tables .codebook)) codebookNumbers) (eqb (length (tables .thresholds)) thresholdNumbers) (inRange least) refl refl refl
+  fate = by (tablesRight tables) (inRange least) refl refl
     where
-      by : (a b r : Bool) → eqb (length (tables .codebook)) codebookNumbers ≡ a → eqb (length (tables .thresholds)) thresholdNumbers ≡ b → inRange least ≡ r → Fate
-      by false b r ea eb er = wrongTables (λ h. eqb-false (length (tables .codebook)) codebookNumbers ea (h .0)) (rw ea)
-      by true false r ea eb er = wrongTables (λ h. eqb-false (length (tables .thresholds)) thresholdNumbers eb (h .1)) (rw (ea, eb))
-      by true true false ea eb er = range (eqb-true (length (tables .codebook)) codebookNumbers ea, eqb-true (length (tables .thresholds)) thresholdNumbers eb) er (rw (ea, eb, er))
-      by true true true ea eb er =
-          found-fate (eqb-true (length (tables .codebook)) codebookNumbers ea, eqb-true (length (tables .thresholds)) thresholdNumbers eb) er (rw (ea, eb, er))
+      by : (a r : Bool) → tablesRight tables ≡ a → inRange least ≡ r → Fate
+      by false r ea er = wrongTables (fails-wrong tables ea) (rw ea)
+      by true false ea er = range (passes-right tables ea) er (rw (ea, er))
+      by true true ea er = found-fate (passes-right tables ea) er (rw (ea, er))
 
   -- 22 EXACTLY IF NO PLACE PASSES, where the tables have their lengths and T its range
   pub nowhere-exactly : length (tables .codebook) ≡ codebookNumbers → length (tables .thresholds) ≡ thresholdNumbers → inRange least ≡ true
@@ -282,7 +184,7 @@ module _ (s : List ℕ) (from least : ℕ) (tables : Tables) (index report : Lis
   nowhere-exactly sc st er = (
     λ e. by fate (ap (λ (o : Outcome). o .answer) e),
     λ none.
-        rw (eq-eqb (length (tables .codebook)) codebookNumbers sc, eq-eqb (length (tables .thresholds)) thresholdNumbers st, er)
+        rw (right-passes tables (sc, st), er)
         (ap (λ (g : Gathering). readingBy s from least tables index report (g .places) (g .tested) (g .ending)) (nothing-found (bits s) least 254 from none)),
   )
     where

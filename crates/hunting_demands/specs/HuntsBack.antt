@@ -21,13 +21,15 @@ use Rattle.carrier.specs.Carrier.{streamPacket}
 use Rattle.header.specs.Reading.{reading}
 use Rattle.hunt.specs.Hunt.{fewestMatches, syncBits, multiframeBits, sync, matches, passes, searched}
 use Rattle.reader.specs.Reading as R
+use Rattle.gathering.specs.Gathering.{imageOf as foundImage, outsideOf}
 use Rattle.hunting.specs.Hunting as G
-use Rattle.hunting.specs.Hunting.{outsideOf, counted, outcome, huntingReading}
+use Rattle.hunting.specs.Hunting.{counted, outcome, huntingReading}
 use Rattle.hunting.specs.declared.Answer.the-variants.{Read}
-use Rattle.writer.specs.Laws.{few-multiframes, length-image}
-use Rattle.writer.specs.Made.{wordIn, streamIn, packetIn}
-use Rattle.writer.specs.Image as I
-use Rattle.writer.specs.Image.{Utterance, multiframesOf, pairsOf, imageOf, is-accepted}
+use Rattle.image.specs.Made.{wordIn, streamIn, packetIn}
+use Rattle.image.specs.Laws.{length-image}
+use Rattle.writer.specs.Laws.{few-multiframes}
+use Rattle.image.specs.Laws as I
+use Rattle.writer.specs.Utterance.{Utterance, multiframesOf, pairsOf, imageOf, is-accepted}
 use Rattle.demands.specs.Damage.{Damage, headerFlips, header-read}
 use Rattle.demands.specs.Damages.{unharmed}
 use Rattle.demands.specs.Whole.{Lent}
@@ -59,7 +61,7 @@ module _ (u : Utterance) (s : List ℕ) (from at least : ℕ) (c : Carried u s f
 
   -- the multiframes found, put together
   abbrev got : List ℕ
-  got = G.imageOf s (row at m)
+  got = foundImage s (row at m)
 
   flips-are : (k : ℕ) → k < m → headerFlips (imageOf u) got k ≡ receivedFlips u s at k
   flips-are k h = ap (λ (w : ℕ). ones (bitXor w (wordIn (imageOf u) k))) (image-word s at m (c .inside) k h)
@@ -117,7 +119,7 @@ module _ (u : Utterance) (s : List ℕ) (from at least : ℕ) (tables : Tables) 
   hunts-back p =
       let c = p .carried in
       let n = multiframesOf u in
-      let g = G.imageOf s (row at n) in
+      let g = foundImage s (row at n) in
       let few : n ≤ mostMultiframes = few-multiframes (u .settings) (u .indices) (is-accepted u .sizes) in
       let headers : (2 ≤ n) ⊎ (headerFlips (imageOf u) g 0 ≡ 0) = ⊎-elim inl (λ e. inr (flips-are u s from at least c 0 (omega arith) ∙ e)) (p .settled) in
       reads-in-a-row s from least tables index report (p .low) (at-most-all (syncAt (bits s) (placeInRow at 0)) least (c .syncs 0 (omega arith))) (p .lent .codebook-size) (p .lent .thresholds-size) at n

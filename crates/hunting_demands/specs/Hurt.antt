@@ -24,9 +24,10 @@ use Rattle.header.specs.Reading.Laws.{near, flips-of, three-lost}
 use Rattle.header.specs.declared.Header.the-variants.{Codeword, Lost}
 use Rattle.hunt.specs.Hunt.{syncBits, headerBits, multiframeBits, sync, matches, passes, searched}
 use Rattle.hunt.specs.Laws.{searched-all}
+use Rattle.image.specs.Made.{streamIn}
+use Rattle.image.specs.Laws.{image-word, image-stream}
 use Rattle.writer.specs.Laws.{few-multiframes}
-use Rattle.writer.specs.Made.{streamIn}
-use Rattle.writer.specs.Image.{image-word, image-stream, Utterance, multiframesOf, imageOf, is-accepted}
+use Rattle.writer.specs.Utterance.{Utterance, multiframesOf, imageOf, is-accepted}
 use Rattle.demands.specs.Damage.{sentMessage}
 use Rattle.hunting_demands.specs.Standing.{placeInRow, syncAt, wordAt, streamAt, passes-there}
 use Rattle.hunting_demands.specs.Laid.{laidMultiframe, laidOctets, Sizes, bits-laid, size-laid, laid-behind, laid-sync, laid-word, laid-stream}
@@ -61,7 +62,7 @@ module _ (u : Utterance) (front : List Bool) (y : ℕ → List Bool) (flips : �
     sizes : Sizes front y hurtWord keptStream m behind n
     sizes = record {
       syncs = f .syncs;
-      words = λ k. xor-lt 32 (codeword (sentMessage u k)) (flips k) (codeword-lt (sentMessage u k) (message-lt (u .settings) (k + 1) 0)) (f .headers k);
+      words = λ k. xor-lt headerBits (codeword (sentMessage u k)) (flips k) (codeword-lt (sentMessage u k) (message-lt (u .settings) (k + 1) 0)) (f .headers k);
       streams = λ k. length-stream (u .indices) (firstPair k) multiframePairs;
       around = f .around;
     }

@@ -19,7 +19,7 @@ use Rattle.polynomials.specs.Light.{ones-in}
 use Rattle.lists.specs.Tests.{all-holds}
 use Rattle.lists.specs.Parts.{part, over}
 use Rattle.layout.specs.Layout.{widths, frameIndices, multiframePairs, streamOctets, indexOctets, reportOctets, firstPair}
-use Rattle.consistency.specs.Tables.{Tables}
+use Rattle.consistency.specs.Tables.{Tables, zeroTables}
 use Rattle.settings.specs.Settings.{settings}
 use Rattle.frames.specs.Frames.{zeroFrame}
 use Rattle.bits.specs.Bits.{field, fields, value, laid, numbers, bits, octets}
@@ -40,22 +40,23 @@ use Rattle.header.specs.declared.Header.{Header}
 use Rattle.header.specs.declared.Header.the-variants.{Codeword, Lost}
 use Rattle.settling.specs.Settling.{readings, settling, firstAgreeing, onlyOne}
 use Rattle.settling.specs.declared.Settlement.the-variants as S
-use Rattle.hunt.specs.Hunt.{syncBits, multiframeBits, fewestMatches, sync, matches, passes, searched}
+use Rattle.hunt.specs.Hunt.{syncBits, headerBits, multiframeBits, fewestMatches, sync, matches, passes, searched}
 use Rattle.hunt.specs.Laws.{searched-all}
 use Rattle.reader.specs.Reading as R
 use Rattle.reader.specs.declared.Answer.the-variants as RA
 use Rattle.refusals.specs.declared.Reading.the-variants.{Unsettled}
-use Rattle.hunting.specs.Hunting.{outsideOf, counted, outcome, huntingReading}
+use Rattle.gathering.specs.Gathering.{outsideOf}
+use Rattle.hunting.specs.Hunting.{counted, outcome, huntingReading}
 use Rattle.hunting.specs.declared.Answer.the-variants.{Read}
+use Rattle.image.specs.Made.{Small, syncIn, wordIn, streamIn, packetIn, made, length-made, small-made, made-sync, made-word, made-stream}
+use Rattle.image.specs.Laws.{length-image, image-small, image-sync, image-word, image-stream}
 use Rattle.writer.specs.Writing.{verdict, roomAnswer, firstFrom, frameCount, needed}
-use Rattle.writer.specs.Laws.{length-image}
-use Rattle.writer.specs.Made.{Small, syncIn, wordIn, streamIn, packetIn, made, length-made, small-made, made-sync, made-word, made-stream}
-use Rattle.writer.specs.Image.{image-small, image-sync, image-word, image-stream, Utterance, multiframesOf, pairsOf, imageOf}
+use Rattle.writer.specs.Utterance.{Utterance, multiframesOf, pairsOf, imageOf}
 use Rattle.writer.specs.declared.Answer.the-variants.{Written}
 use Rattle.demands.specs.Damage.{any-header, headerFlips, header-lost}
 use Rattle.demands.specs.Whole.{Lent, rowOf, readings-are, refuses-16}
 use Rattle.demands.specs.ReadsBack.{spoken, padded, reads-image}
-use Rattle.demands.specs.Met.{zeroTables, indexFor, reportFor, lent-zeros}
+use Rattle.demands.specs.Met.{indexFor, reportFor, lent-zeros}
 use Rattle.promises.specs.Misled as NeverMisled
 use Rattle.promises.specs.Trusted as Trusted
 use Rattle.hunting_demands.specs.Standing.{placeInRow, syncAt, wordAt, streamAt, all-match, passes-there, unlike-fails, lost-fails, InARow, testedInRow}
@@ -148,7 +149,7 @@ same-stream =
 abbrev m : ℕ
 m = multiframesOf sent
 
-word-small : (k : ℕ) → words k < 2 ^ 32
+word-small : (k : ℕ) → words k < 2 ^ headerBits
 word-small zero = lit< tt
 word-small (suc k) = lit< tt
 
@@ -175,13 +176,13 @@ first-flips : headerFlips (imageOf sent) garbled 0 ≡ 3
 unfolding onesIn
 first-flips =
     ap₂ (λ (a b : ℕ). ones (bitXor a b)) (word-came 0 (lit< tt)) (image-word (sent .settings) (sent .indices) m 0 (lit< tt) ∙ first-word)
-    ∙ sym (ones-in 32 0x000E0000 (lit< tt))
+    ∙ sym (ones-in headerBits 0x000E0000 (lit< tt))
 
 second-flips : headerFlips (imageOf sent) garbled 1 ≡ 8
 unfolding onesIn
 second-flips =
     ap₂ (λ (a b : ℕ). ones (bitXor a b)) (word-came 1 (lit< tt)) (image-word (sent .settings) (sent .indices) m 1 (lit< tt) ∙ second-word)
-    ∙ sym (ones-in 32 0x32120019 (lit< tt))
+    ∙ sym (ones-in headerBits 0x32120019 (lit< tt))
 
 -- so the first is lost, and the second is read as a codeword of 11 kHz without a flip
 first-lost : reading (wordIn garbled 0) ≡ Lost

@@ -18,12 +18,12 @@ use Rattle.carrier.specs.Carrier.{streamPacket}
 use Rattle.crc.specs.Crc.{Damaged}
 use Rattle.hunt.specs.Hunt.{fewestMatches, multiframeBits, sync, matches, passes, searched}
 use Rattle.header.specs.Reading.{reading}
-use Rattle.hunting.specs.Hunting as G
-use Rattle.hunting.specs.Hunting.{Gathering, gathering}
-use Rattle.writer.specs.Laws.{few-multiframes, length-image}
-use Rattle.writer.specs.Made.{syncIn, wordIn, packetIn}
-use Rattle.writer.specs.Image as I
-use Rattle.writer.specs.Image.{Utterance, multiframesOf, pairsOf, imageOf, is-accepted}
+use Rattle.gathering.specs.Gathering.{Gathering, gathering, imageOf as foundImage}
+use Rattle.image.specs.Made.{syncIn, wordIn, packetIn}
+use Rattle.image.specs.Laws.{length-image}
+use Rattle.writer.specs.Laws.{few-multiframes}
+use Rattle.image.specs.Laws as I
+use Rattle.writer.specs.Utterance.{Utterance, multiframesOf, pairsOf, imageOf, is-accepted}
 use Rattle.demands.specs.Damage.{Damage, headerFlips, header-read}
 use Rattle.demands.specs.Whole.{Lent}
 use Rattle.demands.specs.Received.{BadPair}
@@ -38,7 +38,7 @@ receivedPacket s at q = streamPacket (streamAt (bits s) (placeInRow at (multifra
 
 -- the multiframes that stand there, put together on octets
 abbrev pub together : Utterance → List ℕ → ℕ → List ℕ
-together u s at = G.imageOf s (row at (multiframesOf u))
+together u s at = foundImage s (row at (multiframesOf u))
 
 -- an utterance received at bit `at`, searched from bit `from` on, where a sync must match in `least` bits; whatever happened to its packets
 pub record Caught (u : Utterance) (s : List ℕ) (from at least : ℕ) : Type 0 where

@@ -9,11 +9,11 @@ use native.Mathlib.Omega.{arith}
 use lib.ListN.{length, take, drop}
 use lib.Seq.{drop-drop, take-add}
 use lib.Dec.{leb}
-use borrow.Author.Tests.{eq-eqb, le-leb, lt-leb}
+use borrow.Author.Tests.{le-leb, lt-leb}
 use Rattle.lists.specs.Tests.{both}
 use Rattle.lists.specs.Parts.{part, length-part}
-use Rattle.layout.specs.Layout.{streamOctets, multiframeOctets, mostMultiframes, codebookNumbers, thresholdNumbers, syncFirst, syncSecond}
-use Rattle.consistency.specs.Tables.{Tables}
+use Rattle.layout.specs.Layout.{headerOctets, streamOctets, multiframeOctets, mostMultiframes, codebookNumbers, thresholdNumbers, syncFirst, syncSecond}
+use Rattle.consistency.specs.Tables.{Tables, right-passes}
 use Rattle.bits.specs.Bits.{field, fields, value, bits, octets}
 use Rattle.bits.specs.Laws.{field-value, value-lt, bits-octets, octets-append}
 use Rattle.header.specs.Reading.{reading}
@@ -25,10 +25,11 @@ use Rattle.hunt.specs.Laws.{in-range, searched-le, says, once, nowhere-exactly}
 use Rattle.hunt.specs.declared.Hunted.{Hunted}
 use Rattle.hunt.specs.declared.Hunted.the-variants as H
 use Rattle.reader.specs.Reading as R
-use Rattle.hunting.specs.Hunting.{Ending, whole, ended, prepend, step, last, gathering, outsideOf, aligned, imageOf, counted, readingBy, readingFound, huntingReading}
-use Rattle.hunting.specs.Laws.{image-more}
-use Rattle.hunting.specs.Says.{nothing-found}
-use Rattle.writer.specs.Made.{Small, syncIn, wordIn, streamIn, framed, made, length-made, small-made, made-sync, made-word, made-stream}
+use Rattle.gathering.specs.Gathering.{Ending, whole, ended, prepend, step, last, gathering, outsideOf, aligned, imageOf}
+use Rattle.gathering.specs.Laws.{image-more}
+use Rattle.gathering.specs.Says.{nothing-found}
+use Rattle.hunting.specs.Hunting.{counted, readingBy, readingFound, huntingReading}
+use Rattle.image.specs.Made.{Small, syncIn, wordIn, streamIn, framed, made, length-made, small-made, made-sync, made-word, made-stream}
 
 -- ---- places
 -- the k-th of multiframes that stand one behind the other from bit `at` on
@@ -57,8 +58,11 @@ syncAt l p = part p syncBits l
 abbrev pub wordAt : List Bool → ℕ → ℕ
 wordAt l p = value (part (p + syncBits) headerBits l)
 
+abbrev pub streamBits : ℕ
+streamBits = 8 * streamOctets
+
 abbrev pub streamAt : List Bool → ℕ → List Bool
-streamAt l p = part (p + syncBits + headerBits) (8 * streamOctets) l
+streamAt l p = part (p + syncBits + headerBits) streamBits l
 
 pub all-match : matches sync sync ≡ syncBits
 unfolding matches fields field
@@ -167,7 +171,7 @@ module _ (s : List ℕ) (from least : ℕ) (tables : Tables) (index report : Lis
       → huntingReading s from least tables index report ≡ readingBy s from least tables index report ps n e
   unfolding huntingReading readingFound
   found-next ps e n g =
-      rw (eq-eqb (length (tables .codebook)) codebookNumbers codebook-size, eq-eqb (length (tables .thresholds)) thresholdNumbers thresholds-size, in-range least low high, g)
+      rw (right-passes tables (codebook-size, thresholds-size), in-range least low high, g)
 
   -- READ IN A ROW: what is put together is read as 01 says, with the bits outside and the places tested
   pub reads-in-a-row : (at m : ℕ) → InARow (bits s) from at least m → 0 < m → m ≤ mostMultiframes
@@ -186,14 +190,14 @@ pub aligned-framed : (s : List ℕ) (p : ℕ) → p + multiframeBits ≤ length 
 unfolding aligned
 aligned-framed s p room =
     let l = bits s in
-    let head = part (p + 16) 32 l in
-    let size : length head ≡ 32 = length-part l (p + 16) 32 (omega arith) in
-    let parts : part (p + 16) 1136 l ≡ head ++ part (p + 16 + 32) 1104 l =
-    take-add 32 1104 (drop (p + 16) l) ∙ ap (λ (x : List Bool). head ++ take 1104 x) (drop-drop 32 (p + 16) l) in
-    let again : field 32 (value head) ≡ head = subst (λ (n : ℕ). field n (value head) ≡ head) size (field-value head) in
+    let head = part (p + syncBits) headerBits l in
+    let size : length head ≡ headerBits = length-part l (p + syncBits) 32 (omega arith) in
+    let parts : part (p + syncBits) (headerBits + streamBits) l ≡ head ++ part (p + syncBits + headerBits) streamBits l =
+    take-add headerBits streamBits (drop (p + syncBits) l) ∙ ap (λ (x : List Bool). head ++ take streamBits x) (drop-drop headerBits (p + syncBits) l) in
+    let again : field headerBits (value head) ≡ head = subst (λ (n : ℕ). field n (value head) ≡ head) size (field-value head) in
     ap (λ (x : List ℕ). (syncFirst ∷ syncSecond ∷ []) ++ x)
-    (ap (octets 142) parts ∙ octets-append 4 streamOctets head (part (p + 16 + 32) 1104 l) size
-    ∙ ap (λ (x : List Bool). octets 4 x ++ octets streamOctets (part (p + 16 + 32) 1104 l)) (sym again))
+    (ap (octets (headerOctets + streamOctets)) parts ∙ octets-append headerOctets streamOctets head (part (p + syncBits + headerBits) streamBits l) size
+    ∙ ap (λ (x : List Bool). octets headerOctets x ++ octets streamOctets (part (p + syncBits + headerBits) streamBits l)) (sym again))
 
 module _ (s : List ℕ) (at m : ℕ) (inside : at + multiframeBits * m ≤ searched (bits s)) where
   within : at + multiframeBits * m ≤ length (bits s)
@@ -228,11 +232,11 @@ module _ (s : List ℕ) (at m : ℕ) (inside : at + multiframeBits * m ≤ searc
 
     pub image-word : wordIn (imageOf s (row at m)) k ≡ wordAt (bits s) (placeInRow at k)
     image-word =
-        let size : length (part (at + multiframeBits * k + 16) 32 (bits s)) ≡ 32 = length-part (bits s) (at + multiframeBits * k + 16) 32 (omega (arith, within)) in
+        let size : length (part (at + multiframeBits * k + syncBits) headerBits (bits s)) ≡ headerBits = length-part (bits s) (at + multiframeBits * k + syncBits) headerBits (omega (arith, within)) in
         ap (λ (x : List ℕ). wordIn x k) image-made
-        ∙ made-word words streams m k h (subst (λ (n : ℕ). words k < 2 ^ n) size (value-lt (part (at + multiframeBits * k + 16) 32 (bits s))))
+        ∙ made-word words streams m k h (subst (λ (n : ℕ). words k < 2 ^ n) size (value-lt (part (at + multiframeBits * k + syncBits) headerBits (bits s))))
 
     pub image-stream : bits (streamIn (imageOf s (row at m)) k) ≡ streamAt (bits s) (placeInRow at k)
     image-stream =
         ap (λ (x : List ℕ). bits (streamIn x k)) image-made ∙ ap bits (made-stream words streams m k h)
-        ∙ bits-octets streamOctets (streams k) (length-part (bits s) (at + multiframeBits * k + 16 + 32) 1104 (omega (arith, within)))
+        ∙ bits-octets streamOctets (streams k) (length-part (bits s) (at + multiframeBits * k + syncBits + headerBits) streamBits (omega (arith, within)))

@@ -116,11 +116,14 @@ pub struct Sizes {
 pub fn all_sizes() -> Sizes
     ensures frame { λ r. ⌜ (r .indices ≡ frameIndices) × (r .frame ≡ frameBits) ⌝ }
     ensures packet { λ r. ⌜ (r .crc ≡ crcBits) × (r .data ≡ dataBits) × (r .packet ≡ packetBits) ⌝ }
-    ensures multiframe { λ r. ⌜ (r .pairs ≡ multiframePairs) × (r .frames ≡ multiframeFrames) × (r .header ≡ headerOctets) × (r .stream ≡ streamOctets) × (r .multiframe ≡ multiframeOctets) ⌝ }
-    ensures sync { λ r. ⌜ (r .sync ≡ syncOctets) × (r .opening .first ≡ syncFirst) × (r .opening .second ≡ syncSecond) × (r .word ≡ syncWord) ⌝ }
+    ensures multiframe { λ r. ⌜ (r .pairs ≡ multiframePairs) × (r .frames ≡ multiframeFrames) × (r .header ≡ headerOctets)
+        × (r .stream ≡ streamOctets) × (r .multiframe ≡ multiframeOctets) ⌝ }
+    ensures sync { λ r. ⌜ (r .sync ≡ syncOctets) × (r .opening .first ≡ syncFirst)
+        × (r .opening .second ≡ syncSecond) × (r .word ≡ syncWord) ⌝ }
     ensures inverse { λ r. ⌜ (r .inverse .first ≡ inverseFirst) × (r .inverse .second ≡ inverseSecond) ⌝ }
     ensures utterance { λ r. ⌜ (r .multiframes ≡ mostMultiframes) × (r .speech ≡ mostFrames) ⌝ }
-    ensures lent { λ r. ⌜ (r .index ≡ indexOctets) × (r .report ≡ reportOctets) × (r .codebook ≡ codebookNumbers) × (r .thresholds ≡ thresholdNumbers) ⌝ }
+    ensures lent { λ r. ⌜ (r .index ≡ indexOctets) × (r .report ≡ reportOctets)
+        × (r .codebook ≡ codebookNumbers) × (r .thresholds ≡ thresholdNumbers) ⌝ }
 {
     Sizes {
         indices: FrameLayout::INDICES,

@@ -8,6 +8,7 @@ ghost use mathlib.Core.Path.{_≡_};
 ghost use Prim.Native.Nat.{_+_, _*_, _≤_};
 ghost use lib.ListN.{length};
 ghost use Rattle.lists.specs.Rows.{joined};
+ghost use Rattle.lists.specs.Lent.{came, left};
 ghost use Rattle.layout.specs.Layout.{reportOctets};
 ghost use Rattle.text.specs.Text.{Put};
 ghost use Rattle.lines.specs.Lines.{mostPairs, mostLine, mostTotal, pairText, line, lineOf, total, refusal};
@@ -21,7 +22,7 @@ pub const TOTAL: usize = 6 * text::NUMBER + 43;
 // The twelve pair notes, one behind the other.
 fn put_pairs(notes: &[u8], text: &mut [u8], at: usize) -> usize
     requires { ⌜ (length (now notes) ≡ reportOctets) × (at + mostPairs ≤ length (now text)) ⌝ }
-    ensures { λ r. ⌜ Put (pairText (now (notes .entry))) (now (text .entry)) at (now (text .exit)) r ⌝ }
+    ensures { λ r. ⌜ Put (pairText (came notes)) (came text) at (left text) r ⌝ }
     ensures { λ r. ⌜ r ≤ at + mostPairs ⌝ }
 {
     let mut end = at;
@@ -35,7 +36,7 @@ fn put_pairs(notes: &[u8], text: &mut [u8], at: usize) -> usize
 // and for room.
 pub fn put_line(notes: &[u8], text: &mut [u8], at: usize) -> usize
     requires { ⌜ (length (now notes) ≡ reportOctets) × (at + mostLine ≤ length (now text)) ⌝ }
-    ensures { λ r. ⌜ Put (line (now (notes .entry))) (now (text .entry)) at (now (text .exit)) r ⌝ }
+    ensures { λ r. ⌜ Put (line (came notes)) (came text) at (left text) r ⌝ }
     ensures { λ r. ⌜ r ≤ at + mostLine ⌝ }
 {
     let header = text::put_note(notes[0], text, at);
@@ -47,7 +48,7 @@ pub fn put_line(notes: &[u8], text: &mut [u8], at: usize) -> usize
 // put_lines puts the lines of the first multiframes of a report. It asks for them and for room.
 pub fn put_lines(report: &[u8], multiframes: usize, text: &mut [u8], at: usize) -> usize
     requires { ⌜ (reportOctets * multiframes ≤ length (now report)) × (at + mostLine * multiframes ≤ length (now text)) ⌝ }
-    ensures { λ r. ⌜ Put (joined (lineOf (now (report .entry))) multiframes) (now (text .entry)) at (now (text .exit)) r ⌝ }
+    ensures { λ r. ⌜ Put (joined (lineOf (came report)) multiframes) (came text) at (left text) r ⌝ }
     ensures { λ r. ⌜ r ≤ at + mostLine * multiframes ⌝ }
 {
     let mut end = at;
@@ -61,7 +62,7 @@ pub fn put_lines(report: &[u8], multiframes: usize, text: &mut [u8], at: usize) 
 // put_total puts the total: the success answer's fields, in their order. It asks for room.
 pub fn put_total(s: Summary, text: &mut [u8], at: usize) -> usize
     requires { ⌜ at + mostTotal ≤ length (now text) ⌝ }
-    ensures { λ r. ⌜ Put (total s) (now (text .entry)) at (now (text .exit)) r ⌝ }
+    ensures { λ r. ⌜ Put (total s) (came text) at (left text) r ⌝ }
 {
     let rate = s.settings.rate as u64;
     let kind = s.settings.kind as u64;
@@ -82,7 +83,7 @@ pub fn put_total(s: Summary, text: &mut [u8], at: usize) -> usize
 // put_refusal puts the line of a refusal: its number and place. It asks for room.
 pub fn put_refusal(r: Reading, text: &mut [u8], at: usize) -> usize
     requires { ⌜ at + mostTotal ≤ length (now text) ⌝ }
-    ensures { λ e. ⌜ Put (refusal r) (now (text .entry)) at (now (text .exit)) e ⌝ }
+    ensures { λ e. ⌜ Put (refusal r) (came text) at (left text) e ⌝ }
 {
     let number = refusals::reading_number(r) as u64;
     let place = refusals::reading_place(r) as u64;

@@ -5,6 +5,7 @@ use layout::UtteranceLayout;
 use reader::Answer;
 ghost use Prim.Native.Nat.{_≤_};
 ghost use lib.ListN.{length};
+ghost use Rattle.lists.specs.Lent.{came, left};
 ghost use Rattle.text.specs.Text.{Put};
 ghost use Rattle.listing.specs.Listing.{mostListing, listing};
 
@@ -19,7 +20,7 @@ const REPORT: usize = ReadingLayout::REPORT * UtteranceLayout::MULTIFRAMES;
 // thresholds are 0. It asks for room, MOST octets.
 pub fn put_listing(octets: &[u8], text: &mut [u8]) -> usize
     requires { ⌜ mostListing ≤ length (now text) ⌝ }
-    ensures { λ r. ⌜ Put (listing (now (octets .entry))) (now (text .entry)) 0 (now (text .exit)) r ⌝ }
+    ensures { λ r. ⌜ Put (listing (came octets)) (came text) 0 (left text) r ⌝ }
 {
     let codebook = [0i32; ReadingLayout::CODEBOOK];
     let thresholds = [0i32; ReadingLayout::THRESHOLDS];

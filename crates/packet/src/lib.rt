@@ -11,6 +11,7 @@ ghost use mathlib.Core.List.{_++_};
 ghost use Prim.Native.Nat.{_+_, _*_, _%_, _^_, _≤_, _<_};
 ghost use lib.ListN.{length};
 ghost use Rattle.lists.specs.Parts.{part, over};
+ghost use Rattle.lists.specs.Lent.{came, left};
 ghost use Rattle.layout.specs.Layout.{widths, frameIndices, frameBits, pairIndices, dataBits, packetBits, packetStart, multiframePairs, streamOctets};
 ghost use Rattle.bits.specs.Bits.{bits, field, value, octets};
 ghost use Rattle.crc.specs.Crc.{crc, code, right};
@@ -62,7 +63,7 @@ fn wide(x: u8) -> u64
 // It asks for whole frames (refusal 2 of the writer) and a frame number whose octets can be counted.
 pub fn frame_word(idx: &[u8], k: Frame) -> u64
     requires { ⌜ (length (now idx) % frameIndices ≡ 0) × (k .0 < 2 ^ 21) ⌝ }
-    ensures { λ r. ⌜ r ≡ value (frame widths (frameAt (now (idx .entry)) (k .0))) ⌝ }
+    ensures { λ r. ⌜ r ≡ value (frame widths (frameAt (came idx) (k .0))) ⌝ }
 {
     let from = FrameLayout::INDICES * k.0;
     if idx.len() <= from {
@@ -97,7 +98,7 @@ pub struct Packed {
 // pack gives the packet of pair q.
 pub fn pack(idx: &[u8], q: Pair) -> Packed
     requires { ⌜ (length (now idx) % frameIndices ≡ 0) × (q .0 < 2 ^ 20) ⌝ }
-    ensures bits { λ r. ⌜ field 64 (r .low) ++ field restBits (r .high) ≡ packetOf (now (idx .entry)) (q .0) ⌝ }
+    ensures bits { λ r. ⌜ field 64 (r .low) ++ field restBits (r .high) ≡ packetOf (came idx) (q .0) ⌝ }
     ensures fits { λ r. ⌜ (r .low < 2 ^ 64) × (r .high < 2 ^ restBits) ⌝ }
 {
     let a = frame_word(idx, q.first());
@@ -113,7 +114,7 @@ pub fn pack(idx: &[u8], q: Pair) -> Packed
 fn put_two(idx: &[u8], q: Pair, out: &mut [u8], at: usize)
     requires { ⌜ (length (now idx) % frameIndices ≡ 0) × (q .0 + 1 < 2 ^ 20) ⌝ }
     requires { ⌜ at + twoPackets ≤ length (now out) ⌝ }
-    ensures { λ _. ⌜ now (out .exit) ≡ over (now (out .entry)) at twoPackets (octets twoPackets (stream (now (idx .entry)) (q .0) 2)) ⌝ }
+    ensures { λ _. ⌜ left out ≡ over (came out) at twoPackets (octets twoPackets (stream (came idx) (q .0) 2)) ⌝ }
 {
     let a = pack(idx, q);
     let b = pack(idx, Pair(q.0 + 1));
@@ -132,7 +133,7 @@ fn put_two(idx: &[u8], q: Pair, out: &mut [u8], at: usize)
 pub fn put_stream(idx: &[u8], q: Pair, out: &mut [u8], at: usize)
     requires { ⌜ (length (now idx) % frameIndices ≡ 0) × (q .0 + multiframePairs < 2 ^ 20) ⌝ }
     requires { ⌜ at + streamOctets ≤ length (now out) ⌝ }
-    ensures { λ _. ⌜ now (out .exit) ≡ over (now (out .entry)) at streamOctets (octets streamOctets (stream (now (idx .entry)) (q .0) multiframePairs)) ⌝ }
+    ensures { λ _. ⌜ left out ≡ over (came out) at streamOctets (octets streamOctets (stream (came idx) (q .0) multiframePairs)) ⌝ }
 {
     for g in 0..MultiframeLayout::PAIRS / 2 {
         put_two(idx, Pair(q.0 + 2 * g), out, at + TWO * g);
@@ -143,7 +144,7 @@ pub fn put_stream(idx: &[u8], q: Pair, out: &mut [u8], at: usize)
 // inside.
 fn first_word(s: &[u8], p: Pair) -> u64
     requires { ⌜ packetStart (p .0) + packetBits ≤ 8 * length (now s) ⌝ }
-    ensures { λ r. ⌜ r ≡ value (part (packetStart (p .0)) frameBits (bits (now (s .entry)))) ⌝ }
+    ensures { λ r. ⌜ r ≡ value (part (packetStart (p .0)) frameBits (bits (came s))) ⌝ }
 {
     let at = p.start();
     (bits::word(s, at / 8) >> (at % 8)) & FRAME_MASK
@@ -152,7 +153,7 @@ fn first_word(s: &[u8], p: Pair) -> u64
 // second_word gives the bits of the second frame and the CRC. Its word starts four octets on and never passes the packet's last octet.
 fn second_word(s: &[u8], p: Pair) -> u64
     requires { ⌜ packetStart (p .0) + packetBits ≤ 8 * length (now s) ⌝ }
-    ensures { λ r. ⌜ r ≡ value (part (packetStart (p .0) + frameBits) secondBits (bits (now (s .entry)))) ⌝ }
+    ensures { λ r. ⌜ r ≡ value (part (packetStart (p .0) + frameBits) secondBits (bits (came s))) ⌝ }
 {
     let at = p.start();
     (bits::word(s, at / 8 + AHEAD) >> (INTO + at % 8)) & SECOND_MASK
@@ -162,7 +163,7 @@ fn second_word(s: &[u8], p: Pair) -> u64
 // them leave a zero register alone and make whole octets.
 pub fn is_right(s: &[u8], p: Pair) -> bool
     requires { ⌜ packetStart (p .0) + packetBits ≤ 8 * length (now s) ⌝ }
-    ensures { λ r. ⌜ r ≡ right dataBits (part (packetStart (p .0)) packetBits (bits (now (s .entry)))) ⌝ }
+    ensures { λ r. ⌜ r ≡ right dataBits (part (packetStart (p .0)) packetBits (bits (came s))) ⌝ }
 {
     let a = first_word(s, p);
     let b = second_word(s, p);
@@ -173,7 +174,7 @@ pub fn is_right(s: &[u8], p: Pair) -> bool
 // take_frame stores the seven indices of the frame in the low bits of w from octet to on.
 fn take_frame(w: u64, idx: &mut [u8], to: usize)
     requires { ⌜ to + frameIndices ≤ length (now idx) ⌝ }
-    ensures { λ _. ⌜ now (idx .exit) ≡ over (now (idx .entry)) to frameIndices (indices widths (field frameBits w)) ⌝ }
+    ensures { λ _. ⌜ left idx ≡ over (came idx) to frameIndices (indices widths (field frameBits w)) ⌝ }
 {
     for i in 0..FrameLayout::NARROW {
         idx[to + i] = ((w >> (FrameLayout::NARROW_BITS * i)) & NARROW_MASK) as u8;
@@ -184,7 +185,7 @@ fn take_frame(w: u64, idx: &mut [u8], to: usize)
 // take_apart stores the two frames of pair p's packet in a stream as fourteen octets from octet to on; every other octet stays.
 pub fn take_apart(s: &[u8], p: Pair, idx: &mut [u8], to: usize)
     requires { ⌜ (packetStart (p .0) + packetBits ≤ 8 * length (now s)) × (to + pairIndices ≤ length (now idx)) ⌝ }
-    ensures { λ _. ⌜ now (idx .exit) ≡ over (now (idx .entry)) to pairIndices (apart widths (part (packetStart (p .0)) packetBits (bits (now (s .entry))))) ⌝ }
+    ensures { λ _. ⌜ left idx ≡ over (came idx) to pairIndices (apart widths (part (packetStart (p .0)) packetBits (bits (came s)))) ⌝ }
 {
     take_frame(first_word(s, p), idx, to);
     take_frame(second_word(s, p), idx, to + FrameLayout::INDICES);

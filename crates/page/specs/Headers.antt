@@ -25,7 +25,7 @@ use Rattle.header.specs.Message.Laws.{message-lt, message-back, rate-masked, ty
 use Rattle.header.specs.Reading as R
 use Rattle.header.specs.Reading.Laws.{near, flips-of}
 use Rattle.header.specs.declared.Header.the-variants.{Codeword}
-use Rattle.writer.specs.Writing.{multiframe}
+use Rattle.image.specs.Image.{multiframe}
 
 -- ---- the octets of a word
 four-octets : (w : ℕ)

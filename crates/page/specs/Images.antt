@@ -14,7 +14,7 @@ use Rattle.lists.specs.Tests.{all, all-holds}
 use Rattle.lists.specs.Parts.{part}
 use Rattle.lists.specs.Rows.{joined}
 use Rattle.layout.specs.Layout.{widths, streamOctets, firstPair, multiframePairs}
-use Rattle.consistency.specs.Tables.{Tables, tablesOf}
+use Rattle.consistency.specs.Tables.{Tables, tablesOf, zeroTables}
 use Rattle.settings.specs.Settings.{settings}
 use Rattle.frames.specs.Frames.{zeroFrame as isZeroFrame}
 use Rattle.bits.specs.Bits.{numbers, value, laid, field, fields, bits, octets}
@@ -26,17 +26,18 @@ use Rattle.header_code.specs.Code.Distance.{codeword-lt}
 use Rattle.header_code.specs.Code.Examples as C
 use Rattle.header.specs.Message.{message}
 use Rattle.header.specs.Message.Laws.{message-lt, message-nothing, message-rate-1, count-mod}
-use Rattle.writer.specs.Writing.{firstFrom, roomAnswer, verdict, image, outcome, writing}
+use Rattle.image.specs.Image.{image}
+use Rattle.image.specs.Made.{Small, headerIn}
+use Rattle.image.specs.Laws.{image-header}
+use Rattle.writer.specs.Writing.{firstFrom, roomAnswer, verdict, outcome, writing}
 use Rattle.writer.specs.declared.Answer.the-variants.{Written}
-use Rattle.writer.specs.Made.{Small, headerIn}
-use Rattle.writer.specs.Image.{image-header, Utterance, writes}
+use Rattle.writer.specs.Utterance.{Utterance, writes}
 use Rattle.reader.specs.Reading.{reading}
 use Rattle.reader.specs.Reading as R
 use Rattle.reader.specs.declared.Answer.the-variants.{Read}
 use Rattle.demands.specs.Examples.{header8}
 use Rattle.demands.specs.Examples as E
 use Rattle.demands.specs.Instances.{says1}
-use Rattle.demands.specs.Met.{zeroTables}
 use Rattle.demands.specs.ReadsBack.{reads-image}
 use Rattle.page.specs.Headers.{same-octets, multiframe-is}
 use Rattle.page.specs.Headers as H

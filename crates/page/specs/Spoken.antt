@@ -27,17 +27,19 @@ use Rattle.header_code.specs.Code.{codeword, flipsTo}
 use Rattle.header_code.specs.Code.Distance.{codeword-lt}
 use Rattle.header.specs.Message.Laws.{message-lt}
 use Rattle.header.specs.Reading.Laws.{flips-of}
+use Rattle.image.specs.Made.{packetIn, made-word, made-packet}
+use Rattle.image.specs.Laws.{image-packet}
 use Rattle.writer.specs.Writing.{nowhere, firstFrom, isFound, frameCount, isWide, mustSpeak, endsEarly, needed, verdict, Outcome, writing}
 use Rattle.writer.specs.Laws.{Sized, accepts}
-use Rattle.writer.specs.Made.{packetIn, made-word, made-packet}
-use Rattle.writer.specs.Image.{Utterance, multiframesOf, pairsOf, imageOf, image-packet, writes}
+use Rattle.writer.specs.Utterance.{Utterance, multiframesOf, pairsOf, imageOf, writes}
 use Rattle.writer.specs.declared.Answer.the-variants.{Written}
 use Rattle.demands.specs.Damage.{headerFlips, Touched, sentMessage, differs, header-near}
 use Rattle.demands.specs.Received.{BadPair, Count, count-once, count-one, count-none}
-use Rattle.demands.specs.Met.{zeroTables, indexFor, reportFor, burstAt, doubleAt, distance, hurtWord, hurtStream, hurtImage, length-hurt, part-0, part-1, part-on, zero-consistent, small-ones, reads-back-met, names-met}
+use Rattle.demands.specs.Met.{indexFor, reportFor, burstAt, doubleAt, distance, hurtWord, hurtStream, hurtImage, length-hurt, part-0, part-1, part-on, zero-consistent, small-ones, reads-back-met, names-met}
 use Rattle.demands.specs.Whole.{headerNoteIn, pairNoteIn}
 use Rattle.demands.specs.ReadsBack as R
 use Rattle.demands.specs.NamesTheDamage as N
+use Rattle.consistency.specs.Tables.{zeroTables}
 
 -- n frames of ones
 abbrev pub ones : ℕ → List ℕ

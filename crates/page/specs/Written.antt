@@ -13,7 +13,8 @@ use Rattle.frames.specs.Frames.{zeroFrame}
 use Rattle.bits.specs.Bits.{numbers, value, laid, field, octets}
 use Rattle.crc.specs.Crc.{crc, after}
 use Rattle.packet.specs.Packet.{packet, guarded, row, packetOf, stream}
-use Rattle.writer.specs.Writing.{numberOf, placeOf, firstFrom, roomAnswer, verdict, image, writing}
+use Rattle.image.specs.Image.{image}
+use Rattle.writer.specs.Writing.{numberOf, placeOf, firstFrom, roomAnswer, verdict, writing}
 use Rattle.writer.specs.declared.Answer.{Answer}
 use Rattle.writer.specs.declared.Answer.the-variants.{Written}
 use Rattle.page.specs.Headers.{header, multiframe-is}

@@ -35,10 +35,11 @@ use Rattle.bad_pairs.specs.BadPairs.{noteBy, notes}
 use Rattle.bad_pairs.specs.Laws.{failed-is-1, consistent-is-good, badBefore, note-at, Good, none-good}
 use Rattle.reader.specs.Reading.{indexPart, reportPart, summary, outcome, reading, receivedFrames, receivedNotes}
 use Rattle.reader.specs.declared.Answer.the-variants.{Read}
+use Rattle.image.specs.Made.{syncIn, wordIn, packetIn, part-within}
+use Rattle.image.specs.Laws.{length-image, image-sync}
 use Rattle.writer.specs.Writing.{needed}
-use Rattle.writer.specs.Laws.{few-multiframes, length-image}
-use Rattle.writer.specs.Made.{syncIn, wordIn, packetIn, part-within}
-use Rattle.writer.specs.Image.{boundary-speaks, image-sync, Utterance, multiframesOf, imageOf, is-accepted, rate-not-2, fits-each-frame}
+use Rattle.writer.specs.Laws.{few-multiframes}
+use Rattle.writer.specs.Utterance.{boundary-speaks, Utterance, multiframesOf, imageOf, is-accepted, rate-not-2, fits-each-frame}
 use Rattle.demands.specs.Damage.{Damage, headerFlips, sentMessage, header-near, header-read}
 use Rattle.demands.specs.Whole.{rowOf, Lent, readings-are, packet-at, cut-is, reads-as}
 use Rattle.demands.specs.Headers.{sentCommon, common-sent, rate-sent, exp-sent}

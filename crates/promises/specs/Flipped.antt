@@ -20,7 +20,7 @@ use Rattle.lists.specs.Tests.{when, by-test, true-false}
 use Rattle.lists.specs.Parts.{over}
 use Rattle.lists.specs.Rows.{each, length-each, each-at, joined, length-joined, joined-part, same-joined}
 use Rattle.layout.specs.Layout.{frameIndices, dataBits, packetBits, multiframePairs, streamOctets, indexOctets, reportOctets, multiframeOf, firstPair, firstFrame, secondFrame}
-use Rattle.consistency.specs.Tables.{Tables}
+use Rattle.consistency.specs.Tables.{Tables, zeroTables}
 use Rattle.settings.specs.Settings.{settings, settingsRight}
 use Rattle.crc.specs.Crc.{right, flip, Damaged}
 use Rattle.crc.specs.Damage.{length-flip, flip-burst}
@@ -48,18 +48,19 @@ use Rattle.bad_pairs.specs.Laws.{Good, none-good, badBefore, note-at, consisten
 use Rattle.reader.specs.Reading.{indexPart, reportPart, summary, Outcome, outcome, reading, receivedNotes}
 use Rattle.reader.specs.ReadingLaws.{Usable}
 use Rattle.reader.specs.declared.Answer.the-variants.{Read}
+use Rattle.image.specs.Made.{syncIn, wordIn, packetIn, made, framed, length-made, made-sync, made-word, made-packet}
+use Rattle.image.specs.Laws.{length-image, image-sync, image-packet}
 use Rattle.writer.specs.Writing.{verdict, needed}
 use Rattle.writer.specs.declared.Answer.the-variants.{Written}
-use Rattle.writer.specs.Laws.{few-multiframes, length-image, accepts}
-use Rattle.writer.specs.Made.{syncIn, wordIn, packetIn, made, framed, length-made, made-sync, made-word, made-packet}
-use Rattle.writer.specs.Image.{image-sync, image-packet, Utterance, multiframesOf, pairsOf, imageOf, is-accepted, kind-small, rate-not-2}
+use Rattle.writer.specs.Laws.{few-multiframes, accepts}
+use Rattle.writer.specs.Utterance.{Utterance, multiframesOf, pairsOf, imageOf, is-accepted, kind-small, rate-not-2}
 use Rattle.demands.specs.Damage.{DamageUpTo, Touched, differs, headerFlips, sentMessage, header-near, header-read}
 use Rattle.demands.specs.Damages.{damage-up-to}
 use Rattle.demands.specs.Whole.{rowOf, Lent, pairNoteIn, packet-at, readings-are, reads-as}
 use Rattle.demands.specs.Headers.{sentCommon, common-sent, rate-sent, exp-sent}
 use Rattle.demands.specs.Received.{ByRule, BadPair}
 use Rattle.demands.specs.NamesTheDamage as N
-use Rattle.demands.specs.Met.{zeroTables, indexFor, reportFor, zero-consistent}
+use Rattle.demands.specs.Met.{indexFor, reportFor, zero-consistent}
 
 -- ---- how many bits these numbers flip
 pub none-flipped : ones 0 ≡ 0

@@ -17,9 +17,10 @@ use Rattle.replacing.specs.Speech.{lastNonzero, speechOf, endOf}
 use Rattle.reader.specs.Reading.{indexPart, summary, Outcome, outcome, reading, receivedNotes}
 use Rattle.reader.specs.declared.Summary.{Summary}
 use Rattle.reader.specs.declared.Answer.the-variants.{Read}
+use Rattle.image.specs.Made.{packetIn}
+use Rattle.image.specs.Laws.{image-packet}
 use Rattle.writer.specs.Writing.{frameCount}
-use Rattle.writer.specs.Made.{packetIn}
-use Rattle.writer.specs.Image.{image-packet, Utterance, multiframesOf, pairsOf, imageOf}
+use Rattle.writer.specs.Utterance.{Utterance, multiframesOf, pairsOf, imageOf}
 use Rattle.demands.specs.Damage.{Fate, whole, hit, fate}
 use Rattle.demands.specs.Whole.{rowOf, pairNoteIn}
 use Rattle.demands.specs.Headers.{sentCommon}

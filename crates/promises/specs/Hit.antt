@@ -24,8 +24,9 @@ use Rattle.packet.specs.Laws.{length-packetOf}
 use Rattle.header_code.specs.Code.{codeword, flipsTo}
 use Rattle.header_code.specs.Code.Distance.{codeword-lt}
 use Rattle.header.specs.Message.Laws.{message-lt}
-use Rattle.writer.specs.Made.{packetIn, made, made-word, made-packet}
-use Rattle.writer.specs.Image.{image-packet, Utterance, multiframesOf, pairsOf, imageOf}
+use Rattle.image.specs.Made.{packetIn, made, made-word, made-packet}
+use Rattle.image.specs.Laws.{image-packet}
+use Rattle.writer.specs.Utterance.{Utterance, multiframesOf, pairsOf, imageOf}
 use Rattle.demands.specs.Damage.{Damage, Touched, headerFlips, sentMessage, header-near, differs}
 use Rattle.demands.specs.Damages.{damage-made}
 

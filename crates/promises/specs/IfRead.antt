@@ -23,10 +23,11 @@ use Rattle.bad_pairs.specs.Laws.{few-bad, Good, some-good}
 use Rattle.reader.specs.Reading.{Outcome, outcome, reading, receivedNotes}
 use Rattle.reader.specs.declared.Summary.{Summary}
 use Rattle.reader.specs.declared.Answer.the-variants.{Read}
+use Rattle.image.specs.Made.{syncIn}
+use Rattle.image.specs.Laws.{length-image, image-sync}
 use Rattle.writer.specs.Writing.{frameCount}
-use Rattle.writer.specs.Laws.{few-multiframes, length-image}
-use Rattle.writer.specs.Made.{syncIn}
-use Rattle.writer.specs.Image.{image-sync, Utterance, multiframesOf, pairsOf, imageOf, is-accepted}
+use Rattle.writer.specs.Laws.{few-multiframes}
+use Rattle.writer.specs.Utterance.{Utterance, multiframesOf, pairsOf, imageOf, is-accepted}
 use Rattle.demands.specs.Damage.{DamageUpTo, headerFlips}
 use Rattle.demands.specs.Headers.{Settling, settled-readable, touched-unsettles}
 use Rattle.demands.specs.Received.{BadPair, Tells, is-so, not-so, tells-bad}

@@ -25,9 +25,10 @@ use Rattle.settling.specs.declared.Settlement.the-variants.{Settled}
 use Rattle.reader.specs.Reading.{reading}
 use Rattle.reader.specs.declared.Summary.{Summary}
 use Rattle.reader.specs.declared.Answer.the-variants.{Read}
-use Rattle.writer.specs.Laws.{few-multiframes, length-image}
-use Rattle.writer.specs.Made.{syncIn, wordIn}
-use Rattle.writer.specs.Image.{image-sync, Utterance, multiframesOf, imageOf, is-accepted}
+use Rattle.image.specs.Made.{syncIn, wordIn}
+use Rattle.image.specs.Laws.{length-image, image-sync}
+use Rattle.writer.specs.Laws.{few-multiframes}
+use Rattle.writer.specs.Utterance.{Utterance, multiframesOf, imageOf, is-accepted}
 use Rattle.demands.specs.Damage.{headerFlips, sentMessage, header-near}
 use Rattle.demands.specs.Headers.{sentCommon, common-sent, settings-sent, settles-nothing-else}
 use Rattle.demands.specs.Whole.{rowOf, readings-are, cut-is}

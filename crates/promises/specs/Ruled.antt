@@ -15,7 +15,7 @@ use Rattle.reader.specs.Reading.{outcome, reading}
 use Rattle.reader.specs.declared.Summary.{Summary}
 use Rattle.refusals.specs.declared.Reading.the-variants.{AllBad}
 use Rattle.reader.specs.declared.Answer.the-variants.{Read, Refused}
-use Rattle.writer.specs.Image.{Utterance, multiframesOf, pairsOf, imageOf}
+use Rattle.writer.specs.Utterance.{Utterance, multiframesOf, pairsOf, imageOf}
 use Rattle.demands.specs.Damage.{Touched}
 use Rattle.demands.specs.Whole.{Lent, pairNoteIn}
 use Rattle.demands.specs.Received.{Inconsistent, BadBefore, ByRule, BadPair, Count, count-once, count-one, count-none}

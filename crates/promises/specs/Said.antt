@@ -17,9 +17,9 @@ use Rattle.settings.specs.Settings.{settings}
 use Rattle.frames.specs.Frames.{zeroFrame}
 use Rattle.packet.specs.Packet.{row, frameAt}
 use Rattle.consistency.specs.Consistency.{flagged, flags, inconsistent}
+use Rattle.image.specs.Made.{Small}
 use Rattle.writer.specs.Writing.{verdict, roomAnswer, firstFrom, needed}
-use Rattle.writer.specs.Made.{Small}
-use Rattle.writer.specs.Image.{Utterance, multiframesOf}
+use Rattle.writer.specs.Utterance.{Utterance, multiframesOf}
 use Rattle.writer.specs.declared.Answer.the-variants.{Written}
 use Rattle.demands.specs.Whole.{Lent}
 use Rattle.demands.specs.Met.{indexFor, reportFor}

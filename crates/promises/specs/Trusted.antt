@@ -33,9 +33,10 @@ use Rattle.notes.specs.Laws.{length-notes}
 use Rattle.reader.specs.Reading.{Outcome, outcome, reading, receivedNotes}
 use Rattle.reader.specs.declared.Summary.{Summary}
 use Rattle.reader.specs.declared.Answer.the-variants.{Read}
-use Rattle.writer.specs.Laws.{few-multiframes, length-image}
-use Rattle.writer.specs.Made.{syncIn, wordIn, packetIn}
-use Rattle.writer.specs.Image.{image-sync, Utterance, multiframesOf, imageOf, is-accepted, settings-right}
+use Rattle.image.specs.Made.{syncIn, wordIn, packetIn}
+use Rattle.image.specs.Laws.{length-image, image-sync}
+use Rattle.writer.specs.Laws.{few-multiframes}
+use Rattle.writer.specs.Utterance.{Utterance, multiframesOf, imageOf, is-accepted, settings-right}
 use Rattle.demands.specs.Damage.{DamageUpTo, Damage, headerBits, loosened, headerFlips, sentMessage, header-near, Fate, whole, hit, fate}
 use Rattle.demands.specs.Whole.{rowOf, Lent, readings-are, cut-is, headerNoteIn, pairNoteIn, header-note-is, pair-note-is}
 use Rattle.demands.specs.Received.{touched-note}

@@ -13,9 +13,10 @@ ghost use mathlib.Core.Path.{_≡_};
 ghost use Prim.Native.Nat.{_+_, _*_, _≤_, _<_};
 ghost use lib.ListN.{length, getD};
 ghost use Rattle.lists.specs.Parts.{part, over};
+ghost use Rattle.lists.specs.Lent.{came, left};
 ghost use Rattle.layout.specs.Layout.{multiframePairs, mostMultiframes, indexOctets, reportOctets};
 ghost use Rattle.consistency.specs.Tables.{tablesOf, RightTables};
-ghost use Rattle.consistency.specs.Lent.{came, left, tablesIn};
+ghost use Rattle.consistency.specs.Lent.{tablesIn};
 ghost use Rattle.cutting.specs.Laws.{Placed};
 ghost use Rattle.settling.specs.Stored.{packAll, Mended, opened};
 ghost use Rattle.carrier.specs.Carrier.{pairCount};
@@ -246,10 +247,7 @@ pub fn read(
     ensures values { λ r. ⌜ answerValues r
         ≡ answerValues (reading (came octets) (tablesIn codebook thresholds) (came index) (came report) .answer) ⌝ }
 {
-    if codebook.len() != ReadingLayout::CODEBOOK {
-        return Answer::Refused(Reading::WrongTables);
-    }
-    if thresholds.len() != ReadingLayout::THRESHOLDS {
+    if !consistency::are_right(codebook, thresholds) {
         return Answer::Refused(Reading::WrongTables);
     }
     let mut places = [0usize; MULTIFRAMES];

@@ -9,6 +9,7 @@ ghost use mathlib.Core.Path.{_≡_};
 ghost use Prim.Native.Nat.{_+_, _-_, _*_, _^_, _≤_, _<_};
 ghost use lib.ListN.{length};
 ghost use Rattle.lists.specs.Parts.{over};
+ghost use Rattle.lists.specs.Lent.{came, left};
 ghost use Rattle.layout.specs.Layout.{frameIndices, indexOctets, mostMultiframes, secondFrame};
 ghost use Rattle.replacing.specs.Replacing.{runEnd, middleFrame, pairsOctets, replaced};
 ghost use Rattle.bad_pairs.specs.Laws.{Good};
@@ -18,7 +19,7 @@ ghost use Rattle.replacing.specs.Speech.{speechOf, endOf};
 // The first good pair from q on, or the number of pairs.
 fn run_end(notes: &[u8], q: Pair) -> Pair
     requires { ⌜ q .0 ≤ length (now notes) ⌝ }
-    ensures { λ r. ⌜ r .0 ≡ runEnd (now (notes .entry)) (q .0) ⌝ }
+    ensures { λ r. ⌜ r .0 ≡ runEnd (came notes) (q .0) ⌝ }
 {
     let mut b = q.0;
     while b < notes.len() {
@@ -33,7 +34,7 @@ fn run_end(notes: &[u8], q: Pair) -> Pair
 // The frame before frame first goes over the frames from first to past - 1.
 fn spread_on(index: &mut [u8], first: Frame, past: Frame)
     requires { ⌜ (1 ≤ first .0) × (first .0 ≤ past .0) × (frameIndices * past .0 ≤ length (now index)) ⌝ }
-    ensures { λ _. ⌜ Spread (now (index .entry)) (now (index .exit)) (first .0 - 1) (first .0) (past .0) ⌝ }
+    ensures { λ _. ⌜ Spread (came index) (left index) (first .0 - 1) (first .0) (past .0) ⌝ }
 {
     let from = first.0;
     let end = FrameLayout::INDICES * past.0;
@@ -47,7 +48,7 @@ fn spread_on(index: &mut [u8], first: Frame, past: Frame)
 // Frame past goes over the frames from first to past - 1.
 fn spread_back(index: &mut [u8], first: Frame, past: Frame)
     requires { ⌜ (first .0 ≤ past .0) × (frameIndices * (past .0 + 1) ≤ length (now index)) ⌝ }
-    ensures { λ _. ⌜ Spread (now (index .entry)) (now (index .exit)) (past .0) (first .0) (past .0) ⌝ }
+    ensures { λ _. ⌜ Spread (came index) (left index) (past .0) (first .0) (past .0) ⌝ }
 {
     let start = FrameLayout::INDICES * first.0;
     let mut t = FrameLayout::INDICES * past.0;
@@ -69,7 +70,7 @@ fn middle(a: Pair, b: Pair) -> Frame
 // The frames of the run of bad pairs from a to b - 1, of so many pairs, are replaced.
 fn fill_run(index: &mut [u8], a: Pair, b: Pair, pairs: usize)
     requires { ⌜ (a .0 < b .0) × (b .0 ≤ pairs) × (pairsOctets pairs ≤ length (now index)) × (a .0 ≡ 0 → b .0 < pairs) ⌝ }
-    ensures { λ _. ⌜ Filled (now (index .entry)) (now (index .exit)) (a .0) (b .0) pairs ⌝ }
+    ensures { λ _. ⌜ Filled (came index) (left index) (a .0) (b .0) pairs ⌝ }
 {
     if a.0 == 0 {
         spread_back(index, a.first(), b.first());
@@ -85,7 +86,7 @@ fn fill_run(index: &mut [u8], a: Pair, b: Pair, pairs: usize)
 // It asks for the frames of all pairs and for one good pair: a reading in which every pair is bad is refused before.
 pub fn replace(notes: &[u8], index: &mut [u8])
     requires { ⌜ (pairsOctets (length (now notes)) ≤ length (now index)) × Good (now notes) ⌝ }
-    ensures { λ _. ⌜ now (index .exit) ≡ over (now (index .entry)) 0 (pairsOctets (length (now (notes .entry)))) (replaced (now (notes .entry)) (now (index .entry))) ⌝ }
+    ensures { λ _. ⌜ left index ≡ over (came index) 0 (pairsOctets (length (came notes))) (replaced (came notes) (came index)) ⌝ }
 {
     let mut k = 0;
     while k < notes.len() {
@@ -103,7 +104,7 @@ pub fn replace(notes: &[u8], index: &mut [u8])
 // It asks for the index octets of at least one multiframe and of no more than an utterance has.
 pub fn speech_of(index: &[u8], m: usize) -> usize
     requires { ⌜ (1 ≤ m) × (m ≤ mostMultiframes) × (indexOctets * m ≤ length (now index)) ⌝ }
-    ensures { λ r. ⌜ r ≡ speechOf m (now (index .entry)) ⌝ }
+    ensures { λ r. ⌜ r ≡ speechOf m (came index) ⌝ }
 {
     let first = Multiframe(m - 1).first_frame();
     let start = first.0;
@@ -121,7 +122,7 @@ pub fn speech_of(index: &[u8], m: usize) -> usize
 // end_of gives 1 if the last frame of m multiframes is zero, else 0. It asks what speech_of asks.
 pub fn end_of(index: &[u8], m: usize) -> u8
     requires { ⌜ (1 ≤ m) × (m ≤ mostMultiframes) × (indexOctets * m ≤ length (now index)) ⌝ }
-    ensures { λ r. ⌜ r ≡ endOf m (now (index .entry)) ⌝ }
+    ensures { λ r. ⌜ r ≡ endOf m (came index) ⌝ }
 {
     if frames::is_zero(index, Frame(MultiframeLayout::FRAMES * m - 1)) {
         return 1;

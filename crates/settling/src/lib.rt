@@ -7,6 +7,7 @@ ghost use mathlib.Core.List.{[]};
 ghost use Prim.Native.Nat.{_+_, _≤_, _<_};
 ghost use lib.ListN.{length, getD};
 ghost use Rattle.lists.specs.Parts.{over};
+ghost use Rattle.lists.specs.Lent.{came, left};
 ghost use Rattle.cutting.specs.Laws.{Placed};
 ghost use Rattle.header.specs.declared.Header.the-variants.{Lost};
 ghost use Rattle.settling.specs.Settling.{among, firstAgreeing, onlyOne, settling, headerNote};
@@ -61,7 +62,7 @@ fn open_reading(x: u32) -> Header
 pub fn read_headers(octets: &[u8], places: &[usize], headers: &mut [u32])
     requires { ⌜ Placed (now octets) (now places) ⌝ }
     requires { ⌜ length (now places) ≤ length (now headers) ⌝ }
-    ensures { λ _. ⌜ now (headers .exit) ≡ over (now (headers .entry)) 0 (length (now (places .entry))) (packAll (now (octets .entry)) (now (places .entry)) (length (now (places .entry)))) ⌝ }
+    ensures { λ _. ⌜ left headers ≡ over (came headers) 0 (length (came places)) (packAll (came octets) (came places) (length (came places))) ⌝ }
 {
     let mut k = 0;
     while k < places.len() {
@@ -84,7 +85,7 @@ fn has_common(h: Header, common: u16) -> bool
 // Whether a header before that of multiframe k was read with these common bits: the nearest is tried first.
 fn was_seen(headers: &[u32], k: Multiframe, common: u16) -> bool
     requires { ⌜ k .0 ≤ length (now headers) ⌝ }
-    ensures { λ r. ⌜ r ≡ among common (seenBefore (openAll (now (headers .entry))) (k .0)) ⌝ }
+    ensures { λ r. ⌜ r ≡ among common (seenBefore (openAll (came headers)) (k .0)) ⌝ }
 {
     let mut j = k.0;
     while 0 < j {
@@ -99,7 +100,7 @@ fn was_seen(headers: &[u32], k: Multiframe, common: u16) -> bool
 // What the header of multiframe k settles: its common bits, if an earlier readable one has the same.
 fn agreed(headers: &[u32], k: Multiframe) -> Settlement
     requires { ⌜ k .0 < length (now headers) ⌝ }
-    ensures { λ r. ⌜ r ≡ settledBy (getD (openAll (now (headers .entry))) (k .0) Lost) (seenBefore (openAll (now (headers .entry))) (k .0)) ⌝ }
+    ensures { λ r. ⌜ r ≡ settledBy (getD (openAll (came headers)) (k .0) Lost) (seenBefore (openAll (came headers)) (k .0)) ⌝ }
 {
     let at = k.0;
     let Header::Codeword(d) = open_reading(headers[at]) else {
@@ -113,7 +114,7 @@ fn agreed(headers: &[u32], k: Multiframe) -> Settlement
 }
 
 fn first_agreeing(headers: &[u32]) -> Settlement
-    ensures { λ r. ⌜ r ≡ firstAgreeing [] (openAll (now (headers .entry))) ⌝ }
+    ensures { λ r. ⌜ r ≡ firstAgreeing [] (openAll (came headers)) ⌝ }
 {
     let mut k = 0;
     while k < headers.len() {
@@ -127,7 +128,7 @@ fn first_agreeing(headers: &[u32]) -> Settlement
 
 // An only header settles its common bits if it is itself a codeword (house).
 fn only_one(headers: &[u32]) -> Settlement
-    ensures { λ r. ⌜ r ≡ onlyOne (openAll (now (headers .entry))) ⌝ }
+    ensures { λ r. ⌜ r ≡ onlyOne (openAll (came headers)) ⌝ }
 {
     if headers.len() != 1 {
         return Settlement::Unsettled;
@@ -145,7 +146,7 @@ fn only_one(headers: &[u32]) -> Settlement
 
 // settle gives what the readings of all headers settle.
 pub fn settle(headers: &[u32]) -> Settlement
-    ensures { λ r. ⌜ r ≡ settling (openAll (now (headers .entry))) ⌝ }
+    ensures { λ r. ⌜ r ≡ settling (openAll (came headers)) ⌝ }
 {
     match first_agreeing(headers) {
         Settlement::Settled { common } => Settlement::Settled { common },
@@ -191,7 +192,7 @@ fn note_of(h: Header, k: Multiframe, common: u16) -> u8
 pub fn note_at(headers: &[u32], k: Multiframe, common: u16) -> u8
     requires { ⌜ (k .0 < length (now headers)) × (k .0 < 65536) ⌝ }
     requires { ⌜ Mended (opened (getD (now headers) (k .0) 0)) ⌝ }
-    ensures { λ r. ⌜ r ≡ headerNote common (k .0) (opened (getD (now (headers .entry)) (k .0) 0)) ⌝ }
+    ensures { λ r. ⌜ r ≡ headerNote common (k .0) (opened (getD (came headers) (k .0) 0)) ⌝ }
 {
     let at = k.0;
     note_of(open_reading(headers[at]), k, common)

@@ -4,6 +4,7 @@ ghost use mathlib.Core.Path.{_≡_};
 ghost use mathlib.Core.List.{_++_};
 ghost use Prim.Native.Nat.{_+_, _*_, _<_, _≤_};
 ghost use lib.ListN.{length};
+ghost use Rattle.lists.specs.Lent.{came, left};
 ghost use Rattle.text.specs.Text.{noteDigits, numberDigits, decimal, field, Put};
 ghost use Rattle.text.specs.Text.{digit as Text·digit};
 
@@ -22,7 +23,7 @@ fn digit(d: u64) -> u8
 // put_number puts n in decimal.
 pub fn put_number(n: u64, text: &mut [u8], at: usize) -> usize
     requires { ⌜ at + length (decimal n) ≤ length (now text) ⌝ }
-    ensures { λ r. ⌜ Put (decimal n) (now (text .entry)) at (now (text .exit)) r ⌝ }
+    ensures { λ r. ⌜ Put (decimal n) (came text) at (left text) r ⌝ }
 {
     if n < 10 {
         text[at] = digit(n);
@@ -36,7 +37,7 @@ pub fn put_number(n: u64, text: &mut [u8], at: usize) -> usize
 // put_note puts a note in decimal.
 pub fn put_note(note: u8, text: &mut [u8], at: usize) -> usize
     requires { ⌜ at + noteDigits ≤ length (now text) ⌝ }
-    ensures { λ r. ⌜ Put (decimal note) (now (text .entry)) at (now (text .exit)) r ⌝ }
+    ensures { λ r. ⌜ Put (decimal note) (came text) at (left text) r ⌝ }
     ensures { λ r. ⌜ r ≤ at + noteDigits ⌝ }
 {
     put_number(note as u64, text, at)
@@ -45,7 +46,7 @@ pub fn put_note(note: u8, text: &mut [u8], at: usize) -> usize
 // put_words puts words as they are.
 pub fn put_words(words: &[u8], text: &mut [u8], at: usize) -> usize
     requires { ⌜ at + length (now words) ≤ length (now text) ⌝ }
-    ensures { λ r. ⌜ Put (now (words .entry)) (now (text .entry)) at (now (text .exit)) r ⌝ }
+    ensures { λ r. ⌜ Put (came words) (came text) at (left text) r ⌝ }
 {
     let mut i = 0;
     while i < words.len() {
@@ -58,8 +59,8 @@ pub fn put_words(words: &[u8], text: &mut [u8], at: usize) -> usize
 // put_field puts words and a number.
 pub fn put_field(words: &[u8], n: u64, text: &mut [u8], at: usize) -> usize
     requires { ⌜ at + length (now words) + numberDigits ≤ length (now text) ⌝ }
-    ensures { λ r. ⌜ Put (field (now (words .entry)) n) (now (text .entry)) at (now (text .exit)) r ⌝ }
-    ensures { λ r. ⌜ r ≤ at + length (now (words .entry)) + numberDigits ⌝ }
+    ensures { λ r. ⌜ Put (field (came words) n) (came text) at (left text) r ⌝ }
+    ensures { λ r. ⌜ r ≤ at + length (came words) + numberDigits ⌝ }
 {
     let end = put_words(words, text, at);
     put_number(n, text, end)
@@ -68,8 +69,8 @@ pub fn put_field(words: &[u8], n: u64, text: &mut [u8], at: usize) -> usize
 // put_two puts two words with a number each.
 pub fn put_two(first: &[u8], n: u64, second: &[u8], m: u64, text: &mut [u8], at: usize) -> usize
     requires { ⌜ at + length (now first) + length (now second) + 2 * numberDigits ≤ length (now text) ⌝ }
-    ensures { λ r. ⌜ Put (field (now (first .entry)) n ++ field (now (second .entry)) m) (now (text .entry)) at (now (text .exit)) r ⌝ }
-    ensures { λ r. ⌜ r ≤ at + length (now (first .entry)) + length (now (second .entry)) + 2 * numberDigits ⌝ }
+    ensures { λ r. ⌜ Put (field (came first) n ++ field (came second) m) (came text) at (left text) r ⌝ }
+    ensures { λ r. ⌜ r ≤ at + length (came first) + length (came second) + 2 * numberDigits ⌝ }
 {
     let end = put_field(first, n, text, at);
     put_field(second, m, text, end)

@@ -1,25 +1,20 @@
--- Laws of the writer's definitions: searches, lengths, and what an accepted utterance has.
+-- Laws of the writer's definitions: searches, answers, and what an accepted utterance has.
 -- Assumes nothing.
-use mathlib.Core.Path.{_≡_, refl, sym, ap, ap₂, _∙_, subst}
+use mathlib.Core.Path.{_≡_, refl, ap, _∙_, subst}
 use mathlib.Core.Bool.{Bool, true, false}
 use mathlib.Core.List.{List}
-use Prim.Native.Nat.{ℕ, zero, suc, _+_, _*_, _%_, _^_, _≤_, _<_}
+use Prim.Native.Nat.{ℕ, zero, suc, _+_, _%_, _≤_, _<_}
 use native.Mathlib.Decide.{ℕ-discrete}
 use native.Mathlib.Omega.{arith}
-use lib.ListN.{length, length-append}
+use lib.ListN.{length}
 use lib.Dec.{eqb, ltb}
 use borrow.Author.Tests.{eq-eqb, ne-eqb, lt-ltb, le-ltb, eqb-true, ltb-false}
 use Rattle.lists.specs.Tests.{by-test}
 use Rattle.settings.specs.declared.Settings.{Settings}
 use Rattle.settings.specs.Settings.{settingsRight}
-use Rattle.layout.specs.Layout.{frameIndices, multiframeFrames, multiframePairs, multiframeOctets, headerOctets, streamOctets, mostFrames, mostMultiframes, firstPair}
+use Rattle.layout.specs.Layout.{frameIndices, multiframeFrames, mostFrames, mostMultiframes}
 use Rattle.frames.specs.Frames.{zeroFrame}
-use Rattle.bits.specs.Bits.{field, octets}
-use Rattle.bits.specs.Laws.{length-octets}
-use Rattle.packet.specs.Packet.{stream}
-use Rattle.header_code.specs.Code.{codeword}
-use Rattle.header.specs.Message.{message}
-use Rattle.writer.specs.Writing.{Search, at, nowhere, firstFrom, frameCount, endsEarly, firstWide, firstEarly, roomAnswer, earlyAnswer, wideAnswer, needed, verdict, multiframesFor, multiframe, image, writing, Outcome, numberOf, placeOf, isWide, finished}
+use Rattle.writer.specs.Writing.{Search, at, nowhere, firstFrom, frameCount, endsEarly, firstWide, firstEarly, roomAnswer, earlyAnswer, wideAnswer, needed, verdict, multiframesFor}
 use Rattle.writer.specs.declared.Answer.{Answer}
 use Rattle.refusals.specs.declared.Writing.the-variants.{WrongSettings, PartFrame, TooMany, WideIndex, ZeroFrame, OutputShort}
 use Rattle.writer.specs.declared.Answer.the-variants.{Written, Refused}
@@ -110,19 +105,6 @@ module _ (settings : Settings) (idx : List ℕ) (out : ℕ) where
   unfolding roomAnswer
   accepts s e g h = narrow s e ∙ ap (earlyAnswer out (needed idx)) g ∙ rw (le-ltb out (needed idx) h)
 
--- ---- the image's length, and its multiframes one behind the other
-pub length-multiframe : (settings : Settings) (idx : List ℕ) (k : ℕ) → length (multiframe settings idx k) ≡ multiframeOctets
-unfolding multiframe
-length-multiframe settings idx k =
-    ap (λ (n : ℕ). suc (suc n))
-    (length-append (octets headerOctets (field 32 (codeword (message settings (k + 1) 0)))) (octets streamOctets (stream idx (firstPair k) multiframePairs))
-    ∙ ap₂ _+_ (length-octets headerOctets (field 32 (codeword (message settings (k + 1) 0)))) (length-octets streamOctets (stream idx (firstPair k) multiframePairs)))
-
-pub length-image : (settings : Settings) (idx : List ℕ) (m : ℕ) → length (image settings idx m) ≡ multiframeOctets * m
-unfolding image
-length-image settings idx zero = refl
-length-image settings idx (suc m) = rw (length-append, length-image settings idx m, length-multiframe settings idx m) (omega arith)
-
 -- ---- what an accepted utterance has, and that this is enough
 pub record Accepted (settings : Settings) (idx : List ℕ) (out n : ℕ) : Type 0 where
   pub sizes : Sized settings idx
@@ -161,42 +143,3 @@ module _ (settings : Settings) (idx : List ℕ) (out : ℕ) where
 -- 6,119 frames are 255 multiframes, and no accepted utterance has more
 pub few-multiframes : (settings : Settings) (idx : List ℕ) → Sized settings idx → multiframesFor (frameCount idx) ≤ mostMultiframes
 few-multiframes settings idx s = omega (arith, s .few)
-
--- every place fits 64 bits, as the number of index octets does
-module _ (settings : Settings) (idx : List ℕ) (out : ℕ) (octets-fit : length idx < 2 ^ 64) where
-  abbrev Fits : Answer → Type 0
-  Fits a = placeOf a < 2 ^ 64
-
-  early-fits : (s : Search) → frameCount idx ≤ mostFrames → Says (endsEarly idx) 0 (frameCount idx) s → Fits (earlyAnswer out (needed idx) s)
-  unfolding roomAnswer
-  early-fits (at k) few h = omega (arith, h .1)
-  early-fits nowhere few h = by-test Fits (ltb out (needed idx)) (λ r. omega arith) (λ r. omega arith)
-
-  wide-fits : (s : Search) → frameCount idx ≤ mostFrames → Says (isWide idx) 0 (frameCount idx) s → Fits (wideAnswer out (needed idx) (firstEarly idx) s)
-  wide-fits (at k) few h = omega (arith, h .1)
-  wide-fits nowhere few h = early-fits (firstEarly idx) few (first-says (endsEarly idx) 0 (frameCount idx))
-
-  verdict-fits : Fits (verdict settings idx out)
-  unfolding verdict
-  verdict-fits =
-      by-test Fits (settingsRight settings) (λ s.
-      by-test Fits (eqb (length idx % frameIndices) 0) (λ w.
-      by-test Fits (ltb mostFrames (frameCount idx)) (λ f. omega arith) (λ f. wide-fits (firstWide idx) (ltb-false mostFrames (frameCount idx) f) (first-says (isWide idx) 0 (frameCount idx))))
-      (λ w. octets-fit)) (λ s. omega arith)
-
-pub place-fits : (settings : Settings) (idx out : List ℕ) → length idx < 2 ^ 64 → placeOf (writing settings idx out .answer) < 2 ^ 64
-unfolding writing
-place-fits settings idx out h = by (verdict settings idx (length out)) (verdict-fits settings idx (length out) h)
-  where
-    by : (a : Answer) → placeOf a < 2 ^ 64 → placeOf (finished settings idx out a .answer) < 2 ^ 64
-    by (Written n) f = f
-    by (Refused r) f = f
-
--- what `writing` says of answer and output, it says of 01's number and place, and the place fits
-pub in-numbers : (settings : Settings) (idx out : List ℕ) {o : Outcome} → length idx < 2 ^ 64 → o ≡ writing settings idx out
-    → (o ≡ writing settings idx out)
-    × ((numberOf (o .answer) ≡ numberOf (writing settings idx out .answer))
-    × ((placeOf (o .answer) ≡ placeOf (writing settings idx out .answer)) × (placeOf (o .answer) < 2 ^ 64)))
-in-numbers settings idx out h e =
-    let p = ap (λ (q : Outcome). placeOf (q .answer)) e in
-    (e, (ap (λ (q : Outcome). numberOf (q .answer)) e, (p, subst (λ (k : ℕ). k < 2 ^ 64) (sym p) (place-fits settings idx out h))))

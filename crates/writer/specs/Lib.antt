@@ -1,4 +1,3 @@
 pub mod Writing
 pub mod Laws
-pub mod Made
-pub mod Image
+pub mod Utterance

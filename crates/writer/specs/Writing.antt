@@ -3,19 +3,16 @@
 -- Assumes nothing.
 use Prim.Native.Nat.{ℕ, zero, suc, _+_, _-_, _*_, _/_, _%_}
 use mathlib.Core.Bool.{Bool, true, false}
-use mathlib.Core.List.{List, [], _++_}
+use mathlib.Core.List.{List}
 use lib.Dec.{eqb, ltb}
 use lib.ListN.{length, getD}
 use Rattle.lists.specs.Tests.{when}
 use Rattle.lists.specs.Parts.{over}
 use Rattle.settings.specs.declared.Settings.{Settings}
 use Rattle.settings.specs.Settings.{settingsRight}
-use Rattle.layout.specs.Layout.{frameIndices, mostNarrow, multiframeFrames, multiframePairs, multiframeOctets, headerOctets, streamOctets, mostFrames, firstPair, sync}
+use Rattle.layout.specs.Layout.{frameIndices, mostNarrow, multiframeFrames, multiframeOctets, mostFrames}
 use Rattle.frames.specs.Frames.{zeroFrame}
-use Rattle.bits.specs.Bits.{field, octets}
-use Rattle.packet.specs.Packet.{stream}
-use Rattle.header_code.specs.Code.{codeword}
-use Rattle.header.specs.Message.{message}
+use Rattle.image.specs.Image.{image}
 use Rattle.refusals.specs.Refusals.{success, writingNumber, writingPlace}
 use Rattle.refusals.specs.declared.Writing.the-variants.{WrongSettings, PartFrame, TooMany, WideIndex, ZeroFrame, OutputShort}
 use Rattle.writer.specs.declared.Answer.{Answer}
@@ -97,19 +94,6 @@ verdict settings idx out =
     (wideAnswer out (needed idx) (firstEarly idx) (firstWide idx)))
     (Refused (PartFrame (length idx))))
     (Refused WrongSettings)
-
--- ---- the image
--- multiframe k: sync 87 B2, the header's codeword with the counter 1 in the first and stepping modulo 16, and twelve packets; frames past
--- the last are zeros
-unfoldable pub multiframe : Settings → List ℕ → ℕ → List ℕ
-multiframe settings idx k =
-    sync
-    ++ (octets headerOctets (field 32 (codeword (message settings (k + 1) 0))) ++ octets streamOctets (stream idx (firstPair k) multiframePairs))
-
--- m multiframes, one behind the other
-unfoldable pub image : Settings → List ℕ → ℕ → List ℕ
-image settings idx zero = []
-image settings idx (suc m) = image settings idx m ++ multiframe settings idx m
 
 -- ---- the answer and the output
 pub record Outcome : Type 0 where

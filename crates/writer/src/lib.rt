@@ -1,18 +1,16 @@
 // The writer: index octets, seven a frame, become the protected multiframes of an utterance, or a refusal with 01's number and place.
-use header::Fields;
 use layout::Frame;
 use layout::FrameLayout;
-use layout::Multiframe;
 use layout::MultiframeLayout;
 use layout::UtteranceLayout;
 use refusals::Writing;
 use settings::Settings;
 ghost use mathlib.Core.Path.{_≡_};
-ghost use Prim.Native.Nat.{ℕ, _+_, _*_, _%_, _^_, _≤_, _<_};
+ghost use Prim.Native.Nat.{_+_, _*_, _^_, _≤_, _<_};
 ghost use lib.ListN.{length};
-ghost use Rattle.lists.specs.Parts.{over};
-ghost use Rattle.layout.specs.Layout.{frameIndices, multiframeOctets, mostFrames, mostMultiframes};
-ghost use Rattle.writer.specs.Writing.{frameCount, isWide, endsEarly, firstWide, firstEarly, verdict, multiframe, image, outcome, writing, numberOf, placeOf};
+ghost use Rattle.lists.specs.Lent.{came, left};
+ghost use Rattle.layout.specs.Layout.{frameIndices};
+ghost use Rattle.writer.specs.Writing.{isWide, endsEarly, firstWide, firstEarly, verdict, outcome, writing, numberOf, placeOf};
 ghost use Rattle.writer.specs.Laws.{foundAs};
 
 // The largest index of six bits.
@@ -32,7 +30,7 @@ pub enum Found {
 // Is one of the first six indices of the frame above 63?
 fn is_wide(indices: &[u8], frame: Frame) -> bool
     requires { ⌜ frameIndices * (frame .0 + 1) ≤ length (now indices) ⌝ }
-    ensures { λ r. ⌜ r ≡ isWide (now (indices .entry)) (frame .0) ⌝ }
+    ensures { λ r. ⌜ r ≡ isWide (came indices) (frame .0) ⌝ }
 {
     let from = FrameLayout::INDICES * frame.0;
     for i in 0..FrameLayout::NARROW {
@@ -46,7 +44,7 @@ fn is_wide(indices: &[u8], frame: Frame) -> bool
 // Is it a zero frame that must not be one: the last, or one whose number from 1 is a multiple of 24?
 fn ends_early(indices: &[u8], frame: Frame) -> bool
     requires { ⌜ frameIndices * (frame .0 + 1) ≤ length (now indices) ⌝ }
-    ensures { λ r. ⌜ r ≡ endsEarly (now (indices .entry)) (frame .0) ⌝ }
+    ensures { λ r. ⌜ r ≡ endsEarly (came indices) (frame .0) ⌝ }
 {
     let number = frame.0 + 1;
     if number == indices.len() / FrameLayout::INDICES {
@@ -60,7 +58,7 @@ fn ends_early(indices: &[u8], frame: Frame) -> bool
 
 // first_wide gives the first frame with an index that is too large.
 pub fn first_wide(indices: &[u8]) -> Found
-    ensures { λ r. ⌜ foundAs r ≡ firstWide (now (indices .entry)) ⌝ }
+    ensures { λ r. ⌜ foundAs r ≡ firstWide (came indices) ⌝ }
 {
     let frames = indices.len() / FrameLayout::INDICES;
     for k in 0..frames {
@@ -73,7 +71,7 @@ pub fn first_wide(indices: &[u8]) -> Found
 
 // The first zero frame that must not be one.
 fn first_early(indices: &[u8]) -> Found
-    ensures { λ r. ⌜ foundAs r ≡ firstEarly (now (indices .entry)) ⌝ }
+    ensures { λ r. ⌜ foundAs r ≡ firstEarly (came indices) ⌝ }
 {
     let frames = indices.len() / FrameLayout::INDICES;
     for k in 0..frames {
@@ -86,7 +84,7 @@ fn first_early(indices: &[u8]) -> Found
 
 // Every refusal, in 01's order. Nothing that can be written is lent, so that a refusal can change nothing.
 fn decide(settings: Settings, indices: &[u8], room: usize) -> Answer
-    ensures { λ r. ⌜ r ≡ verdict settings (now (indices .entry)) room ⌝ }
+    ensures { λ r. ⌜ r ≡ verdict settings (came indices) room ⌝ }
 {
     if !settings::is_right(settings) {
         return Answer::Refused(Writing::WrongSettings);
@@ -113,58 +111,18 @@ fn decide(settings: Settings, indices: &[u8], room: usize) -> Answer
     Answer::Written { octets: needed }
 }
 
-// One multiframe at its place. It asks for whole frames, at most 255 multiframes and room, which `decide` has tested.
-fn put_multiframe(settings: Settings, indices: &[u8], k: Multiframe, out: &mut [u8])
-    requires { ⌜ (length (now indices) % frameIndices ≡ 0) × (k .0 < mostMultiframes) ⌝ }
-    requires { ⌜ multiframeOctets * k .0 + multiframeOctets ≤ length (now out) ⌝ }
-    ensures { λ _. ⌜ now (out .exit) ≡ over (now (out .entry)) (multiframeOctets * k .0) multiframeOctets (multiframe settings (now (indices .entry)) (k .0)) ⌝ }
-{
-    let at = MultiframeLayout::OCTETS * k.0;
-    let count = ((k.0 + 1) & 15) as u8;
-    let message = header::message_of(Fields {
-        settings,
-        count,
-        exp: 0,
-    });
-    let word = header::encode(message) as u64;
-    bits::store(out, at, MultiframeLayout::SYNC_WORD, MultiframeLayout::SYNC);
-    bits::store(
-        out,
-        at + MultiframeLayout::SYNC,
-        word,
-        MultiframeLayout::HEADER,
-    );
-    packet::put_stream(
-        indices,
-        k.first_pair(),
-        out,
-        at + MultiframeLayout::SYNC + MultiframeLayout::HEADER,
-    );
-}
-
-// The first m multiframes, one behind the other.
-fn put_image(settings: Settings, indices: &[u8], m: usize, out: &mut [u8])
-    requires { ⌜ (length (now indices) % frameIndices ≡ 0) × (m ≤ mostMultiframes) ⌝ }
-    requires { ⌜ multiframeOctets * m ≤ length (now out) ⌝ }
-    ensures { λ _. ⌜ now (out .exit) ≡ over (now (out .entry)) 0 (multiframeOctets * m) (image settings (now (indices .entry)) m) ⌝ }
-{
-    for k in 0..m {
-        put_multiframe(settings, indices, Multiframe(k), out);
-    }
-}
-
 // write puts the utterance of these settings and index octets, seven a frame, into the front of out as multiframes and answers the number
 // of octets written; octets beyond stay. Or it refuses, in 01's order, and every octet of out is as it came. 01's number and place of the
 // answer are those of the definition.
 pub fn write(settings: Settings, indices: &[u8], out: &mut [u8]) -> Answer
-    ensures all { λ r. ⌜ outcome r (now (out .exit)) ≡ writing settings (now (indices .entry)) (now (out .entry)) ⌝ }
-    ensures number { λ r. ⌜ numberOf r ≡ numberOf (writing settings (now (indices .entry)) (now (out .entry)) .answer) ⌝ }
-    ensures place { λ r. ⌜ placeOf r ≡ placeOf (writing settings (now (indices .entry)) (now (out .entry)) .answer) ⌝ }
+    ensures all { λ r. ⌜ outcome r (left out) ≡ writing settings (came indices) (came out) ⌝ }
+    ensures number { λ r. ⌜ numberOf r ≡ numberOf (writing settings (came indices) (came out) .answer) ⌝ }
+    ensures place { λ r. ⌜ placeOf r ≡ placeOf (writing settings (came indices) (came out) .answer) ⌝ }
     ensures fits { λ r. ⌜ placeOf r < 2 ^ 64 ⌝ }
 {
     match decide(settings, indices, out.len()) {
         Answer::Written { octets } => {
-            put_image(settings, indices, octets / MultiframeLayout::OCTETS, out);
+            image::put_image(settings, indices, octets / MultiframeLayout::OCTETS, out);
             Answer::Written { octets }
         }
         Answer::Refused(r) => Answer::Refused(r),

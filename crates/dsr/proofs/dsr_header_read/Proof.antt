@@ -1,6 +1,6 @@
 -- The header code's reading is taken apart; a lost one stores nothing. Assumes nothing.
 use mathlib.Core.Path.{_≡_, refl, sym, _∙_, subst}
-use Rattle.dsr.specs.Entries.{headerRead}
+use Rattle.entries.specs.Entries.{headerRead}
 use borrow.Author.Needs.{needs}
 use Rattle.dsr.proofs.dsr_header_read.Statement.{statement}
 use Rattle.dsr.proofs.dsr_header_read.Tie as tie

@@ -1,6 +1,6 @@
 -- The hunt's answer in numbers, by its two cases. Assumes nothing.
 use mathlib.Core.Path.{sym, _∙_}
-use Rattle.dsr.specs.Bits.{hunt-found, hunt-refused}
+use Rattle.entries.specs.Bits.{hunt-found, hunt-refused}
 use borrow.Author.Needs.{needs}
 use Rattle.dsr.proofs.dsr_hunt.Statement.{statement}
 use Rattle.dsr.proofs.dsr_hunt.Tie as tie

@@ -2,7 +2,7 @@
 use mathlib.Core.Path.{_≡_, sym, ap, _∙_}
 use native.Mathlib.Omega.{arith}
 use Rattle.writer.specs.Laws.{foundAs}
-use Rattle.dsr.specs.Laws.{packs-no-length, packs-no-room, packs-no-wide, packs}
+use Rattle.entries.specs.Laws.{packs-no-length, packs-no-room, packs-no-wide, packs}
 use borrow.Author.Needs.{needs}
 use Rattle.dsr.proofs.dsr_pack.Statement.{statement}
 use Rattle.dsr.proofs.dsr_pack.Tie as tie

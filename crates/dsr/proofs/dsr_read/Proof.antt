@@ -1,7 +1,7 @@
 -- The reader's answer in numbers, by its two cases. Assumes nothing.
 use native.Mathlib.Omega.{arith}
-use Rattle.dsr.specs.Entries.{answerNumbers}
-use Rattle.dsr.specs.Laws.{returns-no-room, returns-read, returns-refusal, given-as}
+use Rattle.entries.specs.Entries.{answerNumbers}
+use Rattle.entries.specs.Laws.{returns-no-room, returns-read, returns-refusal, given-as}
 use borrow.Author.Needs.{needs}
 use Rattle.dsr.proofs.dsr_read.Statement.{statement}
 use Rattle.dsr.proofs.dsr_read.Tie as tie

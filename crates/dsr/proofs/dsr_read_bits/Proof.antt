@@ -1,7 +1,7 @@
 -- The hunting reader's answer in numbers, by its two cases. Assumes nothing.
 use native.Mathlib.Omega.{arith}
-use Rattle.dsr.specs.Laws.{returns-no-room, returns-read, returns-refusal}
-use Rattle.dsr.specs.Bits.{countedNumbers, bits-given-as}
+use Rattle.entries.specs.Laws.{returns-no-room, returns-read, returns-refusal}
+use Rattle.entries.specs.Bits.{countedNumbers, bits-given-as}
 use borrow.Author.Needs.{needs}
 use Rattle.dsr.proofs.dsr_read_bits.Statement.{statement}
 use Rattle.dsr.proofs.dsr_read_bits.Tie as tie

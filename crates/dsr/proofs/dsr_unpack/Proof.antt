@@ -1,6 +1,6 @@
 -- Each answer is the definition's, by the tests that led to it. Assumes nothing.
 use native.Mathlib.Omega.{arith}
-use Rattle.dsr.specs.Laws.{unpacks-no-stream, unpacks-no-indices, unpacks-no-notes, unpacks}
+use Rattle.entries.specs.Laws.{unpacks-no-stream, unpacks-no-indices, unpacks-no-notes, unpacks}
 use borrow.Author.Needs.{needs}
 use Rattle.dsr.proofs.dsr_unpack.Statement.{statement}
 use Rattle.dsr.proofs.dsr_unpack.Tie as tie

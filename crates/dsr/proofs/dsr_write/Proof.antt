@@ -3,7 +3,7 @@ use mathlib.Core.Path.{sym, ap, _∙_}
 use native.Mathlib.Omega.{arith}
 use Rattle.lists.specs.Tests.{not-true, not-false}
 use Rattle.writer.specs.Writing.{Outcome}
-use Rattle.dsr.specs.Laws.{fit-octets, unfit-refused, written-as}
+use Rattle.entries.specs.Laws.{fit-octets, unfit-refused, written-as}
 use borrow.Author.Needs.{needs}
 use Rattle.dsr.proofs.dsr_write.Statement.{statement}
 use Rattle.dsr.proofs.dsr_write.Tie as tie

@@ -7,8 +7,8 @@ use Rattle.hunting.proofs.read_found.Statement.{statement}
 use Rattle.hunting.proofs.read_found.Tie as tie
 use Rattle.hunting.proofs.read_found.Reads as reads
 use Rattle.hunting.proofs.read_found.Lts as lts
-use Rattle.hunting.proofs.gather.Reads as gather-reads
-use Rattle.hunting.proofs.outside_of.Reads as outside-of-reads
+use Rattle.gathering.proofs.gather.Reads as gather-reads
+use Rattle.gathering.proofs.outside_of.Reads as outside-of-reads
 use Rattle.hunting.proofs.read_front.Reads as read-front-reads
 use Rattle.consistency.specs.Tables.{tablesOf}
 

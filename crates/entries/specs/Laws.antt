@@ -1,0 +1,125 @@
+-- The entries' ends as facts over lists: each refusal leaves all as it came. Assumes nothing.
+use mathlib.Core.Path.{_≡_, refl, sym, ap, ap₂, _∙_}
+use mathlib.Core.Bool.{Bool, true, false}
+use mathlib.Core.List.{List, [], _∷_}
+use Prim.Native.Nat.{ℕ, _≤_, _<_}
+use native.Mathlib.Omega.{arith}
+use lib.Dec.{ltb}
+use lib.ListN.{length}
+use borrow.Author.Tests.{eq-eqb, ne-eqb, lt-ltb, le-ltb, ltb-false}
+use Rattle.lists.specs.Tests.{when, true-false}
+use Rattle.lists.specs.Parts.{over}
+use Rattle.layout.specs.Layout.{streamOctets, indexOctets, multiframePairs}
+use Rattle.settings.specs.Settings.{settings, settingsRight, rate-right, kind-right}
+use Rattle.bits.specs.Bits.{bits, octets}
+use Rattle.carrier.specs.Carrier.{streamPacket}
+use Rattle.packet.specs.Packet.{stream}
+use Rattle.refusals.specs.Refusals.{success, wrongLength, noRoom, writingNumber, writingPlace}
+use Rattle.refusals.specs.declared.Writing.the-variants.{WideIndex, WrongSettings}
+use Rattle.notes.specs.Notes.{allFrames, crcNotes}
+use Rattle.notes.specs.Laws.{over-all}
+use Rattle.reader.specs.Reading.{Outcome, outcome}
+use Rattle.reader.specs.declared.Answer.{Answer}
+use Rattle.writer.specs.Writing.{Search, at, nowhere, firstWide, verdict, writing}
+use Rattle.entries.specs.Entries.{Packing, packed, narrowPacking, packing, Unpacking, unpacked, unpacking, Told, numbers, refusal, Given, given, returned, answered, returning, toldOf, givenOf, writeReturned, dsrWrite}
+
+-- ---- packing
+module _ (idx s : List ℕ) where
+  pub packs-no-length : (length idx ≡ indexOctets → ⊥) → packed wrongLength s ≡ packing idx s
+  unfolding packing
+  packs-no-length n = rw (ne-eqb (length idx) indexOctets n)
+
+  pub packs-no-room : length idx ≡ indexOctets → (length s ≡ streamOctets → ⊥) → packed wrongLength s ≡ packing idx s
+  unfolding packing
+  packs-no-room e n = rw (eq-eqb (length idx) indexOctets e, ne-eqb (length s) streamOctets n)
+
+  narrow : length idx ≡ indexOctets → length s ≡ streamOctets → packing idx s ≡ narrowPacking idx s (firstWide idx)
+  unfolding packing
+  narrow e g = rw (eq-eqb (length idx) indexOctets e, eq-eqb (length s) streamOctets g)
+
+  pub packs-no-wide : length idx ≡ indexOctets → length s ≡ streamOctets → (k : ℕ) → firstWide idx ≡ at k → (n : ℕ) → n ≡ writingNumber (WideIndex (record { 0 = k })) → packed n s ≡ packing idx s
+  packs-no-wide e g k w n en = ap (λ (m : ℕ). packed m s) en ∙ sym (narrow e g ∙ ap (narrowPacking idx s) w)
+
+  pub packs : length idx ≡ indexOctets → length s ≡ streamOctets → firstWide idx ≡ nowhere → (s′ : List ℕ)
+      → s′ ≡ over s 0 streamOctets (octets streamOctets (stream idx 0 multiframePairs)) → packed success s′ ≡ packing idx s
+  packs e g w s′ es = ap (packed success) (es ∙ over-all s (octets streamOctets (stream idx 0 multiframePairs)) streamOctets g) ∙ sym (narrow e g ∙ ap (narrowPacking idx s) w)
+
+-- ---- unpacking
+module _ (s i n : List ℕ) where
+  pub unpacks-no-stream : (length s ≡ streamOctets → ⊥) → unpacked wrongLength i n ≡ unpacking s i n
+  unfolding unpacking
+  unpacks-no-stream h = rw (ne-eqb (length s) streamOctets h)
+
+  pub unpacks-no-indices : length s ≡ streamOctets → (length i ≡ indexOctets → ⊥) → unpacked wrongLength i n ≡ unpacking s i n
+  unfolding unpacking
+  unpacks-no-indices e h = rw (eq-eqb (length s) streamOctets e, ne-eqb (length i) indexOctets h)
+
+  pub unpacks-no-notes : length s ≡ streamOctets → length i ≡ indexOctets → (length n ≡ multiframePairs → ⊥) → unpacked wrongLength i n ≡ unpacking s i n
+  unfolding unpacking
+  unpacks-no-notes e g h = rw (eq-eqb (length s) streamOctets e, eq-eqb (length i) indexOctets g, ne-eqb (length n) multiframePairs h)
+
+  pub unpacks : length s ≡ streamOctets → length i ≡ indexOctets → length n ≡ multiframePairs → (i′ n′ : List ℕ)
+      → i′ ≡ over i 0 indexOctets (allFrames (streamPacket (bits s)) multiframePairs) → n′ ≡ over n 0 multiframePairs (crcNotes (streamPacket (bits s)) multiframePairs)
+      → unpacked success i′ n′ ≡ unpacking s i n
+  unfolding unpacking
+  unpacks e g h i′ n′ ei en =
+      rw (eq-eqb (length s) streamOctets e, eq-eqb (length i) indexOctets g, eq-eqb (length n) multiframePairs h)
+      (ap₂ (unpacked success) (ei ∙ over-all i (allFrames (streamPacket (bits s)) multiframePairs) indexOctets g) (en ∙ over-all n (crcNotes (streamPacket (bits s)) multiframePairs) multiframePairs h))
+
+-- ---- a reading's answer
+-- the ends of both readings, of w numbers
+module _ (w : ℕ) (a : List ℕ) (p : ℕ) (i r : List ℕ) (g : Given) where
+  pub returns-no-room : length a < w → returned noRoom i r a p ≡ returning w a p i r g
+  unfolding returning
+  returns-no-room h = rw (lt-ltb (length a) w h)
+
+  answer : w ≤ length a → (t : Told) (i′ r′ : List ℕ) → given t i′ r′ ≡ g → answered w a p i′ r′ t ≡ returning w a p i r g
+  unfolding returning
+  answer h t i′ r′ e = rw (le-ltb (length a) w h) (ap (λ (q : Given). answered w a p (q .index) (q .report) (q .told)) e)
+
+  pub returns-read : w ≤ length a → (l i′ r′ a′ : List ℕ) → given (numbers l) i′ r′ ≡ g → a′ ≡ over a 0 w l → returned success i′ r′ a′ p ≡ returning w a p i r g
+  returns-read h l i′ r′ a′ e ea = ap (λ (x : List ℕ). returned success i′ r′ x p) ea ∙ answer h (numbers l) i′ r′ e
+
+  pub returns-refusal : w ≤ length a → (i′ r′ : List ℕ) (n q m k : ℕ) → given (refusal m k) i′ r′ ≡ g → n ≡ m → q ≡ k
+      → returned n i′ r′ a q ≡ returning w a p i r g
+  returns-refusal h i′ r′ n q m k e en eq = ap₂ (λ (x y : ℕ). returned x i′ r′ a y) en eq ∙ answer h (refusal m k) i′ r′ e
+
+-- 01's reading, once its answer is known
+pub given-as : {x y : Answer} {i r : List ℕ} {o : Outcome} → outcome x i r ≡ o → x ≡ y → given (toldOf y) i r ≡ givenOf o
+given-as {x} {y} {i} {r} {o} e ex = ap (λ (z : Answer). given (toldOf z) i r) (sym ex) ∙ ap givenOf e
+
+-- ---- settings that are no octets
+abbrev pub settingsFit : ℕ → ℕ → Bool
+settingsFit rate kind = when (ltb 255 rate) false (when (ltb 255 kind) false true)
+
+module _ (rate kind : ℕ) where
+  pub octets-fit : rate ≤ 255 → kind ≤ 255 → settingsFit rate kind ≡ true
+  octets-fit h g = rw (le-ltb 255 rate h, le-ltb 255 kind g)
+
+  pub fit-octets : settingsFit rate kind ≡ true → (rate ≤ 255) × (kind ≤ 255)
+  fit-octets e = by (ltb 255 rate) (ltb 255 kind) refl refl e
+    where
+      by : (a b : Bool) → ltb 255 rate ≡ a → ltb 255 kind ≡ b → when a false (when b false true) ≡ true → (rate ≤ 255) × (kind ≤ 255)
+      by true b x y z = absurd (true-false (sym z))
+      by false true x y z = absurd (true-false (sym z))
+      by false false x y z = (ltb-false 255 rate x, ltb-false 255 kind y)
+
+  -- they are wrong
+  unfit-wrong : settingsFit rate kind ≡ false → settingsRight (settings rate kind) ≡ false
+  unfit-wrong e = by (settingsRight (settings rate kind)) refl
+    where
+      by : (b : Bool) → settingsRight (settings rate kind) ≡ b → settingsRight (settings rate kind) ≡ false
+      by false h = h
+      by true h =
+          let r = rate-right (settings rate kind) h in
+          let k = kind-right (settings rate kind) h in absurd (true-false (sym (octets-fit (omega arith) (omega arith)) ∙ e))
+
+  -- so the writer refuses them with 1
+  pub unfit-refused : settingsFit rate kind ≡ false → (indices out : List ℕ) (n p : ℕ) → n ≡ writingNumber WrongSettings → p ≡ writingPlace WrongSettings
+      → writeReturned n out p ≡ dsrWrite rate kind indices out
+  unfolding writing verdict
+  unfit-refused e indices out n p en ep = rw (unfit-wrong e) (ap₂ (λ (x y : ℕ). writeReturned x out y) en ep)
+
+-- ---- dsr_write's three, put together
+pub written-as : {n m p q : ℕ} {o w : List ℕ} → n ≡ m → o ≡ w → p ≡ q → writeReturned n o p ≡ writeReturned m w q
+written-as {n} {m} {p} {q} {o} {w} en eo ep = ap₂ (λ (x : ℕ) (y : List ℕ). writeReturned x y p) en eo ∙ ap (writeReturned m w) ep
