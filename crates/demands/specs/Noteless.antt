@@ -12,7 +12,7 @@ use lib.Seq.{take-at, take-all, ext-getD, getD-take, getD-drop}
 use Rattle.lists.specs.Tests.{when, true-false}
 use Rattle.lists.specs.Parts.{part, length-part, part-right}
 use Rattle.lists.specs.Rows.{joined, same-joined}
-use Rattle.layout.specs.Layout.{widths, frameIndices, dataBits, packetBits, multiframeFrames, multiframePairs, streamOctets, multiframeOctets, firstPair, sync}
+use Rattle.layout.specs.Layout.{widths, frameIndices, pairIndices, dataBits, packetBits, multiframeFrames, multiframePairs, syncOctets, headerOctets, streamOctets, multiframeOctets, firstPair, firstFrame, secondFrame, sync}
 use Rattle.settings.specs.declared.Settings.{Settings}
 use Rattle.frames.specs.Frames.{zeroFrame, all-zero-at}
 use Rattle.bits.specs.Bits.{bits, total}
@@ -68,8 +68,8 @@ module _ (s : List ℕ) (m : ℕ) (size : length s ≡ multiframeOctets * m) (sm
   stream-is : (k : ℕ) → k < m → stream idx (firstPair k) multiframePairs ≡ bits (streamIn s k)
   stream-is k h =
       let l = bits (streamIn s k) in
-      let ls : length (streamIn s k) ≡ streamOctets = length-part s (multiframeOctets * k + 2 + 4) streamOctets (omega arith) in
-      let ll : length l ≡ 1104 = length-bits (streamIn s k) ∙ ap (λ (n : ℕ). n * 8) ls in
+      let ls : length (streamIn s k) ≡ streamOctets = length-part s (multiframeOctets * k + syncOctets + headerOctets) streamOctets (omega arith) in
+      let ll : length l ≡ streamOctets * 8 = length-bits (streamIn s k) ∙ ap (λ (n : ℕ). n * 8) ls in
       in-a-row idx (multiframePairs * k) multiframePairs
       ∙ same-joined (λ p. packetOf idx (multiframePairs * k + p)) (λ p. part (packetBits * p) packetBits l) multiframePairs (λ p z.
       let d : (multiframePairs * k + p) / multiframePairs ≡ k = omega arith in
@@ -163,19 +163,19 @@ module _ (all : List ℕ) (m : ℕ) (some : 0 < m) (size : length all ≡ frameI
 
   -- a right packet is the packet of its frames
   pub packet-spoken : (q : ℕ) (p : List Bool) → q < multiframePairs * m → length p ≡ packetBits → Right dataBits p
-      → part (2 * frameIndices * q) (2 * frameIndices) all ≡ apart widths p → packetOf spoken q ≡ p
+      → part (pairIndices * q) pairIndices all ≡ apart widths p → packetOf spoken q ≡ p
   unfolding packetOf apart
   packet-spoken q p h l r e =
       let f = indices widths p in
       let g = indices widths (drop (total widths) p) in
       let lf : length f ≡ frameIndices = length-numbers widths p in
       let lg : length g ≡ frameIndices = length-numbers widths (drop (total widths) p) in
-      let room : 14 * q + 14 ≤ length all = omega arith in
-      let a : frameIndices * (2 * q) ≡ 14 * q + 0 = omega arith in
-      let b : frameIndices * (2 * q + 1) ≡ 14 * q + frameIndices = omega arith in
-      let first : frameAt spoken (2 * q) ≡ f =
-      frame-spoken (2 * q) (omega arith) ∙ ap (λ (i : ℕ). part i frameIndices all) a ∙ part-within all (14 * q) 14 0 frameIndices room (omega arith) ∙ ap (part 0 frameIndices) e ∙ take-at f g frameIndices lf in
-      let second : frameAt spoken (2 * q + 1) ≡ g =
-      frame-spoken (2 * q + 1) (omega arith) ∙ ap (λ (i : ℕ). part i frameIndices all) b ∙ part-within all (14 * q) 14 frameIndices frameIndices room (omega arith) ∙ ap (part frameIndices frameIndices) e
+      let room : pairIndices * q + pairIndices ≤ length all = omega arith in
+      let a : frameIndices * (firstFrame q) ≡ pairIndices * q + 0 = omega arith in
+      let b : frameIndices * (secondFrame q) ≡ pairIndices * q + frameIndices = omega arith in
+      let first : frameAt spoken (firstFrame q) ≡ f =
+      frame-spoken (firstFrame q) (omega arith) ∙ ap (λ (i : ℕ). part i frameIndices all) a ∙ part-within all (pairIndices * q) pairIndices 0 frameIndices room (omega arith) ∙ ap (part 0 frameIndices) e ∙ take-at f g frameIndices lf in
+      let second : frameAt spoken (secondFrame q) ≡ g =
+      frame-spoken (secondFrame q) (omega arith) ∙ ap (λ (i : ℕ). part i frameIndices all) b ∙ part-within all (pairIndices * q) pairIndices frameIndices frameIndices room (omega arith) ∙ ap (part frameIndices frameIndices) e
       ∙ part-right f g frameIndices frameIndices lf ∙ take-all frameIndices g (omega arith) in
       ap₂ (packet widths) first (second ∙ ap (λ (n : ℕ). indices widths (drop n p)) total-widths) ∙ packet-92 p l .1 r

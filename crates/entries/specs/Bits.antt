@@ -1,13 +1,12 @@
 -- What the entries of the hunting reader answer, in numbers, and what they leave in lent memory.
 -- Assumes nothing.
-use mathlib.Core.Path.{_≡_, refl, sym, ap, ap₂, _∙_}
+use mathlib.Core.Path.{_≡_, refl, sym, ap, _∙_}
 use mathlib.Core.List.{List, [], _∷_, _++_}
-use Prim.Native.Nat.{ℕ, _≤_, _<_}
+use Prim.Native.Nat.{ℕ}
 use native.Mathlib.Omega.{arith}
 use lib.Dec.{ltb}
-use lib.ListN.{length, set, length-set}
+use lib.ListN.{length}
 use Rattle.lists.specs.Tests.{by-test}
-use Rattle.lists.specs.Parts.{over, behind, set-over, length-over}
 use Rattle.consistency.specs.Tables.{Tables}
 use Rattle.hunt.specs.Hunt as H
 use Rattle.hunt.specs.declared.Hunted.{Hunted}
@@ -19,7 +18,7 @@ use Rattle.hunting.specs.Says.{never-12-to-14}
 use Rattle.hunting.specs.declared.Counted.{Counted}
 use Rattle.hunting.specs.declared.Answer.{Answer}
 use Rattle.hunting.specs.declared.Answer.the-variants.{Read, Refused}
-use Rattle.entries.specs.Entries.{answerNumbers, summaryNumbers, Told, numbers, refusal, Given, given, Returned, answered, returning}
+use Rattle.entries.specs.Entries.{summaryNumbers, Told, numbers, refusal, Given, given, Returned, answered, returning}
 
 -- ---- the hunt: its number, and the three lent numbers
 pub record HuntReturned : Type 0 where
@@ -68,17 +67,6 @@ hunt-found f p q n h e = ap (huntReturning f p) e
 pub hunt-refused : (f p n t q : ℕ) (r : HuntRefusal) (h : Hunted) → HA.Refused r ≡ h → n ≡ huntNumber r → t ≡ huntTested r → q ≡ huntPlace r
     → huntReturned n f t q ≡ huntReturning f p h
 hunt-refused f p n t q r h e en et eq = rw (en, et, eq) (ap (huntReturning f p) e)
-
--- two numbers stored behind the six of the summary
-pub eight-stored : (a b : List ℕ) (c : Counted) → countedNumbers ≤ length a → b ≡ over a 0 answerNumbers (summaryNumbers (c .summary))
-    → set (set b 6 (c .outside)) 7 (c .tested) ≡ over a 0 countedNumbers (numbersOf c)
-eight-stored a b c room e =
-    let six = summaryNumbers (c .summary) in
-    let lb : length b ≡ length a = ap length e ∙ length-over a six 0 6 (omega arith) refl in
-    let one : set b 6 (c .outside) ≡ over b 6 1 (c .outside ∷ []) = set-over b 6 (c .outside) (omega arith) in
-    let ls : length (set b 6 (c .outside)) ≡ length b = length-set b 6 (c .outside) in
-    let two : set (set b 6 (c .outside)) 7 (c .tested) ≡ over (set b 6 (c .outside)) 7 1 (c .tested ∷ []) = set-over (set b 6 (c .outside)) 7 (c .tested) (omega arith) in
-    behind a 0 7 1 (six ++ (c .outside ∷ [])) (c .tested ∷ []) (omega arith) refl (behind a 0 6 1 six (c .outside ∷ []) (omega arith) refl e one) two
 
 -- the hunting reading, once its answer is known
 pub bits-given-as : {x y : Answer} {i r : List ℕ} {o : Outcome} → outcome x i r ≡ o → x ≡ y → given (bitsTold y) i r ≡ bitsGiven o

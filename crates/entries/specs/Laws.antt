@@ -5,7 +5,7 @@ use mathlib.Core.List.{List, [], _∷_}
 use Prim.Native.Nat.{ℕ, _≤_, _<_}
 use native.Mathlib.Omega.{arith}
 use lib.Dec.{ltb}
-use lib.ListN.{length, set}
+use lib.ListN.{length}
 use borrow.Author.Tests.{eq-eqb, ne-eqb, lt-ltb, le-ltb, ltb-false}
 use Rattle.lists.specs.Tests.{when, true-false}
 use Rattle.lists.specs.Parts.{over}
@@ -21,7 +21,7 @@ use Rattle.notes.specs.Laws.{over-all}
 use Rattle.reader.specs.Reading.{Outcome, outcome}
 use Rattle.reader.specs.declared.Answer.{Answer}
 use Rattle.writer.specs.Writing.{Search, at, nowhere, firstWide, verdict, writing}
-use Rattle.entries.specs.Entries.{Packing, packed, narrowPacking, packing, Unpacking, unpacked, unpacking, answerNumbers, Told, numbers, refusal, Given, given, returned, answered, returning, toldOf, givenOf, writeReturned, dsrWrite}
+use Rattle.entries.specs.Entries.{Packing, packed, narrowPacking, packing, Unpacking, unpacked, unpacking, Told, numbers, refusal, Given, given, returned, answered, returning, toldOf, givenOf, writeReturned, dsrWrite}
 
 -- ---- packing
 module _ (idx s : List ℕ) where
@@ -67,17 +67,6 @@ module _ (s i n : List ℕ) where
       (ap₂ (unpacked success) (ei ∙ over-all i (allFrames (streamPacket (bits s)) multiframePairs) indexOctets g) (en ∙ over-all n (crcNotes (streamPacket (bits s)) multiframePairs) multiframePairs h))
 
 -- ---- a reading's answer
--- six numbers stored one by one
-pub six-stored : (a : List ℕ) (u v w x y z : ℕ) → answerNumbers ≤ length a
-    → set (set (set (set (set (set a 0 u) 1 v) 2 w) 3 x) 4 y) 5 z ≡ over a 0 answerNumbers (u ∷ v ∷ w ∷ x ∷ y ∷ z ∷ [])
-six-stored [] u v w x y z h = absurd (omega arith)
-six-stored (a ∷ []) u v w x y z h = absurd (omega arith)
-six-stored (a ∷ b ∷ []) u v w x y z h = absurd (omega arith)
-six-stored (a ∷ b ∷ c ∷ []) u v w x y z h = absurd (omega arith)
-six-stored (a ∷ b ∷ c ∷ d ∷ []) u v w x y z h = absurd (omega arith)
-six-stored (a ∷ b ∷ c ∷ d ∷ e ∷ []) u v w x y z h = absurd (omega arith)
-six-stored (a ∷ b ∷ c ∷ d ∷ e ∷ f ∷ l) u v w x y z h = refl
-
 -- the ends of both readings, of w numbers
 module _ (w : ℕ) (a : List ℕ) (p : ℕ) (i r : List ℕ) (g : Given) where
   pub returns-no-room : length a < w → returned noRoom i r a p ≡ returning w a p i r g

@@ -25,7 +25,7 @@ use Rattle.header_code.specs.Code.{codeword, flipsTo}
 use Rattle.header_code.specs.Code.Distance.{codeword-lt}
 use Rattle.header.specs.Message.Laws.{message-lt}
 use Rattle.header.specs.Reading.Laws.{flips-of}
-use Rattle.hunt.specs.Hunt.{syncBits, multiframeBits, fewestMatches, sync, matches, passes, searched}
+use Rattle.hunt.specs.Hunt.{syncBits, headerBits, multiframeBits, fewestMatches, sync, matches, passes, searched}
 use Rattle.hunt.specs.Laws.{searched-all}
 use Rattle.image.specs.Made.{packetIn, made-packet}
 use Rattle.image.specs.Laws.{image-word, image-packet}
@@ -54,7 +54,7 @@ module _ (u : Utterance) where
   unfolding fields field
   sizes = record {
     syncs = λ k. refl;
-    words = λ k. xor-lt 32 (codeword (sentMessage u k)) 3 (codeword-lt (sentMessage u k) (message-lt (u .settings) (k + 1) 0)) (lit< tt);
+    words = λ k. xor-lt headerBits (codeword (sentMessage u k)) 3 (codeword-lt (sentMessage u k) (message-lt (u .settings) (k + 1) 0)) (lit< tt);
     streams = length-hurt u;
     around = ap (λ (n : ℕ). 3 + n) (length-replicate 1205 false);
   }
@@ -67,7 +67,7 @@ module _ (u : Utterance) where
 
   head-is : take 19 l ≡ threeZeros ++ worstSync
   head-is =
-      take-add 3 16 l
+      take-add 3 syncBits l
       ∙ ap₂ (λ (x y : List Bool). x ++ y)
       (ap (take 3) (bits-laid threeZeros (λ k. worstSync) (hurtWord u) (hurtStream u) m manyZeros 151 sizes)
       ∙ part-left threeZeros (joined (λ k. laidMultiframe worstSync (hurtWord u k) (hurtStream u k)) m ++ manyZeros) 0 3 (lit≤ tt))
@@ -77,7 +77,7 @@ module _ (u : Utterance) where
   not-behind t h r =
       let n = searched-are in
       let e : syncAt l t ≡ replicate syncBits false =
-      laid-behind threeZeros (λ k. worstSync) (hurtWord u) (hurtStream u) m manyZeros 151 sizes t 16 h ∙ zeros-part 1205 (t - (3 + multiframeBits * m)) (omega arith) in
+      laid-behind threeZeros (λ k. worstSync) (hurtWord u) (hurtStream u) m manyZeros 151 sizes t syncBits h ∙ zeros-part 1205 (t - (3 + multiframeBits * m)) (omega arith) in
       unlike-fails fewestMatches l t (subst (λ (x : List Bool). matches x sync < fewestMatches) (sym e) zeros-match)
 
   -- two flips in every header

@@ -10,12 +10,12 @@ use lib.ListN.{length, take}
 use lib.Seq.{drop-append-add}
 use Rattle.lists.specs.Parts.{part, part-left}
 use Rattle.lists.specs.Rows.{same-joined}
-use Rattle.layout.specs.Layout.{streamOctets, multiframeOctets, mostMultiframes, codebookNumbers, thresholdNumbers, syncFirst, syncSecond}
+use Rattle.layout.specs.Layout.{syncOctets, headerOctets, streamOctets, multiframeOctets, mostMultiframes, codebookNumbers, thresholdNumbers, syncFirst, syncSecond}
 use Rattle.consistency.specs.Tables.{Tables}
 use Rattle.bits.specs.Bits.{value, bits}
 use Rattle.bits.specs.Laws.{length-bits, bits-part}
 use Rattle.header.specs.Reading.{reading}
-use Rattle.hunt.specs.Hunt.{fewestMatches, syncBits, multiframeBits, sync, matches, passes, searched}
+use Rattle.hunt.specs.Hunt.{fewestMatches, syncBits, headerBits, multiframeBits, sync, matches, passes, searched}
 use Rattle.reader.specs.Reading as R
 use Rattle.reader.specs.declared.Summary.{Summary}
 use Rattle.reader.specs.declared.Answer.{Answer}
@@ -70,12 +70,12 @@ module _ (img : List ℕ) (m : ℕ) (w : Multiframes img m) (s : List ℕ) (fron
       ∙ part-left (bits img) behind (8 * i) (8 * n) (omega (arith, length-bits img)) ∙ sym (bits-part i n img le)
 
   pub shifted-syncs : (k : ℕ) → k < m → syncAt (bits s) (placeInRow (length front) k) ≡ sync
-  shifted-syncs k h = bits-of (multiframeOctets * k) 2 (length front + multiframeBits * k) (omega (arith, w .size)) (omega arith) ∙ ap bits (w .syncs k h)
+  shifted-syncs k h = bits-of (multiframeOctets * k) syncOctets (length front + multiframeBits * k) (omega (arith, w .size)) (omega arith) ∙ ap bits (w .syncs k h)
 
   pub shifted-stands : Stands img m s (length front)
   shifted-stands = record {
-    words = λ k h. ap value (bits-of (multiframeOctets * k + 2) 4 (length front + multiframeBits * k + 16) (omega (arith, w .size)) (omega arith));
-    streams = λ k h. bits-of (multiframeOctets * k + 2 + 4) streamOctets (length front + multiframeBits * k + 16 + 32) (omega (arith, w .size)) (omega arith);
+    words = λ k h. ap value (bits-of (multiframeOctets * k + syncOctets) headerOctets (length front + multiframeBits * k + syncBits) (omega (arith, w .size)) (omega arith));
+    streams = λ k h. bits-of (multiframeOctets * k + syncOctets + headerOctets) streamOctets (length front + multiframeBits * k + syncBits + headerBits) (omega (arith, w .size)) (omega arith);
   }
 
 -- ---- NAMES THE DAMAGE AT ANY BIT (demand 3, for 02's C-13)

@@ -62,7 +62,7 @@ module _ (u : Utterance) (front : List Bool) (y : ℕ → List Bool) (flips : �
     sizes : Sizes front y hurtWord keptStream m behind n
     sizes = record {
       syncs = f .syncs;
-      words = λ k. xor-lt 32 (codeword (sentMessage u k)) (flips k) (codeword-lt (sentMessage u k) (message-lt (u .settings) (k + 1) 0)) (f .headers k);
+      words = λ k. xor-lt headerBits (codeword (sentMessage u k)) (flips k) (codeword-lt (sentMessage u k) (message-lt (u .settings) (k + 1) 0)) (f .headers k);
       streams = λ k. length-stream (u .indices) (firstPair k) multiframePairs;
       around = f .around;
     }

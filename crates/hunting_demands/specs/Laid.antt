@@ -11,12 +11,12 @@ use lib.ListN.{length, take, drop, length-append}
 use lib.Seq.{take-all, take-at, drop-at, drop-drop, drop-append-add}
 use Rattle.lists.specs.Parts.{part, part-left, part-right}
 use Rattle.lists.specs.Rows.{joined, length-joined, joined-part}
-use Rattle.layout.specs.Layout.{streamOctets, multiframeOctets}
+use Rattle.layout.specs.Layout.{multiframeOctets}
 use Rattle.bits.specs.Bits.{field, value, bits, octets}
 use Rattle.bits.specs.Laws.{length-field, value-field, bits-octets}
 use Rattle.hunt.specs.Hunt.{syncBits, headerBits, multiframeBits}
 use Rattle.image.specs.Made.{part-within}
-use Rattle.hunting_demands.specs.Standing.{placeInRow, syncAt, wordAt, streamAt}
+use Rattle.hunting_demands.specs.Standing.{placeInRow, streamBits, syncAt, wordAt, streamAt}
 
 -- sixteen bits, a header word and a stream
 abbrev pub laidMultiframe : List Bool → ℕ → List Bool → List Bool
@@ -28,7 +28,7 @@ module _ (y : List Bool) (w : ℕ) (x : List Bool) (size : length y ≡ syncBits
 
   pub word-in : w < 2 ^ headerBits → value (part syncBits headerBits (laidMultiframe y w x)) ≡ w
   word-in h =
-      ap value (part-right y (field 32 w ++ x) 16 32 size ∙ take-at (field 32 w) x 32 (length-field 32 w)) ∙ value-field 32 w ∙ mod-eq-of-lt h
+      ap value (part-right y (field headerBits w ++ x) syncBits headerBits size ∙ take-at (field headerBits w) x headerBits (length-field headerBits w)) ∙ value-field headerBits w ∙ mod-eq-of-lt h
 
 module _ (front : List Bool) (y : ℕ → List Bool) (w : ℕ → ℕ) (x : ℕ → List Bool) (m : ℕ) (behind : List Bool) where
   abbrev pub laidBits : List Bool
@@ -41,7 +41,7 @@ module _ (front : List Bool) (y : ℕ → List Bool) (w : ℕ → ℕ) (x : ℕ 
   pub record Sizes (n : ℕ) : Type 0 where
     pub syncs : (k : ℕ) → length (y k) ≡ syncBits
     pub words : (k : ℕ) → w k < 2 ^ headerBits
-    pub streams : (k : ℕ) → length (x k) ≡ 8 * streamOctets
+    pub streams : (k : ℕ) → length (x k) ≡ streamBits
     pub around : length front + length behind ≡ 8 * n
 
   module _ (n : ℕ) (z : Sizes n) where
@@ -50,7 +50,7 @@ module _ (front : List Bool) (y : ℕ → List Bool) (w : ℕ → ℕ) (x : ℕ 
 
     size-each : (k : ℕ) → length (each k) ≡ multiframeBits
     size-each k =
-        length-append (y k) (field 32 (w k) ++ x k) ∙ omega (arith, length-append (field 32 (w k)) (x k), length-field 32 (w k), z .syncs k, z .streams k)
+        length-append (y k) (field headerBits (w k) ++ x k) ∙ omega (arith, length-append (field headerBits (w k)) (x k), length-field headerBits (w k), z .syncs k, z .streams k)
 
     size-joined : length (joined each m) ≡ multiframeBits * m
     size-joined = length-joined each multiframeBits m (λ k h. size-each k)
@@ -86,15 +86,15 @@ module _ (front : List Bool) (y : ℕ → List Bool) (w : ℕ → ℕ) (x : ℕ 
           ∙ part-within laidBits (placeInRow (length front) k) multiframeBits a v (omega (arith, size-bits, z .around)) l ∙ ap (part a v) whole-at
 
       pub laid-sync : syncAt (bits (laidOctets n)) (placeInRow (length front) k) ≡ y k
-      laid-sync = inside 0 16 (length front + multiframeBits * k) (omega arith) (omega arith) ∙ sync-in (y k) (w k) (x k) (z .syncs k)
+      laid-sync = inside 0 syncBits (length front + multiframeBits * k) (omega arith) (omega arith) ∙ sync-in (y k) (w k) (x k) (z .syncs k)
 
       pub laid-word : wordAt (bits (laidOctets n)) (placeInRow (length front) k) ≡ w k
-      laid-word = ap value (inside 16 32 (length front + multiframeBits * k + 16) (omega arith) (omega arith)) ∙ word-in (y k) (w k) (x k) (z .syncs k) (z .words k)
+      laid-word = ap value (inside syncBits headerBits (length front + multiframeBits * k + syncBits) (omega arith) (omega arith)) ∙ word-in (y k) (w k) (x k) (z .syncs k) (z .words k)
 
       pub laid-stream : streamAt (bits (laidOctets n)) (placeInRow (length front) k) ≡ x k
       laid-stream =
-          inside 48 1104 (length front + multiframeBits * k + 16 + 32) (omega arith) (omega arith)
-          ∙ ap (take 1104)
-          (sym (drop-drop 32 16 (each k)) ∙ ap (drop 32) (drop-at (y k) (field 32 (w k) ++ x k) 16 (z .syncs k))
-          ∙ drop-at (field 32 (w k)) (x k) 32 (length-field 32 (w k)))
-          ∙ take-all 1104 (x k) (omega (arith, z .streams k))
+          inside (syncBits + headerBits) streamBits (length front + multiframeBits * k + syncBits + headerBits) (omega arith) (omega arith)
+          ∙ ap (take streamBits)
+          (sym (drop-drop headerBits syncBits (each k)) ∙ ap (drop headerBits) (drop-at (y k) (field headerBits (w k) ++ x k) syncBits (z .syncs k))
+          ∙ drop-at (field headerBits (w k)) (x k) headerBits (length-field headerBits (w k)))
+          ∙ take-all streamBits (x k) (omega (arith, z .streams k))

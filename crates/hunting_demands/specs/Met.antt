@@ -15,7 +15,7 @@ use lib.Seq.{take-add, take-at, take-append-le}
 use Rattle.polynomials.specs.Light.{ones-in}
 use Rattle.lists.specs.Parts.{part, over, part-left, part-right}
 use Rattle.lists.specs.Rows.{joined}
-use Rattle.layout.specs.Layout.{multiframePairs, multiframeOctets, mostMultiframes, indexOctets, reportOctets}
+use Rattle.layout.specs.Layout.{multiframePairs, syncOctets, multiframeOctets, mostMultiframes, indexOctets, reportOctets}
 use Rattle.consistency.specs.Tables.{Tables}
 use Rattle.bits.specs.Bits.{field, fields, bits, octets}
 use Rattle.bits.specs.Laws.{length-bits, bits-part, bits-octets}
@@ -66,8 +66,8 @@ pub fails-before : (l y : List Bool) (least : ℕ) → take 19 l ≡ threeZeros 
     → ((t : ℕ) → t < 3 → matches (part t syncBits (threeZeros ++ y)) sync < fewestMatches) → (t : ℕ) → 0 ≤ t → t < 3 → passes least l t ≡ false
 fails-before l y least head size low unlike t a h =
     let n : length (take 19 l) ≡ 19 = ap length head ∙ length-append threeZeros y ∙ ap (λ (i : ℕ). 3 + i) size in
-    let e : syncAt l t ≡ part t 16 (threeZeros ++ y) =
-    ap (part t 16) (sym (take-append-drop 19 l)) ∙ part-left (take 19 l) (drop 19 l) t 16 (omega arith) ∙ ap (part t 16) head in
+    let e : syncAt l t ≡ part t syncBits (threeZeros ++ y) =
+    ap (part t syncBits) (sym (take-append-drop 19 l)) ∙ part-left (take 19 l) (drop 19 l) t syncBits (omega arith) ∙ ap (part t syncBits) head in
     unlike-fails least l t (subst (λ (x : List Bool). matches x sync < least) (sym e) (omega (arith, unlike t h)))
 
 -- nor have sixteen zeros twelve
@@ -77,11 +77,11 @@ zeros-match = lit< tt
 
 pub zeros-part : (n j : ℕ) → j + syncBits ≤ n → part j syncBits (replicate n false) ≡ replicate syncBits false
 zeros-part n j h =
-    let r = n - j - 16 in
-    let e : n ≡ j + (16 + r) = omega arith in
-    ap (λ (i : ℕ). part j 16 (replicate i false)) e ∙ ap (part j 16) (sym (replicate-append-replicate j (16 + r) false))
-    ∙ part-right (replicate j false) (replicate (16 + r) false) j 16 (length-replicate j false)
-    ∙ ap (take 16) (sym (replicate-append-replicate 16 r false)) ∙ take-at (replicate 16 false) (replicate r false) 16 refl
+    let r = n - j - syncBits in
+    let e : n ≡ j + (syncBits + r) = omega arith in
+    ap (λ (i : ℕ). part j syncBits (replicate i false)) e ∙ ap (part j syncBits) (sym (replicate-append-replicate j (syncBits + r) false))
+    ∙ part-right (replicate j false) (replicate (syncBits + r) false) j syncBits (length-replicate j false)
+    ∙ ap (take syncBits) (sym (replicate-append-replicate syncBits r false)) ∙ take-at (replicate syncBits false) (replicate r false) syncBits refl
 
 pub sync-size : length sync ≡ syncBits
 unfolding fields field
@@ -112,7 +112,7 @@ module _ (u : Utterance) where
   -- what stands before the first header
   head-is : take 19 l ≡ threeZeros ++ worstSync
   head-is =
-      take-add 3 16 l
+      take-add 3 syncBits l
       ∙ ap₂ (λ (x y : List Bool). x ++ y) (H.front-there u threeZeros (λ k. worstSync) (λ k. 3) manyZeros 151 fits 0 3 (lit≤ tt))
       (H.sync-there u threeZeros (λ k. worstSync) (λ k. 3) manyZeros 151 fits 0 (omega arith))
 
@@ -123,7 +123,7 @@ module _ (u : Utterance) where
   not-behind t h r =
       let n = H.searched-are u threeZeros (λ k. worstSync) (λ k. 3) manyZeros 151 fits in
       let e : syncAt l t ≡ replicate syncBits false =
-      H.behind-there u threeZeros (λ k. worstSync) (λ k. 3) manyZeros 151 fits t 16 h ∙ zeros-part 1205 (t - (3 + multiframeBits * m)) (omega arith) in
+      H.behind-there u threeZeros (λ k. worstSync) (λ k. 3) manyZeros 151 fits t syncBits h ∙ zeros-part 1205 (t - (3 + multiframeBits * m)) (omega arith) in
       unlike-fails fewestMatches l t (subst (λ (x : List Bool). matches x sync < fewestMatches) (sym e) zeros-match)
 
   two-flips : (k : ℕ) → k < m → receivedFlips u carriedOctets 3 k ≡ 2
@@ -229,12 +229,12 @@ module _ (u : Utterance) where
       let few : multiframesOf u ≤ mostMultiframes = few-multiframes (u .settings) (u .indices) (is-accepted u .sizes) in
       let size : length (bits shiftedOctets) ≡ 8 * (1 + multiframeOctets * multiframesOf u) = ap length same ∙ shifted-size in
       let all : searched (bits shiftedOctets) ≡ 8 * (1 + multiframeOctets * multiframesOf u) = searched-all (bits shiftedOctets) (omega arith) ∙ size in
-      let first : take 16 (bits (imageOf u)) ≡ sync =
-      sym (bits-part 0 2 (imageOf u) (omega (arith, length-image (u .settings) (u .indices) (multiframesOf u))))
+      let first : take syncBits (bits (imageOf u)) ≡ sync =
+      sym (bits-part 0 syncOctets (imageOf u) (omega (arith, length-image (u .settings) (u .indices) (multiframesOf u))))
       ∙ ap bits (image-sync (u .settings) (u .indices) (multiframesOf u) 0 (omega arith)) in
       let head : take 19 (bits shiftedOctets) ≡ threeZeros ++ sync =
       ap (take 19) same
-      ∙ ap (λ (x : List Bool). threeZeros ++ x) (take-append-le 16 (bits (imageOf u)) fiveZeros (omega (arith, image-bits)) ∙ first) in
+      ∙ ap (λ (x : List Bool). threeZeros ++ x) (take-append-le syncBits (bits (imageOf u)) fiveZeros (omega (arith, image-bits)) ∙ first) in
       record {
         same = same;
         begins = lit≤ tt;

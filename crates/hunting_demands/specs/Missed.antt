@@ -40,7 +40,7 @@ use Rattle.header.specs.declared.Header.{Header}
 use Rattle.header.specs.declared.Header.the-variants.{Codeword, Lost}
 use Rattle.settling.specs.Settling.{readings, settling, firstAgreeing, onlyOne}
 use Rattle.settling.specs.declared.Settlement.the-variants as S
-use Rattle.hunt.specs.Hunt.{syncBits, multiframeBits, fewestMatches, sync, matches, passes, searched}
+use Rattle.hunt.specs.Hunt.{syncBits, headerBits, multiframeBits, fewestMatches, sync, matches, passes, searched}
 use Rattle.hunt.specs.Laws.{searched-all}
 use Rattle.reader.specs.Reading as R
 use Rattle.reader.specs.declared.Answer.the-variants as RA
@@ -149,7 +149,7 @@ same-stream =
 abbrev m : ℕ
 m = multiframesOf sent
 
-word-small : (k : ℕ) → words k < 2 ^ 32
+word-small : (k : ℕ) → words k < 2 ^ headerBits
 word-small zero = lit< tt
 word-small (suc k) = lit< tt
 
@@ -176,13 +176,13 @@ first-flips : headerFlips (imageOf sent) garbled 0 ≡ 3
 unfolding onesIn
 first-flips =
     ap₂ (λ (a b : ℕ). ones (bitXor a b)) (word-came 0 (lit< tt)) (image-word (sent .settings) (sent .indices) m 0 (lit< tt) ∙ first-word)
-    ∙ sym (ones-in 32 0x000E0000 (lit< tt))
+    ∙ sym (ones-in headerBits 0x000E0000 (lit< tt))
 
 second-flips : headerFlips (imageOf sent) garbled 1 ≡ 8
 unfolding onesIn
 second-flips =
     ap₂ (λ (a b : ℕ). ones (bitXor a b)) (word-came 1 (lit< tt)) (image-word (sent .settings) (sent .indices) m 1 (lit< tt) ∙ second-word)
-    ∙ sym (ones-in 32 0x32120019 (lit< tt))
+    ∙ sym (ones-in headerBits 0x32120019 (lit< tt))
 
 -- so the first is lost, and the second is read as a codeword of 11 kHz without a flip
 first-lost : reading (wordIn garbled 0) ≡ Lost

@@ -61,7 +61,7 @@ use Rattle.demands.specs.Headers.{sentCommon, common-sent, rate-sent, exp-sent}
 use Rattle.demands.specs.Instances.{lone, says1}
 use Rattle.demands.specs.Met.{zeroTables, indexFor, reportFor, lent-zeros, distance, burstAt, doubleAt, hurtWord, hurtStream, hurtImage, hurts, names-met, says24, two-multiframes}
 use Rattle.demands.specs.Needed.{says1At11}
-use Rattle.hunting_demands.specs.Standing.{placeInRow, row, syncAt, wordAt, streamAt, all-match, passes-there, unlike-fails, lost-fails, InARow, testedInRow, reads-in-a-row, image-size, image-sync, image-word}
+use Rattle.hunting_demands.specs.Standing.{placeInRow, row, streamBits, syncAt, wordAt, streamAt, all-match, passes-there, unlike-fails, lost-fails, InARow, testedInRow, reads-in-a-row, image-size, image-sync, image-word}
 use Rattle.hunting_demands.specs.AsRead as A
 use Rattle.hunting_demands.specs.AsRead.{Multiframes, Stands, shifted-syncs, shifted-stands, damaged-cut}
 use Rattle.hunting_demands.specs.Laid.{laidMultiframe, sync-in, word-in}
@@ -296,10 +296,10 @@ abbrev pub swallowed : List ℕ
 swallowed = H.hurt says1 falseStart (λ k. sync) (λ k. 0) [] 6
 
 flipped-lt : flippedWord < 2 ^ headerBits
-flipped-lt = xor-lt 32 (codeword (sentMessage says1 0)) 1 (codeword-lt (sentMessage says1 0) (message-lt (settings 0 0) 1 0)) (lit< tt)
+flipped-lt = xor-lt headerBits (codeword (sentMessage says1 0)) 1 (codeword-lt (sentMessage says1 0) (message-lt (settings 0 0) 1 0)) (lit< tt)
 
-start-size : length falseStart ≡ 48
-start-size = length-append sync (field 32 flippedWord ++ []) ∙ omega (arith, length-append (field 32 flippedWord) [], length-field 32 flippedWord, sync-size)
+start-size : length falseStart ≡ syncBits + headerBits
+start-size = length-append sync (field headerBits flippedWord ++ []) ∙ omega (arith, length-append (field headerBits flippedWord) [], length-field headerBits flippedWord, sync-size)
 
 start-fits : H.Fits says1 falseStart (λ k. sync) (λ k. 0) [] 6
 start-fits = record { syncs = λ k. sync-size; headers = λ k. lit< tt; around = omega (arith, start-size); few = lit≤ tt }
@@ -312,17 +312,17 @@ abbrev pub other : List Bool
 other = laidMultiframe sync otherWord (stream (lone 1) 0 multiframePairs)
 
 abbrev pub followed : List ℕ
-followed = H.hurt says1 [] (λ k. sync) (λ k. 0) other 144
+followed = H.hurt says1 [] (λ k. sync) (λ k. 0) other multiframeOctets
 
 other-lt : otherWord < 2 ^ headerBits
-other-lt = xor-lt 32 (codeword (sentMessage says1At11 0)) 0 (codeword-lt (sentMessage says1At11 0) (message-lt (settings 1 0) 1 0)) (lit< tt)
+other-lt = xor-lt headerBits (codeword (sentMessage says1At11 0)) 0 (codeword-lt (sentMessage says1At11 0) (message-lt (settings 1 0) 1 0)) (lit< tt)
 
 other-size : length other ≡ multiframeBits
 other-size =
-    length-append sync (field 32 otherWord ++ stream (lone 1) 0 multiframePairs)
-    ∙ omega (arith, length-append (field 32 otherWord) (stream (lone 1) 0 multiframePairs), length-field 32 otherWord, sync-size, length-stream (lone 1) 0 multiframePairs)
+    length-append sync (field headerBits otherWord ++ stream (lone 1) 0 multiframePairs)
+    ∙ omega (arith, length-append (field headerBits otherWord) (stream (lone 1) 0 multiframePairs), length-field headerBits otherWord, sync-size, length-stream (lone 1) 0 multiframePairs)
 
-other-fits : H.Fits says1 [] (λ k. sync) (λ k. 0) other 144
+other-fits : H.Fits says1 [] (λ k. sync) (λ k. 0) other multiframeOctets
 other-fits = record { syncs = λ k. sync-size; headers = λ k. lit< tt; around = omega (arith, other-size); few = lit≤ tt }
 
 other-rate : commonBits (sentMessage says1At11 0) ≡ commonBits (sentMessage says1 0) → ⊥
@@ -459,16 +459,16 @@ module _ (tables : Tables) (index report : List ℕ) where
           }
 
       -- NONE BEFORE: a sync and a header with one flip in front of the image are taken for a multiframe, which swallows the true one: 16
-      pub none-before-needed : Needed NoneBefore says1 swallowed 0 48 least tables index report (Octets Unsettled)
+      pub none-before-needed : Needed NoneBefore says1 swallowed 0 (syncBits + headerBits) least tables index report (Octets Unsettled)
       none-before-needed =
           let f = start-fits in
           let size = H.searched-are says1 falseStart (λ k. sync) (λ k. 0) [] 6 f in
           let e : reading (wordAt (bits swallowed) 0) ≡ Codeword (decodedAs flippedWord (sentMessage says1 0)) =
-          ap (λ (x : List Bool). reading (value x)) (H.front-there says1 falseStart (λ k. sync) (λ k. 0) [] 6 f 16 32 (omega (arith, start-size)))
+          ap (λ (x : List Bool). reading (value x)) (H.front-there says1 falseStart (λ k. sync) (λ k. 0) [] 6 f syncBits headerBits (omega (arith, start-size)))
           ∙ ap reading (word-in sync flippedWord [] sync-size flipped-lt) ∙ mended (sentMessage says1 0) 1 (message-lt (settings 0 0) 1 0) one-few .0 in
           let match : least ≤ matches (syncAt (bits swallowed) 0) sync =
           subst (λ (x : List Bool). least ≤ matches x sync)
-          (sym (H.front-there says1 falseStart (λ k. sync) (λ k. 0) [] 6 f 0 16 (omega (arith, start-size)) ∙ sync-in sync flippedWord [] sync-size)) (sync-enough least high) in
+          (sym (H.front-there says1 falseStart (λ k. sync) (λ k. 0) [] 6 f 0 syncBits (omega (arith, start-size)) ∙ sync-in sync flippedWord [] sync-size)) (sync-enough least high) in
           let taken : passes least (bits swallowed) 0 ≡ true = passes-there least (bits swallowed) 0 match e in
           subst (λ (at : ℕ). Needed NoneBefore says1 swallowed 0 at least tables index report (Octets Unsettled)) start-size
           (record {
@@ -485,17 +485,17 @@ module _ (tables : Tables) (index report : List ℕ) where
       → Needed NoneBehind says1 followed 0 0 least tables index report (Octets Unsettled)
   none-behind-needed least low high lent =
       let f = other-fits in
-      let size = H.searched-are says1 [] (λ k. sync) (λ k. 0) other 144 f in
-      let first = H.mended-there says1 [] (λ k. sync) (λ k. 0) other 144 f 0 (lit< tt) none-few in
+      let size = H.searched-are says1 [] (λ k. sync) (λ k. 0) other multiframeOctets f in
+      let first = H.mended-there says1 [] (λ k. sync) (λ k. 0) other multiframeOctets f 0 (lit< tt) none-few in
       let second : reading (wordAt (bits followed) multiframeBits) ≡ Codeword (decodedAs otherWord (sentMessage says1At11 0)) =
-      ap (λ (x : List Bool). reading (value x)) (H.behind-there says1 [] (λ k. sync) (λ k. 0) other 144 f 1168 32 (lit≤ tt))
+      ap (λ (x : List Bool). reading (value x)) (H.behind-there says1 [] (λ k. sync) (λ k. 0) other multiframeOctets f (multiframeBits + syncBits) headerBits (lit≤ tt))
       ∙ ap reading (word-in sync otherWord (stream (lone 1) 0 multiframePairs) sync-size other-lt) ∙ mended (sentMessage says1At11 0) 0 (message-lt (settings 1 0) 1 0) none-few .0 in
       let match : least ≤ matches (syncAt (bits followed) multiframeBits) sync =
       subst (λ (x : List Bool). least ≤ matches x sync)
-      (sym (H.behind-there says1 [] (λ k. sync) (λ k. 0) other 144 f multiframeBits 16 (lit≤ tt) ∙ sync-in sync otherWord (stream (lone 1) 0 multiframePairs) sync-size)) (sync-enough least high) in
+      (sym (H.behind-there says1 [] (λ k. sync) (λ k. 0) other multiframeOctets f multiframeBits syncBits (lit≤ tt) ∙ sync-in sync otherWord (stream (lone 1) 0 multiframePairs) sync-size)) (sync-enough least high) in
       let taken : passes least (bits followed) multiframeBits ≡ true = passes-there least (bits followed) multiframeBits match second in
       record {
-        others = hurt-others says1 [] (λ k. sync) (λ k. 0) other 144 f 0 least tables index report NoneBehind (λ o. lit≤ tt)
+        others = hurt-others says1 [] (λ k. sync) (λ k. 0) other multiframeOctets f 0 least tables index report NoneBehind (λ o. lit≤ tt)
             (λ o k. sync-enough least high) (λ o k. none-few) (λ o t a h. absurd (omega arith)) (λ o. absurd (o refl)) (λ o. low) (λ o. inr no-ones)
             (λ o. fewer 2 1 (lit≤ tt) tables index report lent);
         fails = λ h. true-false (sym taken ∙ h multiframeBits (lit≤ tt) (omega arith));
@@ -504,7 +504,7 @@ module _ (tables : Tables) (index report : List ℕ) where
               begins = lit≤ tt;
               inside = omega arith;
               stand = both-of (λ (k : ℕ). passes least (bits followed) (placeInRow 0 k) ≡ true)
-                  (H.passes-hurt says1 [] (λ k. sync) (λ k. 0) other 144 f 0 (lit< tt) least (sync-enough least high) none-few) taken;
+                  (H.passes-hurt says1 [] (λ k. sync) (λ k. 0) other multiframeOctets f 0 (lit< tt) least (sync-enough least high) none-few) taken;
               none-before = λ t a h. absurd (omega arith);
               none-behind = λ t a h. absurd (omega arith);
             })
@@ -583,7 +583,7 @@ module _ (u : Utterance) (two : 2 ≤ multiframesOf u) (least : ℕ) (low : fewe
       let lp : length p ≡ packetBits = length-packetOf (u .indices) 0 in
       let lb : length (burstAt u 0) ≡ packetBits = length-flip (flip p 0) 2 ∙ length-flip p 0 ∙ lp in
       let ld : length d ≡ packetBits = length-flip (flip (packetOf (u .indices) 1) 0) distance ∙ length-flip (packetOf (u .indices) 1) 0 ∙ length-packetOf (u .indices) 1 in
-      let size : length (hurtStream u 0) ≡ 1104 = length-append (burstAt u 0) (d ++ r) ∙ omega (arith, length-append d r, length-stream (u .indices) 2 10) in
+      let size : length (hurtStream u 0) ≡ streamBits = length-append (burstAt u 0) (d ++ r) ∙ omega (arith, length-append d r, length-stream (u .indices) 2 10) in
       let first : packetIn img 0 ≡ burstAt u 0 = made-packet (hurtWord u) (hurtStream u) m 0 (omega arith) size ∙ take-at (burstAt u 0) (d ++ r) packetBits lb in
       differs p (burstAt u 0) (inl (flips-burst p 0 2 (lit< tt) (lit< tt) (omega arith)))
       (sym first ∙ e ∙ image-packet (u .settings) (u .indices) m 0 (omega arith))

@@ -12,7 +12,7 @@ use lib.Seq.{drop-append-add}
 use Rattle.lists.specs.Tests.{both, true-false}
 use Rattle.lists.specs.Parts.{part, length-part, part-left}
 use Rattle.lists.specs.Rows.{each-at}
-use Rattle.layout.specs.Layout.{multiframeOctets, reportOctets, headerOctets}
+use Rattle.layout.specs.Layout.{syncOctets, headerOctets, multiframeOctets, reportOctets}
 use Rattle.consistency.specs.Tables.{Tables}
 use Rattle.bits.specs.Bits.{field, value, bits}
 use Rattle.bits.specs.Laws.{length-field, value-field, value-lt, bits-octets}
@@ -28,7 +28,7 @@ use Rattle.carrier.specs.Carrier.{received, pairCount}
 use Rattle.settling.specs.Laws.{note-flips}
 use Rattle.notes.specs.Laws.{length-notes}
 use Rattle.reader.specs.Reading as R
-use Rattle.hunt.specs.Hunt.{sync, matches, readable, passes, multiframeBits}
+use Rattle.hunt.specs.Hunt.{syncBits, headerBits, multiframeBits, sync, matches, readable, passes}
 use Rattle.hunt.specs.Laws.{searched-le}
 use Rattle.gathering.specs.Gathering.{aligned, imageOf}
 use Rattle.gathering.specs.Laws.{Apart, length-aligned}
@@ -43,15 +43,15 @@ use Rattle.demands.specs.WritesAgain as A
 use Rattle.hunting_demands.specs.Standing.{wordAt, streamAt, aligned-framed}
 
 -- the header word of a multiframe at the front of octets
-front-word : (w : ℕ) (x : List Bool) (r : List ℕ) → w < 2 ^ 32 → wordIn (framed w x ++ r) 0 ≡ w
+front-word : (w : ℕ) (x : List Bool) (r : List ℕ) → w < 2 ^ headerBits → wordIn (framed w x ++ r) 0 ≡ w
 front-word w x r h =
-    ap (λ (l : List ℕ). value (bits l)) (part-left (framed w x) r 2 4 (omega (arith, length-framed w x)) ∙ framed-header w x)
-    ∙ ap value (bits-octets headerOctets (field 32 w) (length-field 32 w)) ∙ value-field 32 w ∙ mod-eq-of-lt h
+    ap (λ (l : List ℕ). value (bits l)) (part-left (framed w x) r syncOctets headerOctets (omega (arith, length-framed w x)) ∙ framed-header w x)
+    ∙ ap value (bits-octets headerOctets (field headerBits w) (length-field headerBits w)) ∙ value-field headerBits w ∙ mod-eq-of-lt h
 
 -- a place that passes has a readable header
 passed-readable : (least : ℕ) (l : List Bool) (p : ℕ) → passes least l p ≡ true → readable (reading (wordAt l p)) ≡ true
 unfolding passes
-passed-readable least l p e = by (leb least (matches (part p 16 l) sync)) e
+passed-readable least l p e = by (leb least (matches (part p syncBits l) sync)) e
   where
     by : (t : Bool) → both t (readable (reading (wordAt l p))) ≡ true → readable (reading (wordAt l p)) ≡ true
     by true e = e
@@ -64,15 +64,15 @@ found-readable s least at [] k a h = absurd (omega arith)
 found-readable s least at (p ∷ ps) zero a h =
     let l = bits s in
     let room : p + multiframeBits ≤ length l = omega (arith, a .1, searched-le l) in
-    let head = part (p + 16) 32 l in
-    let size : length head ≡ 32 = length-part l (p + 16) 32 (omega arith) in
+    let head = part (p + syncBits) headerBits l in
+    let size : length head ≡ headerBits = length-part l (p + syncBits) headerBits (omega arith) in
     ap (λ (x : List ℕ). readable (reading (wordIn (x ++ imageOf s ps) 0))) (aligned-framed s p room)
     ∙ ap (λ (w : ℕ). readable (reading w)) (front-word (wordAt l p) (streamAt l p) (imageOf s ps) (subst (λ (n : ℕ). wordAt l p < 2 ^ n) size (value-lt head)))
     ∙ passed-readable least l p (a .2)
 found-readable s least at (p ∷ ps) (suc k) a h =
-    let e : multiframeOctets * suc k + 2 ≡ length (aligned s p) + (multiframeOctets * k + 2) = omega (arith, length-aligned s p) in
+    let e : multiframeOctets * suc k + syncOctets ≡ length (aligned s p) + (multiframeOctets * k + syncOctets) = omega (arith, length-aligned s p) in
     ap (λ (x : List ℕ). readable (reading (value (bits x))))
-    (ap (λ (i : ℕ). part i 4 (aligned s p ++ imageOf s ps)) e ∙ ap (take 4) (drop-append-add (aligned s p) (imageOf s ps) (multiframeOctets * k + 2)))
+    (ap (λ (i : ℕ). part i headerOctets (aligned s p ++ imageOf s ps)) e ∙ ap (take headerOctets) (drop-append-add (aligned s p) (imageOf s ps) (multiframeOctets * k + syncOctets)))
     ∙ found-readable s least (p + multiframeBits) ps k (a .3) (omega arith)
 
 -- a readable header's note is not 3

@@ -12,7 +12,7 @@ use lib.Dec.{leb}
 use borrow.Author.Tests.{eq-eqb, le-leb, lt-leb}
 use Rattle.lists.specs.Tests.{both}
 use Rattle.lists.specs.Parts.{part, length-part}
-use Rattle.layout.specs.Layout.{streamOctets, multiframeOctets, mostMultiframes, codebookNumbers, thresholdNumbers, syncFirst, syncSecond}
+use Rattle.layout.specs.Layout.{headerOctets, streamOctets, multiframeOctets, mostMultiframes, codebookNumbers, thresholdNumbers, syncFirst, syncSecond}
 use Rattle.consistency.specs.Tables.{Tables}
 use Rattle.bits.specs.Bits.{field, fields, value, bits, octets}
 use Rattle.bits.specs.Laws.{field-value, value-lt, bits-octets, octets-append}
@@ -58,8 +58,11 @@ syncAt l p = part p syncBits l
 abbrev pub wordAt : List Bool → ℕ → ℕ
 wordAt l p = value (part (p + syncBits) headerBits l)
 
+abbrev pub streamBits : ℕ
+streamBits = 8 * streamOctets
+
 abbrev pub streamAt : List Bool → ℕ → List Bool
-streamAt l p = part (p + syncBits + headerBits) (8 * streamOctets) l
+streamAt l p = part (p + syncBits + headerBits) streamBits l
 
 pub all-match : matches sync sync ≡ syncBits
 unfolding matches fields field
@@ -187,14 +190,14 @@ pub aligned-framed : (s : List ℕ) (p : ℕ) → p + multiframeBits ≤ length 
 unfolding aligned
 aligned-framed s p room =
     let l = bits s in
-    let head = part (p + 16) 32 l in
-    let size : length head ≡ 32 = length-part l (p + 16) 32 (omega arith) in
-    let parts : part (p + 16) 1136 l ≡ head ++ part (p + 16 + 32) 1104 l =
-    take-add 32 1104 (drop (p + 16) l) ∙ ap (λ (x : List Bool). head ++ take 1104 x) (drop-drop 32 (p + 16) l) in
-    let again : field 32 (value head) ≡ head = subst (λ (n : ℕ). field n (value head) ≡ head) size (field-value head) in
+    let head = part (p + syncBits) headerBits l in
+    let size : length head ≡ headerBits = length-part l (p + syncBits) 32 (omega arith) in
+    let parts : part (p + syncBits) (headerBits + streamBits) l ≡ head ++ part (p + syncBits + headerBits) streamBits l =
+    take-add headerBits streamBits (drop (p + syncBits) l) ∙ ap (λ (x : List Bool). head ++ take streamBits x) (drop-drop headerBits (p + syncBits) l) in
+    let again : field headerBits (value head) ≡ head = subst (λ (n : ℕ). field n (value head) ≡ head) size (field-value head) in
     ap (λ (x : List ℕ). (syncFirst ∷ syncSecond ∷ []) ++ x)
-    (ap (octets 142) parts ∙ octets-append 4 streamOctets head (part (p + 16 + 32) 1104 l) size
-    ∙ ap (λ (x : List Bool). octets 4 x ++ octets streamOctets (part (p + 16 + 32) 1104 l)) (sym again))
+    (ap (octets (headerOctets + streamOctets)) parts ∙ octets-append headerOctets streamOctets head (part (p + syncBits + headerBits) streamBits l) size
+    ∙ ap (λ (x : List Bool). octets headerOctets x ++ octets streamOctets (part (p + syncBits + headerBits) streamBits l)) (sym again))
 
 module _ (s : List ℕ) (at m : ℕ) (inside : at + multiframeBits * m ≤ searched (bits s)) where
   within : at + multiframeBits * m ≤ length (bits s)
@@ -229,11 +232,11 @@ module _ (s : List ℕ) (at m : ℕ) (inside : at + multiframeBits * m ≤ searc
 
     pub image-word : wordIn (imageOf s (row at m)) k ≡ wordAt (bits s) (placeInRow at k)
     image-word =
-        let size : length (part (at + multiframeBits * k + 16) 32 (bits s)) ≡ 32 = length-part (bits s) (at + multiframeBits * k + 16) 32 (omega (arith, within)) in
+        let size : length (part (at + multiframeBits * k + syncBits) headerBits (bits s)) ≡ headerBits = length-part (bits s) (at + multiframeBits * k + syncBits) headerBits (omega (arith, within)) in
         ap (λ (x : List ℕ). wordIn x k) image-made
-        ∙ made-word words streams m k h (subst (λ (n : ℕ). words k < 2 ^ n) size (value-lt (part (at + multiframeBits * k + 16) 32 (bits s))))
+        ∙ made-word words streams m k h (subst (λ (n : ℕ). words k < 2 ^ n) size (value-lt (part (at + multiframeBits * k + syncBits) headerBits (bits s))))
 
     pub image-stream : bits (streamIn (imageOf s (row at m)) k) ≡ streamAt (bits s) (placeInRow at k)
     image-stream =
         ap (λ (x : List ℕ). bits (streamIn x k)) image-made ∙ ap bits (made-stream words streams m k h)
-        ∙ bits-octets streamOctets (streams k) (length-part (bits s) (at + multiframeBits * k + 16 + 32) 1104 (omega (arith, within)))
+        ∙ bits-octets streamOctets (streams k) (length-part (bits s) (at + multiframeBits * k + syncBits + headerBits) streamBits (omega (arith, within)))

@@ -1,5 +1,5 @@
 -- Two stores behind the six of the summary. Assumes nothing.
-use Rattle.entries.specs.Bits.{eight-stored}
+use Rattle.entries.proofs.Stored.{eight-stored}
 use borrow.Author.Needs.{needs}
 use Rattle.entries.proofs.put_counted.Statement.{statement}
 use Rattle.entries.proofs.put_counted.Tie as tie

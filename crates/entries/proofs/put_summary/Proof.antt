@@ -1,6 +1,6 @@
 -- Six stores are one part laid over the front. Assumes nothing.
 use lib.ListN.{length-set}
-use Rattle.entries.specs.Laws.{six-stored}
+use Rattle.entries.proofs.Stored.{six-stored}
 use borrow.Author.Needs.{needs}
 use Rattle.entries.proofs.put_summary.Statement.{statement}
 use Rattle.entries.proofs.put_summary.Tie as tie
