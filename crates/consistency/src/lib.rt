@@ -1,12 +1,13 @@
 // Whether a pair of frames is consistent: how far the quantised values rise from its first frame to its second, against the thresholds.
 use layout::FrameLayout;
+use layout::ReadingLayout;
 ghost use mathlib.Core.Path.{_≡_};
 ghost use Prim.Native.Nat.{_+_, _*_, _<_, _≤_};
 ghost use lib.ListN.{length};
 ghost use Rattle.lists.specs.Parts.{part};
 ghost use Rattle.lists.specs.Lent.{came};
 ghost use Rattle.layout.specs.Layout.{frameIndices, codebookNumbers};
-ghost use Rattle.consistency.specs.Tables.{tablesOf, RightTables};
+ghost use Rattle.consistency.specs.Tables.{tablesOf, RightTables, tablesRight};
 ghost use Rattle.consistency.specs.Lent.{tablesIn};
 ghost use Rattle.consistency.specs.Consistency.{exceeding, at, entryPlace, flagged, inconsistent, InRange};
 
@@ -17,6 +18,16 @@ const ELEMENTS: usize = 2;
 
 // An inconsistent pair has at least so many flagged index pairs.
 const FLAGS: usize = 2;
+
+// are_right says whether the tables have 01's sizes, 1,280 and 14 numbers: both readers' first test.
+pub fn are_right(codebook: &[i32], thresholds: &[i32]) -> bool
+    ensures { λ r. ⌜ r ≡ tablesRight (tablesIn codebook thresholds) ⌝ }
+{
+    if codebook.len() != ReadingLayout::CODEBOOK {
+        return false;
+    }
+    thresholds.len() == ReadingLayout::THRESHOLDS
+}
 
 fn widened(x: i32) -> i64
     ensures { λ r. ⌜ r ≡ x ⌝ }

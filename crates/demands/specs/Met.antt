@@ -17,7 +17,7 @@ use Rattle.polynomials.specs.Light.{ones-in}
 use Rattle.lists.specs.Tests.{true-false}
 use Rattle.lists.specs.Parts.{part, over}
 use Rattle.layout.specs.Layout.{frameIndices, packetBits, multiframePairs, streamOctets, indexOctets, reportOctets, codebookNumbers, thresholdNumbers, firstPair}
-use Rattle.consistency.specs.Tables.{Tables, tablesOf}
+use Rattle.consistency.specs.Tables.{zeroTables}
 use Rattle.settings.specs.Settings.{settings}
 use Rattle.frames.specs.Frames.{zeroFrame}
 use Rattle.carrier.specs.Carrier.{streamPacket}
@@ -47,9 +47,6 @@ use Rattle.demands.specs.WritesAgain as A
 use Rattle.demands.specs.NamesTheDamage as N
 
 -- ---- tables of zeros, and just enough room
-abbrev pub zeroTables : Tables
-zeroTables = tablesOf (replicate codebookNumbers (pos 0)) (replicate thresholdNumbers (pos 0))
-
 abbrev pub indexFor : ℕ → List ℕ
 indexFor m = replicate (indexOctets * m) 0
 

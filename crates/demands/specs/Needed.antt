@@ -29,7 +29,7 @@ use Rattle.polynomials.specs.Xor.{xor-swap}
 use Rattle.lists.specs.Tests.{true-false}
 use Rattle.lists.specs.Rows.{each, joined, length-joined, joined-part}
 use Rattle.layout.specs.Layout.{frameIndices, multiframeFrames, indexOctets, packetBits, multiframePairs, multiframeOctets, mostMultiframes, streamOctets, firstPair, multiframeOf, sync}
-use Rattle.consistency.specs.Tables.{Tables}
+use Rattle.consistency.specs.Tables.{Tables, zeroTables}
 use Rattle.settings.specs.declared.Settings.{Settings}
 use Rattle.settings.specs.Settings.{settings}
 use Rattle.frames.specs.Frames.{zeroFrame}
@@ -59,7 +59,7 @@ use Rattle.writer.specs.declared.Answer.the-variants.{Written}
 use Rattle.demands.specs.Damage.{Damage, loosened, headerFlips, sentMessage, header-near, differs}
 use Rattle.demands.specs.Damages.{damage-made}
 use Rattle.demands.specs.Instances.{lone, small-lone, says1, past-packet}
-use Rattle.demands.specs.Met.{zeroTables, indexFor, reportFor, lent-zeros, hurtWord, hurtStream, hurtImage, hurts}
+use Rattle.demands.specs.Met.{indexFor, reportFor, lent-zeros, hurtWord, hurtStream, hurtImage, hurts}
 use Rattle.demands.specs.Whole.{rowOf, Lent, refuses-16, refuses-20}
 use Rattle.demands.specs.Headers.{enough, settles, touched-unsettles, sentCommon, rate-sent, exp-sent}
 use Rattle.demands.specs.Received.{BadPair, Tells, is-so, not-so, tells-bad}

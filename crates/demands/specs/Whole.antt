@@ -13,7 +13,7 @@ use lib.Seq.{ext-getD, getD-take, getD-drop}
 use Rattle.lists.specs.Parts.{part, over, part-left}
 use Rattle.lists.specs.Rows.{each, same-each}
 use Rattle.layout.specs.Layout.{frameIndices, multiframePairs, multiframeOctets, mostMultiframes, indexOctets, reportOctets, codebookNumbers, thresholdNumbers, pairOf, multiframeOf, firstPair, sync}
-use Rattle.consistency.specs.Tables.{Tables}
+use Rattle.consistency.specs.Tables.{Tables, right-passes}
 use Rattle.bits.specs.Bits.{bits}
 use Rattle.cutting.specs.Cutting.{Cutting, whole, cutting}
 use Rattle.cutting.specs.Laws.{every, every-length, every-at, whole-image}
@@ -150,7 +150,7 @@ module _ (s : List ℕ) (m : ℕ) (few : m ≤ mostMultiframes) (size : length s
       ≡ settledVerdict (length (rowOf m)) (badPairs (receivedNotes s (rowOf m) tables)) (pairCount (rowOf m)) (length index) (length report) (settling (readings s (rowOf m)))
   unfolding verdict wholeVerdict
   settled-next =
-      rw (eq-eqb (length (tables .codebook)) codebookNumbers (lent .codebook-size), eq-eqb (length (tables .thresholds)) thresholdNumbers (lent .thresholds-size))
+      rw (right-passes tables (lent .codebook-size, lent .thresholds-size))
       (subst
       (λ (w : Cutting). endVerdict s tables (length index) (length report) (w .places) (w .ending)
       ≡ settledVerdict (length (rowOf m)) (badPairs (receivedNotes s (rowOf m) tables)) (pairCount (rowOf m)) (length index) (length report) (settling (readings s (rowOf m))))

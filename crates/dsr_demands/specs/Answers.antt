@@ -13,7 +13,7 @@ use Rattle.reader.specs.declared.Answer.the-variants.{Read, Refused}
 use Rattle.writer.specs.Writing as W
 use Rattle.writer.specs.Writing.{firstFrom, roomAnswer, writing}
 use Rattle.entries.specs.Entries.{returning, givenOf, dsrWrite, dsrRead}
-use Rattle.consistency.specs.Tables.{tablesOf}
+use Rattle.consistency.specs.Tables.{tablesOf, tablesRight}
 
 -- 16 kHz, noise robust, 2 multiframes, 30 frames of speech, 4 bad pairs, end
 abbrev pub talk : Outcome
@@ -47,7 +47,7 @@ pub record Table : Type 0 where
   pub wide-index : dsrWrite 0 0 (64 ∷ 0 ∷ 0 ∷ 0 ∷ 0 ∷ 0 ∷ 0 ∷ []) (7 ∷ []) ≡ record { number = 4; output = 7 ∷ []; place = 1 }
 
 pub table : Table
-unfolding returning reading verdict writing W.verdict roomAnswer firstFrom zeroFrame
+unfolding returning reading verdict tablesRight writing W.verdict roomAnswer firstFrom zeroFrame
 table = record {
   six-numbers = refl;
   refused-13 = refl;

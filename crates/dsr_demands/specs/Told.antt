@@ -20,7 +20,7 @@ use Rattle.entries.specs.Entries.{answerNumbers, Returned, dsrRead}
 use Rattle.entries.specs.Bits.{dsrReadBits}
 use Rattle.demands.specs.Damage.{loosened, headerFlips, DamageUpTo}
 use Rattle.demands.specs.Damages.{unharmed}
-use Rattle.demands.specs.Met.{zeroTables, indexFor, reportFor, lent-zeros, says24}
+use Rattle.demands.specs.Met.{indexFor, reportFor, lent-zeros, says24}
 use Rattle.demands.specs.NamesTheDamage as N
 use Rattle.demands.specs.ReadsBack.{spoken}
 use Rattle.promises.specs.Flipped.{flipped, butOne, rateBits}
@@ -38,6 +38,7 @@ use Rattle.dsr_demands.specs.Named.{headerNoteAt, got-is, HearsAll, c-ne
 use Rattle.dsr_demands.specs.OnAir as O
 use Rattle.dsr_demands.specs.Cut.{c-cut-off}
 use Rattle.dsr_demands.specs.Met.{six, eight, roomFor, call-met}
+use Rattle.consistency.specs.Tables.{zeroTables}
 
 -- a reading with tables of zeros and just enough room that succeeds is answered with 0
 answers-0 : (s : List ℕ) (m : ℕ) (g : Summary) → reading s zeroTables (indexFor m) (reportFor m) .answer ≡ Read g

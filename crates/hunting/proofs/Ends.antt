@@ -6,9 +6,8 @@ use mathlib.Core.Bool.{true, false}
 use mathlib.Core.List.{List, [], _∷_}
 use native.Mathlib.Omega.{arith}
 use lib.ListN.{length, take}
-use borrow.Author.Tests.{eq-eqb, ne-eqb}
-use Rattle.layout.specs.Layout.{multiframeOctets, mostMultiframes, codebookNumbers, thresholdNumbers}
-use Rattle.consistency.specs.Tables.{Tables}
+use Rattle.layout.specs.Layout.{multiframeOctets, mostMultiframes}
+use Rattle.consistency.specs.Tables.{Tables, tablesRight}
 use Rattle.bits.specs.Bits.{bits}
 use Rattle.hunt.specs.Hunt.{multiframeBits, inRange, searched}
 use Rattle.reader.specs.Reading as R
@@ -98,20 +97,15 @@ module _ (s : List ℕ) (from least : ℕ) where
           some (p ∷ ps) h = refl
 
     -- ---- the first tests
-    pub wrong-codebook : (length (tables .codebook) ≡ codebookNumbers → ⊥) → outcome (Refused (Octets WrongTables)) index report ≡ huntingReading s from least tables index report
+    pub wrong-tables : tablesRight tables ≡ false → outcome (Refused (Octets WrongTables)) index report ≡ huntingReading s from least tables index report
     unfolding huntingReading
-    wrong-codebook h = rw (ne-eqb (length (tables .codebook)) codebookNumbers h)
+    wrong-tables h = rw h
 
-    module _ (sc : length (tables .codebook) ≡ codebookNumbers) where
-      pub wrong-thresholds : (length (tables .thresholds) ≡ thresholdNumbers → ⊥) → outcome (Refused (Octets WrongTables)) index report ≡ huntingReading s from least tables index report
+    module _ (right : tablesRight tables ≡ true) where
+      pub out-of-range : inRange least ≡ false → outcome (Refused (MatchRange least)) index report ≡ huntingReading s from least tables index report
       unfolding huntingReading
-      wrong-thresholds h = rw (eq-eqb (length (tables .codebook)) codebookNumbers sc, ne-eqb (length (tables .thresholds)) thresholdNumbers h)
+      out-of-range e = rw (right, e)
 
-      module _ (st : length (tables .thresholds) ≡ thresholdNumbers) where
-        pub out-of-range : inRange least ≡ false → outcome (Refused (MatchRange least)) index report ≡ huntingReading s from least tables index report
-        unfolding huntingReading
-        out-of-range e = rw (eq-eqb (length (tables .codebook)) codebookNumbers sc, eq-eqb (length (tables .thresholds)) thresholdNumbers st, e)
-
-        pub in-range : inRange least ≡ true → (o : Outcome) → o ≡ readingFound s from least tables index report → o ≡ huntingReading s from least tables index report
-        unfolding huntingReading
-        in-range e o eo = rw (eq-eqb (length (tables .codebook)) codebookNumbers sc, eq-eqb (length (tables .thresholds)) thresholdNumbers st, e) eo
+      pub in-range : inRange least ≡ true → (o : Outcome) → o ≡ readingFound s from least tables index report → o ≡ huntingReading s from least tables index report
+      unfolding huntingReading
+      in-range e o eo = rw (right, e) eo

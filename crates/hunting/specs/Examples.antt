@@ -5,7 +5,7 @@ use mathlib.Core.List.{List, []}
 use lib.IntN.{ℤ, pos}
 use lib.ListN.{replicate}
 use Rattle.bits.specs.Bits.{fields}
-use Rattle.consistency.specs.Tables.{tablesOf}
+use Rattle.consistency.specs.Tables.{tablesOf, tablesRight}
 use Rattle.hunt.specs.Hunt.{inRange, found, misses}
 use Rattle.refusals.specs.declared.Reading.the-variants as RR
 use Rattle.gathering.specs.Gathering.{gathering}
@@ -44,7 +44,7 @@ pub record Table : Type 0 where
   pub then-22 : huntingReading [] 5 16 (tablesOf book limits) [] [] ≡ outcome (Refused (Nowhere 5 0)) [] []
 
 pub table : Table
-unfolding huntingReading readingFound inRange gathering found misses fields
+unfolding huntingReading tablesRight readingFound inRange gathering found misses fields
 table = record {
   number-11 = refl;
   place-11 = refl;

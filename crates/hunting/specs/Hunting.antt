@@ -3,10 +3,9 @@
 use Prim.Native.Nat.{ℕ}
 use mathlib.Core.List.{List, [], _∷_}
 use lib.ListN.{length}
-use lib.Dec.{eqb}
 use Rattle.lists.specs.Tests.{when}
-use Rattle.layout.specs.Layout.{mostMultiframes, codebookNumbers, thresholdNumbers}
-use Rattle.consistency.specs.Tables.{Tables}
+use Rattle.layout.specs.Layout.{mostMultiframes}
+use Rattle.consistency.specs.Tables.{Tables, tablesRight}
 use Rattle.bits.specs.Bits.{bits}
 use Rattle.hunt.specs.Hunt.{inRange}
 use Rattle.gathering.specs.Gathering.{Ending, whole, tooMany, Gathering, gathering, outsideOf, imageOf}
@@ -55,6 +54,4 @@ module _ (s : List ℕ) (from least : ℕ) (tables : Tables) (index report : Lis
   -- 11 comes first, then 21
   unfoldable pub huntingReading : Outcome
   huntingReading =
-      when (eqb (length (tables .codebook)) codebookNumbers)
-      (when (eqb (length (tables .thresholds)) thresholdNumbers) (when (inRange least) readingFound (refuse (MatchRange least))) (refuse (Octets WrongTables)))
-      (refuse (Octets WrongTables))
+      when (tablesRight tables) (when (inRange least) readingFound (refuse (MatchRange least))) (refuse (Octets WrongTables))

@@ -1,15 +1,13 @@
 -- What the laws of the hunting reading say leaves only one answer: the places, and with them the count, the bits outside and the places tested.
 -- Assumes nothing.
 use Prim.Native.Nat.{ℕ}
-use mathlib.Core.Path.{_≡_, refl, sym, _∙_}
+use mathlib.Core.Path.{_≡_, sym, _∙_}
 use mathlib.Core.List.{List}
-use mathlib.Core.Bool.{Bool, true, false}
+use mathlib.Core.Bool.{false}
 use native.Mathlib.Omega.{arith}
-use lib.Dec.{eqb}
 use lib.ListN.{length}
-use borrow.Author.Tests.{eq-eqb, eqb-true}
 use Rattle.layout.specs.Layout.{mostMultiframes, codebookNumbers, thresholdNumbers}
-use Rattle.consistency.specs.Tables.{Tables, RightTables}
+use Rattle.consistency.specs.Tables.{Tables, RightTables, right-passes, wrong-fails}
 use Rattle.bits.specs.Bits.{bits}
 use Rattle.hunt.specs.Hunt.{inRange}
 use Rattle.refusals.specs.declared.Reading.the-variants as RR
@@ -46,14 +44,9 @@ module _ (s : List ℕ) (from least : ℕ) (tables : Tables) (index report : Lis
   -- 11 COMES FIRST, whatever T is and whatever was received
   pub tables-first : (RightTables tables → ⊥) → result ≡ outcome (Refused (Octets RR.WrongTables)) index report
   unfolding huntingReading
-  tables-first n = by (eqb (length (tables .codebook)) codebookNumbers) (eqb (length (tables .thresholds)) thresholdNumbers) refl refl
-    where
-      by : (a b : Bool) → eqb (length (tables .codebook)) codebookNumbers ≡ a → eqb (length (tables .thresholds)) thresholdNumbers ≡ b → result ≡ outcome (Refused (Octets RR.WrongTables)) index report
-      by false b ea eb = rw ea
-      by true false ea eb = rw (ea, eb)
-      by true true ea eb = absurd (n (eqb-true (length (tables .codebook)) codebookNumbers ea, eqb-true (length (tables .thresholds)) thresholdNumbers eb))
+  tables-first n = rw (wrong-fails tables n)
 
   -- THEN 21, whatever was received
   pub range-next : length (tables .codebook) ≡ codebookNumbers → length (tables .thresholds) ≡ thresholdNumbers → inRange least ≡ false → result ≡ outcome (Refused (MatchRange least)) index report
   unfolding huntingReading
-  range-next sc st e = rw (eq-eqb (length (tables .codebook)) codebookNumbers sc, eq-eqb (length (tables .thresholds)) thresholdNumbers st, e)
+  range-next sc st e = rw (right-passes tables (sc, st), e)

@@ -10,10 +10,10 @@ use native.Mathlib.Omega.{arith}
 use lib.Dec.{eqb, ltb}
 use lib.ListN.{length, getD}
 use lib.Seq.{getD-append-add}
-use borrow.Author.Tests.{eq-eqb, ne-eqb, eqb-true, eqb-false}
+use borrow.Author.Tests.{ne-eqb}
 use Rattle.lists.specs.Tests.{by-test, true-false}
 use Rattle.layout.specs.Layout.{multiframeOctets, mostMultiframes, indexOctets, reportOctets, codebookNumbers, thresholdNumbers, syncFirst, syncSecond}
-use Rattle.consistency.specs.Tables.{Tables, RightTables}
+use Rattle.consistency.specs.Tables.{Tables, tablesRight, RightTables, right-passes, passes-right, fails-wrong}
 use Rattle.bits.specs.Bits.{bits}
 use Rattle.cutting.specs.Cutting.{Cutting, cutting, whole as uncut}
 use Rattle.cutting.specs.Laws.{every, every-length, whole-image}
@@ -98,7 +98,7 @@ module _ (s ps : List ℕ) (some : 0 < length ps) (few : length ps ≤ mostMulti
       ≡ R.finished image tables index report rows (wholeVerdict image tables (length index) (length report) rows)
   unfolding R.reading R.verdict
   decided =
-      rw (eq-eqb (length (tables .codebook)) codebookNumbers sc, eq-eqb (length (tables .thresholds)) thresholdNumbers st)
+      rw (right-passes tables (sc, st))
       (ap (λ (w : Cutting). R.finished image tables index report (w .places) (R.endVerdict image tables (length index) (length report) (w .places) (w .ending)))
       (image-cut s ps few))
 
@@ -170,14 +170,12 @@ module _ (s : List ℕ) (from least : ℕ) (tables : Tables) (index report : Lis
 
   pub fate : Fate
   unfolding huntingReading readingFound
-  fate = by (eqb (length (tables .codebook)) codebookNumbers) (eqb (length (tables .thresholds)) thresholdNumbers) (inRange least) refl refl refl
+  fate = by (tablesRight tables) (inRange least) refl refl
     where
-      by : (a b r : Bool) → eqb (length (tables .codebook)) codebookNumbers ≡ a → eqb (length (tables .thresholds)) thresholdNumbers ≡ b → inRange least ≡ r → Fate
-      by false b r ea eb er = wrongTables (λ h. eqb-false (length (tables .codebook)) codebookNumbers ea (h .0)) (rw ea)
-      by true false r ea eb er = wrongTables (λ h. eqb-false (length (tables .thresholds)) thresholdNumbers eb (h .1)) (rw (ea, eb))
-      by true true false ea eb er = range (eqb-true (length (tables .codebook)) codebookNumbers ea, eqb-true (length (tables .thresholds)) thresholdNumbers eb) er (rw (ea, eb, er))
-      by true true true ea eb er =
-          found-fate (eqb-true (length (tables .codebook)) codebookNumbers ea, eqb-true (length (tables .thresholds)) thresholdNumbers eb) er (rw (ea, eb, er))
+      by : (a r : Bool) → tablesRight tables ≡ a → inRange least ≡ r → Fate
+      by false r ea er = wrongTables (fails-wrong tables ea) (rw ea)
+      by true false ea er = range (passes-right tables ea) er (rw (ea, er))
+      by true true ea er = found-fate (passes-right tables ea) er (rw (ea, er))
 
   -- 22 EXACTLY IF NO PLACE PASSES, where the tables have their lengths and T its range
   pub nowhere-exactly : length (tables .codebook) ≡ codebookNumbers → length (tables .thresholds) ≡ thresholdNumbers → inRange least ≡ true
@@ -186,7 +184,7 @@ module _ (s : List ℕ) (from least : ℕ) (tables : Tables) (index report : Lis
   nowhere-exactly sc st er = (
     λ e. by fate (ap (λ (o : Outcome). o .answer) e),
     λ none.
-        rw (eq-eqb (length (tables .codebook)) codebookNumbers sc, eq-eqb (length (tables .thresholds)) thresholdNumbers st, er)
+        rw (right-passes tables (sc, st), er)
         (ap (λ (g : Gathering). readingBy s from least tables index report (g .places) (g .tested) (g .ending)) (nothing-found (bits s) least 254 from none)),
   )
     where

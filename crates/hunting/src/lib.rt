@@ -1,7 +1,6 @@
 // The hunting reader (02, C-13): the multiframes found at any bit are read as the octet reader reads them.
 use gathering::Gathered;
 use layout::MultiframeLayout;
-use layout::ReadingLayout;
 use layout::UtteranceLayout;
 use reader::Summary;
 use refusals::Hunting;
@@ -108,10 +107,7 @@ pub fn read(
     ensures { λ r. ⌜ outcome r (left index) (left report)
         ≡ huntingReading (came octets) from least (tablesIn codebook thresholds) (came index) (came report) ⌝ }
 {
-    if codebook.len() != ReadingLayout::CODEBOOK {
-        return Answer::Refused(Hunting::Octets(Reading::WrongTables));
-    }
-    if thresholds.len() != ReadingLayout::THRESHOLDS {
+    if !consistency::are_right(codebook, thresholds) {
         return Answer::Refused(Hunting::Octets(Reading::WrongTables));
     }
     if hunt::in_range(least) {

@@ -33,12 +33,13 @@ use Rattle.writer.specs.Laws.{few-multiframes}
 use Rattle.writer.specs.Utterance.{Utterance, multiframesOf, pairsOf, imageOf, is-accepted}
 use Rattle.demands.specs.Damage.{sentMessage}
 use Rattle.demands.specs.Received.{BadPair}
-use Rattle.demands.specs.Met.{zeroTables, zero-consistent, indexFor, reportFor, lent-zeros, hurtWord, hurtStream, hurtImage, length-hurt, part-on, hurts, says24, two-multiframes}
+use Rattle.demands.specs.Met.{zero-consistent, indexFor, reportFor, lent-zeros, hurtWord, hurtStream, hurtImage, length-hurt, part-on, hurts, says24, two-multiframes}
 use Rattle.hunting_demands.specs.Standing.{syncAt, unlike-fails}
 use Rattle.hunting_demands.specs.Laid.{laidMultiframe, laidOctets, Sizes, bits-laid, size-laid, laid-behind, laid-sync, laid-word, laid-stream}
 use Rattle.hunting_demands.specs.HuntsBack.{receivedFlips}
 use Rattle.hunting_demands.specs.Met.{worstSync, worst-matches, threeZeros, manyZeros, earlier, fails-before, zeros-match, zeros-part, two-ones}
 use Rattle.hunting_demands.specs.Radio.{receivedPacket, together, Caught, OnAir, packet-there, Premises}
+use Rattle.consistency.specs.Tables.{zeroTables}
 
 module _ (u : Utterance) where
   abbrev pub aired : List ℕ

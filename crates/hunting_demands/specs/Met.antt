@@ -16,7 +16,7 @@ use Rattle.polynomials.specs.Light.{ones-in}
 use Rattle.lists.specs.Parts.{part, over, part-left, part-right}
 use Rattle.lists.specs.Rows.{joined}
 use Rattle.layout.specs.Layout.{multiframePairs, syncOctets, multiframeOctets, mostMultiframes, indexOctets, reportOctets}
-use Rattle.consistency.specs.Tables.{Tables}
+use Rattle.consistency.specs.Tables.{Tables, zeroTables}
 use Rattle.bits.specs.Bits.{field, fields, bits, octets}
 use Rattle.bits.specs.Laws.{length-bits, bits-part, bits-octets}
 use Rattle.crc.specs.Crc.{flip}
@@ -30,7 +30,7 @@ use Rattle.writer.specs.Laws.{few-multiframes}
 use Rattle.writer.specs.Utterance.{Utterance, multiframesOf, imageOf, is-accepted}
 use Rattle.demands.specs.Whole.{Lent}
 use Rattle.demands.specs.ReadsBack.{spoken, padded}
-use Rattle.demands.specs.Met.{zeroTables, indexFor, reportFor, lent-zeros, says24, two-multiframes}
+use Rattle.demands.specs.Met.{indexFor, reportFor, lent-zeros, says24, two-multiframes}
 use Rattle.hunting_demands.specs.Standing.{testedInRow, syncAt, unlike-fails}
 use Rattle.hunting_demands.specs.HuntsBack.{receivedFlips, Begins, Inside, Syncs, Headers, Streams, NoneBefore, NoneBehind, Low, Settled, TablesAndRoom, same-notes, Premises, hunts-back, Shifted, hunts-shifted}
 use Rattle.hunting_demands.specs.Hurt as H

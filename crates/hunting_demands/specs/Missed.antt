@@ -19,7 +19,7 @@ use Rattle.polynomials.specs.Light.{ones-in}
 use Rattle.lists.specs.Tests.{all-holds}
 use Rattle.lists.specs.Parts.{part, over}
 use Rattle.layout.specs.Layout.{widths, frameIndices, multiframePairs, streamOctets, indexOctets, reportOctets, firstPair}
-use Rattle.consistency.specs.Tables.{Tables}
+use Rattle.consistency.specs.Tables.{Tables, zeroTables}
 use Rattle.settings.specs.Settings.{settings}
 use Rattle.frames.specs.Frames.{zeroFrame}
 use Rattle.bits.specs.Bits.{field, fields, value, laid, numbers, bits, octets}
@@ -56,7 +56,7 @@ use Rattle.writer.specs.declared.Answer.the-variants.{Written}
 use Rattle.demands.specs.Damage.{any-header, headerFlips, header-lost}
 use Rattle.demands.specs.Whole.{Lent, rowOf, readings-are, refuses-16}
 use Rattle.demands.specs.ReadsBack.{spoken, padded, reads-image}
-use Rattle.demands.specs.Met.{zeroTables, indexFor, reportFor, lent-zeros}
+use Rattle.demands.specs.Met.{indexFor, reportFor, lent-zeros}
 use Rattle.promises.specs.Misled as NeverMisled
 use Rattle.promises.specs.Trusted as Trusted
 use Rattle.hunting_demands.specs.Standing.{placeInRow, syncAt, wordAt, streamAt, all-match, passes-there, unlike-fails, lost-fails, InARow, testedInRow}

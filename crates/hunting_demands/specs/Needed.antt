@@ -17,7 +17,7 @@ use Rattle.polynomials.specs.Light.{ones-in}
 use Rattle.lists.specs.Tests.{true-false}
 use Rattle.lists.specs.Rows.{each, joined, length-joined, joined-part}
 use Rattle.layout.specs.Layout.{packetBits, multiframePairs, multiframeOctets, mostMultiframes, indexOctets, reportOctets, codebookNumbers, thresholdNumbers, syncFirst, syncSecond}
-use Rattle.consistency.specs.Tables.{Tables}
+use Rattle.consistency.specs.Tables.{Tables, right-passes, zeroTables}
 use Rattle.settings.specs.Settings.{settings}
 use Rattle.bits.specs.Bits.{field, fields, value, bits}
 use Rattle.bits.specs.Laws.{length-field, length-bits}
@@ -59,7 +59,7 @@ use Rattle.demands.specs.Damage.{Touched, sentMessage, differs}
 use Rattle.demands.specs.Whole.{Lent, rowOf, readings-are, cut-is, pairNoteIn, front-at, refuses-16}
 use Rattle.demands.specs.Headers.{sentCommon, common-sent, rate-sent, exp-sent}
 use Rattle.demands.specs.Instances.{lone, says1}
-use Rattle.demands.specs.Met.{zeroTables, indexFor, reportFor, lent-zeros, distance, burstAt, doubleAt, hurtWord, hurtStream, hurtImage, hurts, names-met, says24, two-multiframes}
+use Rattle.demands.specs.Met.{indexFor, reportFor, lent-zeros, distance, burstAt, doubleAt, hurtWord, hurtStream, hurtImage, hurts, names-met, says24, two-multiframes}
 use Rattle.demands.specs.Needed.{says1At11}
 use Rattle.hunting_demands.specs.Standing.{placeInRow, row, streamBits, syncAt, wordAt, all-match, passes-there, unlike-fails, lost-fails, InARow, testedInRow, reads-in-a-row, image-size, image-sync, image-word}
 use Rattle.hunting_demands.specs.AsRead as A
@@ -155,8 +155,7 @@ module _ (s : List ℕ) (m : ℕ) (some : 0 < m) (few : m ≤ mostMultiframes) (
       let k = every-length 0 m in
       let i : length index < indexOctets * length (rowOf m) = subst (λ (n : ℕ). length index < indexOctets * n) (sym k) short in
       rw (
-        eq-eqb (length (tables .codebook)) codebookNumbers codebook-size,
-        eq-eqb (length (tables .thresholds)) thresholdNumbers thresholds-size,
+        right-passes tables (codebook-size, thresholds-size),
         cut-is s m few size syncs,
         ne-eqb (length (rowOf m)) 0 (λ z. omega arith),
         e,
@@ -356,7 +355,7 @@ module _ (tables : Tables) (index report : List ℕ) where
   low-needed lent = record {
     others = clean-others 0 11 (lit≤ tt) Low (λ other. lit≤ tt) (λ other. absurd (other refl)) (λ other. lent);
     fails = λ h. omega arith;
-    instead = rw (eq-eqb (length (tables .codebook)) codebookNumbers (lent .codebook-size), eq-eqb (length (tables .thresholds)) thresholdNumbers (lent .thresholds-size));
+    instead = rw (right-passes tables (lent .codebook-size, lent .thresholds-size));
   }
 
   module _ (least : ℕ) (low : fewestMatches ≤ least) (high : least ≤ syncBits) where

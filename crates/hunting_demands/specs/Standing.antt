@@ -9,11 +9,11 @@ use native.Mathlib.Omega.{arith}
 use lib.ListN.{length, take, drop}
 use lib.Seq.{drop-drop, take-add}
 use lib.Dec.{leb}
-use borrow.Author.Tests.{eq-eqb, le-leb, lt-leb}
+use borrow.Author.Tests.{le-leb, lt-leb}
 use Rattle.lists.specs.Tests.{both}
 use Rattle.lists.specs.Parts.{part, length-part}
 use Rattle.layout.specs.Layout.{headerOctets, streamOctets, multiframeOctets, mostMultiframes, codebookNumbers, thresholdNumbers, syncFirst, syncSecond}
-use Rattle.consistency.specs.Tables.{Tables}
+use Rattle.consistency.specs.Tables.{Tables, right-passes}
 use Rattle.bits.specs.Bits.{field, fields, value, bits, octets}
 use Rattle.bits.specs.Laws.{field-value, value-lt, bits-octets, octets-append}
 use Rattle.header.specs.Reading.{reading}
@@ -171,7 +171,7 @@ module _ (s : List ℕ) (from least : ℕ) (tables : Tables) (index report : Lis
       → huntingReading s from least tables index report ≡ readingBy s from least tables index report ps n e
   unfolding huntingReading readingFound
   found-next ps e n g =
-      rw (eq-eqb (length (tables .codebook)) codebookNumbers codebook-size, eq-eqb (length (tables .thresholds)) thresholdNumbers thresholds-size, in-range least low high, g)
+      rw (right-passes tables (codebook-size, thresholds-size), in-range least low high, g)
 
   -- READ IN A ROW: what is put together is read as 01 says, with the bits outside and the places tested
   pub reads-in-a-row : (at m : ℕ) → InARow (bits s) from at least m → 0 < m → m ≤ mostMultiframes

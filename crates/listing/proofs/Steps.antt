@@ -6,7 +6,7 @@ use Prim.Native.Nat.{ℕ, _*_, _≤_}
 use native.Mathlib.Omega.{arith}
 use lib.ListN.{length, replicate, length-replicate}
 use Rattle.lists.specs.Rows.{joined}
-use Rattle.consistency.specs.Tables.{Tables}
+use Rattle.consistency.specs.Tables.{Tables, zeroTables}
 use Rattle.layout.specs.Layout.{mostMultiframes, indexOctets, reportOctets}
 use Rattle.refusals.specs.declared.Reading.{Reading}
 use Rattle.cutting.specs.Cutting.{cutting}
@@ -20,7 +20,7 @@ use Rattle.reader.specs.declared.Answer.the-variants.{Read, Refused}
 use Rattle.text.specs.Text.{Put}
 use Rattle.text.proofs.Steps.{put-on}
 use Rattle.lines.specs.Lines.{lineOf, total, refusal}
-use Rattle.listing.specs.Listing.{listed, zeroTables, readingOf, listing}
+use Rattle.listing.specs.Listing.{listed, readingOf, listing}
 
 module _ (octets : List ℕ) (tables : Tables) (index report : List ℕ) where
   -- a reading that succeeds has room in the report for each of its multiframes

@@ -12,7 +12,8 @@ use Rattle.reader.specs.Reading.{Outcome, outcome, wholeVerdict}
 use Rattle.reader.specs.Steps.{whole-reading}
 use Rattle.reader.specs.declared.Answer.the-variants.{Refused}
 use Rattle.lines.specs.Examples.{empty-refused}
-use Rattle.listing.specs.Listing.{listed, zeroTables, listing}
+use Rattle.listing.specs.Listing.{listed, listing}
+use Rattle.consistency.specs.Tables.{zeroTables, right-passes}
 
 -- "refused 14 0"
 pub empty-listed : listing [] ≡ 114 ∷ 101 ∷ 102 ∷ 117 ∷ 115 ∷ 101 ∷ 100 ∷ 32 ∷ 49 ∷ 52 ∷ 32 ∷ 48 ∷ 10 ∷ []
@@ -21,6 +22,6 @@ empty-listed =
     let index : List ℕ = replicate (indexOctets * mostMultiframes) 0 in
     let report : List ℕ = replicate (reportOctets * mostMultiframes) 0 in
     ap (λ (o : Outcome). listed (o .report) (o .answer))
-    (sym (whole-reading [] zeroTables index report (length-replicate {A = ℤ} codebookNumbers (pos 0)) (length-replicate {A = ℤ} thresholdNumbers (pos 0))
+    (sym (whole-reading [] zeroTables index report (right-passes zeroTables (length-replicate {A = ℤ} codebookNumbers (pos 0), length-replicate {A = ℤ} thresholdNumbers (pos 0)))
     (outcome (Refused (Empty 0)) index report) [] refl refl refl))
     ∙ empty-refused

@@ -3,10 +3,9 @@
 use Prim.Native.Nat.{ℕ, _+_, _*_}
 use mathlib.Core.List.{List, _++_}
 use lib.ListN.{replicate}
-use lib.IntN.{ℤ, pos}
 use Rattle.lists.specs.Rows.{joined}
-use Rattle.layout.specs.Layout.{mostMultiframes, indexOctets, reportOctets, codebookNumbers, thresholdNumbers}
-use Rattle.consistency.specs.Tables.{Tables, tablesOf}
+use Rattle.layout.specs.Layout.{mostMultiframes, indexOctets, reportOctets}
+use Rattle.consistency.specs.Tables.{zeroTables}
 use Rattle.reader.specs.Reading.{Outcome, reading}
 use Rattle.reader.specs.declared.Answer.{Answer}
 use Rattle.reader.specs.declared.Answer.the-variants.{Read, Refused}
@@ -17,11 +16,7 @@ abbrev pub listed : List ℕ → Answer → List ℕ
 listed report (Read s) = joined (lineOf report) (s .multiframes) ++ total s
 listed report (Refused r) = refusal r
 
--- all codebook numbers and thresholds 0
-abbrev pub zeroTables : Tables
-zeroTables = tablesOf (replicate codebookNumbers (pos 0)) (replicate thresholdNumbers (pos 0))
-
--- the reading that is listed: with these tables, and room for every utterance
+-- the reading that is listed: with tables of zeros, and room for every utterance
 abbrev pub readingOf : List ℕ → Outcome
 readingOf octets = reading octets zeroTables (replicate (indexOctets * mostMultiframes) 0) (replicate (reportOctets * mostMultiframes) 0)
 

@@ -14,7 +14,7 @@ use Rattle.lists.specs.Tests.{all, all-holds}
 use Rattle.lists.specs.Parts.{part}
 use Rattle.lists.specs.Rows.{joined}
 use Rattle.layout.specs.Layout.{widths, streamOctets, firstPair, multiframePairs}
-use Rattle.consistency.specs.Tables.{Tables, tablesOf}
+use Rattle.consistency.specs.Tables.{Tables, tablesOf, zeroTables}
 use Rattle.settings.specs.Settings.{settings}
 use Rattle.frames.specs.Frames.{zeroFrame as isZeroFrame}
 use Rattle.bits.specs.Bits.{numbers, value, laid, field, fields, bits, octets}
@@ -38,7 +38,6 @@ use Rattle.reader.specs.declared.Answer.the-variants.{Read}
 use Rattle.demands.specs.Examples.{header8}
 use Rattle.demands.specs.Examples as E
 use Rattle.demands.specs.Instances.{says1}
-use Rattle.demands.specs.Met.{zeroTables}
 use Rattle.demands.specs.ReadsBack.{reads-image}
 use Rattle.page.specs.Headers.{same-octets, multiframe-is}
 use Rattle.page.specs.Headers as H

@@ -16,7 +16,7 @@ use Rattle.lists.specs.Tests.{when}
 use Rattle.lists.specs.Parts.{part, over}
 use Rattle.lists.specs.Rows.{joined, each, each-at, same-each}
 use Rattle.layout.specs.Layout.{indexOctets, reportOctets, firstPair, multiframePairs}
-use Rattle.consistency.specs.Tables.{Tables, tablesOf}
+use Rattle.consistency.specs.Tables.{Tables, tablesOf, zeroTables}
 use Rattle.settings.specs.Settings.{settings}
 use Rattle.frames.specs.Frames.{zeroFrame}
 use Rattle.bits.specs.Bits.{value, numbers, field, fields, total}
@@ -46,7 +46,7 @@ use Rattle.reader.specs.ReadingLaws.{Usable, Fitting, Accepted, accepting}
 use Rattle.reader.specs.declared.Verdict.{Verdict}
 use Rattle.reader.specs.declared.Answer.the-variants.{Read}
 use Rattle.demands.specs.Examples as E
-use Rattle.demands.specs.Met.{zeroTables, zero-consistent}
+use Rattle.demands.specs.Met.{zero-consistent}
 use Rattle.demands.specs.ReadsBack.{zeros}
 use Rattle.page.specs.Headers.{word-of, ReadsAs, clean, flips}
 use Rattle.page.specs.Headers as Headers

@@ -16,7 +16,7 @@ use Rattle.polynomials.specs.Light.{ones-in}
 use Rattle.lists.specs.Parts.{part}
 use Rattle.lists.specs.Rows.{joined, each, length-each, each-at, same-each, length-joined, joined-part}
 use Rattle.layout.specs.Layout.{multiframeOctets, mostMultiframes, indexOctets, reportOctets, syncFirst, syncSecond}
-use Rattle.consistency.specs.Tables.{Tables}
+use Rattle.consistency.specs.Tables.{Tables, right-passes, wrong-fails}
 use Rattle.settings.specs.Settings.{settings}
 use Rattle.frames.specs.Frames.{zeroFrame}
 use Rattle.bits.specs.Bits.{value, bits, field, fields}
@@ -41,7 +41,7 @@ use Rattle.notes.specs.Notes.{pairFails, pairNotes, pairInconsistent}
 use Rattle.bad_pairs.specs.BadPairs.{noteBy, notes, badPairs}
 use Rattle.reader.specs.Reading.{answerNumber, answerValues, roomVerdict, settledVerdict, wholeVerdict, Outcome, outcome, finished, reading, receivedNotes}
 use Rattle.reader.specs.ReadingLaws.{Usable}
-use Rattle.reader.specs.Steps.{wrong-codebook, wrong-thresholds, not-cut, whole-reading}
+use Rattle.reader.specs.Steps.{wrong-tables, not-cut, whole-reading}
 use Rattle.refusals.specs.Refusals.{readingNumber, readingPlace}
 use Rattle.refusals.specs.declared.Reading.{Reading as Refusal}
 use Rattle.refusals.specs.declared.Reading.the-variants.{WrongTables, Empty, Unsettled, Unfit, IndexShort, ReportShort, AllBad}
@@ -222,11 +222,11 @@ sized a i r tables sc st index report li lr = a tables sc st index report
 module _ (s : List ℕ) where
   no-codebook : (c t : ℕ) → (c ≡ 1280 → ⊥) → Tabled s c t 11 0
   no-codebook c t h tables sc st index report =
-      refuses s tables index report WrongTables (sym (wrong-codebook s tables index report (λ e. h (sym sc ∙ e))))
+      refuses s tables index report WrongTables (sym (wrong-tables s tables index report (wrong-fails tables (λ r. h (sym sc ∙ r .0)))))
 
   no-thresholds : (t : ℕ) → (t ≡ 14 → ⊥) → Tabled s 1280 t 11 0
   no-thresholds t h tables sc st index report =
-      refuses s tables index report WrongTables (sym (wrong-thresholds s tables index report sc (λ e. h (sym st ∙ e))))
+      refuses s tables index report WrongTables (sym (wrong-tables s tables index report (wrong-fails tables (λ r. h (sym st ∙ r .1)))))
 
 -- ---- 12, 13 and 15: as cutting ends
 abbrev Cut : List ℕ → Ending → Type 0
@@ -236,7 +236,7 @@ Cut s (refused r) = Always s (readingNumber r) (readingPlace r)
 is-cut : (s : List ℕ) (e : Ending) → cutting s .ending ≡ e → Cut s e
 is-cut s whole h = tt
 is-cut s (refused r) h = λ tables sc st index report.
-    refuses s tables index report r (sym (not-cut s tables index report sc st r h))
+    refuses s tables index report r (sym (not-cut s tables index report (right-passes tables (sc, st)) r h))
 
 -- ---- 14 and 16 to 20, of octets that are cut into multiframes at places
 module _ (s ps : List ℕ) (cut : cutting s ≡ record { places = ps; ending = whole }) where
@@ -244,7 +244,7 @@ module _ (s ps : List ℕ) (cut : cutting s ≡ record { places = ps; ending = w
   unfolding wholeVerdict
   is-14 z tables sc st index report =
       refuses s tables index report (Empty (length s))
-      (sym (whole-reading s tables index report sc st (outcome (Refused (Empty (length s))) index report) ps
+      (sym (whole-reading s tables index report (right-passes tables (sc, st)) (outcome (Refused (Empty (length s))) index report) ps
       (ap (λ (w : Cutting). w .ending) cut) (sym (ap (λ (w : Cutting). w .places) cut)) (rw (eq-eqb (length ps) 0 z))))
 
   module _ (some : length ps ≡ 0 → ⊥) (x : Settlement) (settles : settling (readings s ps) ≡ x) where
@@ -255,7 +255,7 @@ module _ (s ps : List ℕ) (cut : cutting s ≡ record { places = ps; ending = w
         (settledVerdict (length ps) (badPairs (receivedNotes s ps tables)) (pairCount ps) (length index) (length report) x)
     unfolding wholeVerdict
     next tables sc st index report =
-        sym (whole-reading s tables index report sc st
+        sym (whole-reading s tables index report (right-passes tables (sc, st))
         (finished s tables index report ps (settledVerdict (length ps) (badPairs (receivedNotes s ps tables)) (pairCount ps) (length index) (length report) x)) ps
         (ap (λ (w : Cutting). w .ending) cut) (sym (ap (λ (w : Cutting). w .places) cut)) (rw (ne-eqb (length ps) 0 some, settles)))
 

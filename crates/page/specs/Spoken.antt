@@ -35,10 +35,11 @@ use Rattle.writer.specs.Utterance.{Utterance, multiframesOf, pairsOf, imageOf, 
 use Rattle.writer.specs.declared.Answer.the-variants.{Written}
 use Rattle.demands.specs.Damage.{headerFlips, Touched, sentMessage, differs, header-near}
 use Rattle.demands.specs.Received.{BadPair, Count, count-once, count-one, count-none}
-use Rattle.demands.specs.Met.{zeroTables, indexFor, reportFor, burstAt, doubleAt, distance, hurtWord, hurtStream, hurtImage, length-hurt, part-0, part-1, part-on, zero-consistent, small-ones, reads-back-met, names-met}
+use Rattle.demands.specs.Met.{indexFor, reportFor, burstAt, doubleAt, distance, hurtWord, hurtStream, hurtImage, length-hurt, part-0, part-1, part-on, zero-consistent, small-ones, reads-back-met, names-met}
 use Rattle.demands.specs.Whole.{headerNoteIn, pairNoteIn}
 use Rattle.demands.specs.ReadsBack as R
 use Rattle.demands.specs.NamesTheDamage as N
+use Rattle.consistency.specs.Tables.{zeroTables}
 
 -- n frames of ones
 abbrev pub ones : ℕ → List ℕ

@@ -7,9 +7,8 @@ use Prim.Native.Nat.{ℕ, zero, suc, _+_, _*_, _≤_, _<_}
 use native.Mathlib.Omega.{arith}
 use lib.ListN.{length, take, drop, getD, length-append, length-drop, take-append-drop, List·getD-append}
 use lib.Seq.{length-take-le, drop-at, getD-take, ext-getD}
-use borrow.Author.Tests.{eq-eqb}
-use Rattle.layout.specs.Layout.{multiframeOctets, syncOctets, mostMultiframes, codebookNumbers, thresholdNumbers, syncFirst, syncSecond, inverseFirst, inverseSecond}
-use Rattle.consistency.specs.Tables.{Tables, RightTables}
+use Rattle.layout.specs.Layout.{multiframeOctets, syncOctets, mostMultiframes, syncFirst, syncSecond, inverseFirst, inverseSecond}
+use Rattle.consistency.specs.Tables.{Tables, RightTables, right-passes}
 use Rattle.cutting.specs.declared.Piece.{Piece}
 use Rattle.cutting.specs.declared.Piece.the-variants.{End, Multiframe, Inverse, Unknown, CutShort, TooMany}
 use Rattle.cutting.specs.Cutting.{pieceOf, whole, refused, Cutting, prepend, step, walk, cutting}
@@ -152,7 +151,7 @@ module _ (s : List ℕ) (tables : Tables) (index report : List ℕ) (sized : Rig
   -- with the tables right, cutting decides
   cutting-decides : verdict s tables (length index) (length report) ≡ endVerdict s tables (length index) (length report) (cutting s .places) (cutting s .ending)
   unfolding verdict
-  cutting-decides = rw (eq-eqb (length (tables .codebook)) codebookNumbers (sized .0), eq-eqb (length (tables .thresholds)) thresholdNumbers (sized .1))
+  cutting-decides = rw (right-passes tables sized)
 
   -- what cutting refuses is refused, with its number and place
   pub cut-refuses : (x : Refusal) → cutting s .ending ≡ refused x → Refuses (reading s tables index report) index report (readingNumber x) (readingPlace x)

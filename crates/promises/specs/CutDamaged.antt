@@ -11,7 +11,7 @@ use lib.ListN.{length, take, drop, getD}
 use Rattle.lists.specs.Tests.{true-false, not-false, when}
 use Rattle.lists.specs.Parts.{part, over}
 use Rattle.layout.specs.Layout.{dataBits, multiframePairs, multiframeFrames, multiframeOctets, indexOctets, reportOctets, frameIndices}
-use Rattle.consistency.specs.Tables.{Tables}
+use Rattle.consistency.specs.Tables.{Tables, zeroTables}
 use Rattle.frames.specs.Frames.{zeroFrame, allZero}
 use Rattle.crc.specs.Crc.{right}
 use Rattle.packet.specs.Packet.{packetOf}
@@ -32,7 +32,7 @@ use Rattle.writer.specs.Utterance.{Utterance, multiframesOf, pairsOf, imageOf}
 use Rattle.demands.specs.Damage.{Damage, Fate, whole, hit, fate, not-touched}
 use Rattle.demands.specs.Whole.{rowOf, pairNoteIn, pair-note-is}
 use Rattle.demands.specs.Headers.{sentCommon}
-use Rattle.demands.specs.Met.{zeroTables, indexFor, reportFor, lent-zeros, zero-consistent}
+use Rattle.demands.specs.Met.{indexFor, reportFor, lent-zeros, zero-consistent}
 use Rattle.demands.specs.WritesAgain as A
 use Rattle.promises.specs.First as F
 use Rattle.promises.specs.Said.{ones24, gap24, zero-22}

@@ -17,7 +17,7 @@ use lib.Seq.{length-take-le, take-all, take-add, ext-getD, getD-take, getD-drop}
 use Rattle.lists.specs.Parts.{part, over, length-part}
 use Rattle.lists.specs.Rows.{each-at, same-joined}
 use Rattle.layout.specs.Layout.{frameIndices, dataBits, multiframeFrames, multiframePairs, multiframeOctets, mostMultiframes, indexOctets, reportOctets, firstPair, sync, syncFirst, syncSecond}
-use Rattle.consistency.specs.Tables.{Tables, RightTables}
+use Rattle.consistency.specs.Tables.{Tables, RightTables, zeroTables}
 use Rattle.settings.specs.declared.Settings.{Settings}
 use Rattle.settings.specs.Settings.{settings}
 use Rattle.frames.specs.Frames.{zeroFrame}
@@ -51,7 +51,7 @@ use Rattle.demands.specs.Damage.{Damage, headerFlips, header-near}
 use Rattle.demands.specs.Damages.{unharmed}
 use Rattle.demands.specs.Whole.{rowOf, Lent, nothing-replaced}
 use Rattle.demands.specs.Headers.{sentCommon, common-sent, settings-sent}
-use Rattle.demands.specs.Met.{zeroTables, indexFor, reportFor, lent-zeros}
+use Rattle.demands.specs.Met.{indexFor, reportFor, lent-zeros}
 use Rattle.demands.specs.ReadsBack.{spoken, reads-image, zeros, zero-rows, none-bad}
 use Rattle.demands.specs.WritesAgain as A
 use Rattle.promises.specs.Chunks.{multiframeCount, refused-behind, Chunked, chunked, Refuses, cut-refuses}

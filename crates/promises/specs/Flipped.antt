@@ -20,7 +20,7 @@ use Rattle.lists.specs.Tests.{when, by-test, true-false}
 use Rattle.lists.specs.Parts.{over}
 use Rattle.lists.specs.Rows.{each, length-each, each-at, joined, length-joined, joined-part, same-joined}
 use Rattle.layout.specs.Layout.{frameIndices, dataBits, packetBits, multiframePairs, streamOctets, indexOctets, reportOctets, multiframeOf, firstPair, firstFrame, secondFrame}
-use Rattle.consistency.specs.Tables.{Tables}
+use Rattle.consistency.specs.Tables.{Tables, zeroTables}
 use Rattle.settings.specs.Settings.{settings, settingsRight}
 use Rattle.crc.specs.Crc.{right, flip, Damaged}
 use Rattle.crc.specs.Damage.{length-flip, flip-burst}
@@ -60,7 +60,7 @@ use Rattle.demands.specs.Whole.{rowOf, Lent, pairNoteIn, packet-at, readings-ar
 use Rattle.demands.specs.Headers.{sentCommon, common-sent, rate-sent, exp-sent}
 use Rattle.demands.specs.Received.{ByRule, BadPair}
 use Rattle.demands.specs.NamesTheDamage as N
-use Rattle.demands.specs.Met.{zeroTables, indexFor, reportFor, zero-consistent}
+use Rattle.demands.specs.Met.{indexFor, reportFor, zero-consistent}
 
 -- ---- how many bits these numbers flip
 pub none-flipped : ones 0 ≡ 0

@@ -9,7 +9,7 @@ use lib.ListN.{length, take, drop, getD, replicate, length-append, length-drop, 
 use lib.Seq.{take-at, drop-length, drop-drop, getD-take}
 use Rattle.lists.specs.Parts.{part, part-right, length-part}
 use Rattle.layout.specs.Layout.{multiframeOctets, syncOctets, headerOctets, streamOctets, mostMultiframes, sync, syncFirst, syncSecond, inverseFirst, inverseSecond}
-use Rattle.consistency.specs.Tables.{Tables, RightTables}
+use Rattle.consistency.specs.Tables.{Tables, RightTables, zeroTables}
 use Rattle.cutting.specs.declared.Piece.the-variants.{CutShort, TooMany}
 use Rattle.cutting.specs.Cutting.{pieceOf, Cutting, whole, cutting}
 use Rattle.cutting.specs.Laws.{one-too-many, lone-sync, every-length, Chunk, multiframe, inverse, octetsOf, placesOf, Proper, cut-chunks, places-placed}
@@ -24,7 +24,7 @@ use Rattle.writer.specs.Laws.{few-multiframes}
 use Rattle.writer.specs.Utterance.{Utterance, multiframesOf, imageOf, is-accepted}
 use Rattle.demands.specs.Damage.{Damage}
 use Rattle.demands.specs.Whole.{rowOf, cut-is}
-use Rattle.demands.specs.Met.{zeroTables, indexFor, reportFor, lent-zeros, hurtImage, hurts, says24, two-multiframes, names-says24}
+use Rattle.demands.specs.Met.{indexFor, reportFor, lent-zeros, hurtImage, hurts, says24, two-multiframes, names-says24}
 use Rattle.demands.specs.NamesTheDamage as N
 use Rattle.promises.specs.Same.{same-read}
 use Rattle.promises.specs.First as F

@@ -17,7 +17,7 @@ use Rattle.lists.specs.Tests.{when, by-test}
 use Rattle.lists.specs.Parts.{over}
 use Rattle.lists.specs.Rows.{same-joined}
 use Rattle.layout.specs.Layout.{widths, frameIndices, dataBits, packetBits, multiframePairs, indexOctets, reportOctets, firstFrame, secondFrame, firstPair}
-use Rattle.consistency.specs.Tables.{Tables}
+use Rattle.consistency.specs.Tables.{Tables, zeroTables}
 use Rattle.settings.specs.declared.Settings.{Settings}
 use Rattle.settings.specs.Settings.{settings}
 use Rattle.frames.specs.Frames.{zeroFrame}
@@ -53,7 +53,7 @@ use Rattle.demands.specs.NamesTheDamage as N
 use Rattle.demands.specs.Whole.{rowOf, Lent, front-at, headerNoteIn, pairNoteIn, header-note-is}
 use Rattle.demands.specs.ToldApart.{Near}
 use Rattle.demands.specs.Instances.{says1}
-use Rattle.demands.specs.Met.{zeroTables, indexFor, reportFor, lent-zeros, distance, small-ones, says24, two-multiframes}
+use Rattle.demands.specs.Met.{indexFor, reportFor, lent-zeros, distance, small-ones, says24, two-multiframes}
 use Rattle.promises.specs.Misled as M
 use Rattle.promises.specs.Trusted as T
 use Rattle.promises.specs.Heard as S

@@ -5,14 +5,13 @@ use mathlib.Core.Bool.{Bool, not}
 use mathlib.Core.List.{List, _∷_}
 use Prim.Native.Nat.{ℕ, _+_, _*_, _/_, _≤_, _<_}
 use native.Mathlib.Omega.{arith}
-use lib.Dec.{eqb}
 use lib.ListN.{length, take, drop, getD}
 use borrow.Author.Tests.{ne-eqb}
 use Rattle.lists.specs.Tests.{when}
 use Rattle.lists.specs.Parts.{part, over}
 use Rattle.lists.specs.Rows.{each, joined, same-each, same-joined}
-use Rattle.layout.specs.Layout.{widths, frameIndices, dataBits, multiframePairs, streamOctets, multiframeOctets, indexOctets, reportOctets, codebookNumbers, thresholdNumbers, firstPair}
-use Rattle.consistency.specs.Tables.{Tables}
+use Rattle.layout.specs.Layout.{widths, frameIndices, dataBits, multiframePairs, streamOctets, multiframeOctets, indexOctets, reportOctets, firstPair}
+use Rattle.consistency.specs.Tables.{Tables, tablesRight}
 use Rattle.bits.specs.Bits.{value, bits}
 use Rattle.crc.specs.Crc.{right}
 use Rattle.packet.specs.Packet.{apart}
@@ -109,7 +108,7 @@ module _ (o₁ p₁ o₂ p₂ : List ℕ) (count : length p₁ ≡ length p₂)
 
       -- the verdict, if the tables have their sizes
       abbrev tabled : Verdict → Verdict
-      tabled v = when (eqb (length (tables .codebook)) codebookNumbers) (when (eqb (length (tables .thresholds)) thresholdNumbers) v (Refuse WrongTables)) (Refuse WrongTables)
+      tabled v = when (tablesRight tables) v (Refuse WrongTables)
 
       -- if these are what cutting finds, and there is one, the whole outcome is the same
       pub same-read : cutting o₁ ≡ record { places = p₁; ending = whole } → cutting o₂ ≡ record { places = p₂; ending = whole } → 0 < length p₁

@@ -8,8 +8,8 @@ use lib.Dec.{ltb, eqb}
 use Rattle.lists.specs.Tests.{when}
 use Rattle.lists.specs.Parts.{part, over}
 use Rattle.lists.specs.Rows.{joined}
-use Rattle.layout.specs.Layout.{multiframePairs, indexOctets, reportOctets, codebookNumbers, thresholdNumbers, firstPair}
-use Rattle.consistency.specs.Tables.{Tables}
+use Rattle.layout.specs.Layout.{multiframePairs, indexOctets, reportOctets, firstPair}
+use Rattle.consistency.specs.Tables.{Tables, tablesRight}
 use Rattle.refusals.specs.Refusals.{success, readingNumber, readingPlace}
 use Rattle.refusals.specs.declared.Reading.the-variants.{WrongTables, Empty, Unsettled, Unfit, IndexShort, ReportShort, AllBad}
 use Rattle.cutting.specs.Cutting.{Ending, whole, refused, cutting}
@@ -96,10 +96,7 @@ module _ (octets : List ℕ) (tables : Tables) (index report : ℕ) where
 
   -- 11: codebook not 1,280 or thresholds not 14. It comes first
   unfoldable pub verdict : Verdict
-  verdict =
-      when (eqb (length (tables .codebook)) codebookNumbers)
-      (when (eqb (length (tables .thresholds)) thresholdNumbers) (endVerdict (cutting octets .places) (cutting octets .ending)) (Refuse WrongTables))
-      (Refuse WrongTables)
+  verdict = when (tablesRight tables) (endVerdict (cutting octets .places) (cutting octets .ending)) (Refuse WrongTables)
 
 -- ---- the answer and both buffers
 pub record Outcome : Type 0 where

@@ -12,7 +12,7 @@ use Rattle.lists.specs.Tests.{when, by-test}
 use Rattle.lists.specs.Parts.{part, over, length-part}
 use Rattle.lists.specs.Rows.{length-joined, joined-part}
 use Rattle.layout.specs.Layout.{multiframePairs, firstPair, indexOctets, reportOctets, codebookNumbers, thresholdNumbers}
-use Rattle.consistency.specs.Tables.{Tables}
+use Rattle.consistency.specs.Tables.{Tables, tablesRight, RightTables, right-passes, passes-right}
 use Rattle.cutting.specs.Cutting.{Ending, whole, refused, cutting}
 use Rattle.header.specs.Message.{rateOf, expOf}
 use Rattle.header.specs.declared.Header.the-variants.{Lost}
@@ -125,18 +125,15 @@ module _ (octets : List ℕ) (tables : Tables) (index report : ℕ) where
   accepted-by : AcceptedBy (verdict octets tables index report)
   unfolding verdict
   accepted-by =
-      by-test AcceptedBy (eqb (length (tables .codebook)) codebookNumbers) (λ hc.
-      by-test AcceptedBy (eqb (length (tables .thresholds)) thresholdNumbers) (λ ht.
-      ended (cutting octets .ending) refl (eqb-true (length (tables .codebook)) codebookNumbers hc) (eqb-true (length (tables .thresholds)) thresholdNumbers ht)) (λ h. tt)) (λ h. tt)
+      by-test AcceptedBy (tablesRight tables) (λ h. ended (cutting octets .ending) refl (passes-right tables h)) (λ h. tt)
     where
-      fit : (v : Verdict) → length (tables .codebook) ≡ codebookNumbers → length (tables .thresholds) ≡ thresholdNumbers → cutting octets .ending ≡ whole → WholeSays places v → AcceptedBy v
-      fit (Refuse r) a b e h = tt
-      fit (Accept c) a b e h = record { codebook-size = a; thresholds-size = b; uncut = e; some = h .0; fitting = h .1 }
+      fit : (v : Verdict) → RightTables tables → cutting octets .ending ≡ whole → WholeSays places v → AcceptedBy v
+      fit (Refuse r) t e h = tt
+      fit (Accept c) t e h = record { codebook-size = t .0; thresholds-size = t .1; uncut = e; some = h .0; fitting = h .1 }
 
-      ended : (e : Ending) → cutting octets .ending ≡ e → length (tables .codebook) ≡ codebookNumbers → length (tables .thresholds) ≡ thresholdNumbers
-          → AcceptedBy (endVerdict octets tables index report places e)
-      ended (refused r) e a b = tt
-      ended whole e a b = fit (wholeVerdict octets tables index report places) a b e (whole-says places)
+      ended : (e : Ending) → cutting octets .ending ≡ e → RightTables tables → AcceptedBy (endVerdict octets tables index report places e)
+      ended (refused r) e t = tt
+      ended whole e t = fit (wholeVerdict octets tables index report places) t e (whole-says places)
 
   -- what acceptance says
   pub accepted : (c : ℕ) → verdict octets tables index report ≡ Accept c → Accepted c
@@ -148,8 +145,7 @@ module _ (octets : List ℕ) (tables : Tables) (index report : ℕ) where
   accepting c a =
       let f = a .fitting in
       rw (
-        eq-eqb (length (tables .codebook)) codebookNumbers (a .codebook-size),
-        eq-eqb (length (tables .thresholds)) thresholdNumbers (a .thresholds-size),
+        right-passes tables (a .codebook-size, a .thresholds-size),
         a .uncut,
         ne-eqb (length places) 0 (a .some),
         f .settles,
@@ -193,20 +189,17 @@ module _ (octets : List ℕ) (tables : Tables) (index report : List ℕ) where
 
   -- a reading by its parts: 11, what cutting refuses, else the reading of the multiframes found
   pub in-order : reading octets tables index report
-      ≡ when (eqb (length (tables .codebook)) codebookNumbers)
-      (when (eqb (length (tables .thresholds)) thresholdNumbers) (endReading octets tables index report (cutting octets .places) (cutting octets .ending)) (outcome (Refused WrongTables) index report))
-      (outcome (Refused WrongTables) index report)
+      ≡ when (tablesRight tables) (endReading octets tables index report (cutting octets .places) (cutting octets .ending)) (outcome (Refused WrongTables) index report)
   unfolding reading verdict
-  in-order = by (eqb (length (tables .codebook)) codebookNumbers) (eqb (length (tables .thresholds)) thresholdNumbers) (cutting octets .ending)
+  in-order = by (tablesRight tables) (cutting octets .ending)
     where
-      by : (s t : Bool) (e : Ending)
+      by : (t : Bool) (e : Ending)
           → finished octets tables index report (cutting octets .places)
-          (when s (when t (endVerdict octets tables (length index) (length report) (cutting octets .places) e) (Refuse WrongTables)) (Refuse WrongTables))
-          ≡ when s (when t (endReading octets tables index report (cutting octets .places) e) (outcome (Refused WrongTables) index report)) (outcome (Refused WrongTables) index report)
-      by false t e = refl
-      by true false e = refl
-      by true true whole = refl
-      by true true (refused r) = refl
+          (when t (endVerdict octets tables (length index) (length report) (cutting octets .places) e) (Refuse WrongTables))
+          ≡ when t (endReading octets tables index report (cutting octets .places) e) (outcome (Refused WrongTables) index report)
+      by false e = refl
+      by true whole = refl
+      by true (refused r) = refl
 
 -- ---- the sizes of what a reading holds
 module _ (octets places ns : List ℕ) where

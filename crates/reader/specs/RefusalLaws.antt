@@ -11,8 +11,8 @@ use lib.ListN.{length}
 use lib.Dec.{ltb, eqb}
 use borrow.Author.Tests.{eq-eqb, ne-eqb, lt-ltb, le-ltb, ltb-true, ltb-false, eqb-true, eqb-false}
 use Rattle.lists.specs.Tests.{by-test}
-use Rattle.layout.specs.Layout.{indexOctets, reportOctets, codebookNumbers, thresholdNumbers}
-use Rattle.consistency.specs.Tables.{Tables, RightTables}
+use Rattle.layout.specs.Layout.{indexOctets, reportOctets}
+use Rattle.consistency.specs.Tables.{Tables, tablesRight, RightTables, right-passes, passes-right, wrong-fails, fails-wrong}
 use Rattle.refusals.specs.declared.Reading.{Reading as Refusal}
 use Rattle.refusals.specs.declared.Reading.the-variants.{WrongTables, Unknown, CutShort, Empty, TooMany, Unsettled, Unfit, IndexShort, ReportShort, AllBad}
 use Rattle.cutting.specs.Cutting.{Ending, whole, refused, cutting}
@@ -83,14 +83,11 @@ module _ (octets : List ℕ) (tables : Tables) (index report : ℕ) where
   -- ---- the conditions lead to the refusals
   pub refuses-tables : (RightTables tables → ⊥) → verdict octets tables index report ≡ Refuse WrongTables
   unfolding verdict
-  refuses-tables h =
-      by-test (λ (v : Verdict). v ≡ Refuse WrongTables) (eqb (length (tables .codebook)) codebookNumbers) (λ a.
-      by-test (λ (v : Verdict). v ≡ Refuse WrongTables) (eqb (length (tables .thresholds)) thresholdNumbers)
-      (λ b. absurd (h (eqb-true (length (tables .codebook)) codebookNumbers a, eqb-true (length (tables .thresholds)) thresholdNumbers b))) (λ b. refl)) (λ a. refl)
+  refuses-tables h = rw (wrong-fails tables h)
 
   ends : RightTables tables → (e : Ending) → cutting octets .ending ≡ e → verdict octets tables index report ≡ endVerdict octets tables index report places e
   unfolding verdict
-  ends t e w = rw (eq-eqb (length (tables .codebook)) codebookNumbers (t .0), eq-eqb (length (tables .thresholds)) thresholdNumbers (t .1), w)
+  ends t e w = rw (right-passes tables t, w)
 
   -- 12, 13 and 15
   pub refuses-cut : RightTables tables → (r : Refusal) → cutting octets .ending ≡ refused r → verdict octets tables index report ≡ Refuse r
@@ -196,11 +193,7 @@ module _ (octets : List ℕ) (tables : Tables) (index report : ℕ) where
 
   shows : Shows (verdict octets tables index report)
   unfolding verdict
-  shows =
-      by-test Shows (eqb (length (tables .codebook)) codebookNumbers) (λ a.
-      by-test Shows (eqb (length (tables .thresholds)) thresholdNumbers)
-      (λ b. shows-end (eqb-true (length (tables .codebook)) codebookNumbers a, eqb-true (length (tables .thresholds)) thresholdNumbers b) (cutting octets .ending) refl)
-      (λ b. λ t. eqb-false (length (tables .thresholds)) thresholdNumbers b (t .1))) (λ a. λ t. eqb-false (length (tables .codebook)) codebookNumbers a (t .0))
+  shows = by-test Shows (tablesRight tables) (λ a. shows-end (passes-right tables a) (cutting octets .ending) refl) (fails-wrong tables)
 
   pub decided-exactly : (r : Refusal) → (verdict octets tables index report ≡ Refuse r) ↔ Given r
   decided-exactly r = (λ e. subst Shows e shows, given-refused r)

@@ -8,12 +8,12 @@ use lib.Dec.{ltb, eqb}
 use Rattle.lists.specs.Tests.{when}
 use Rattle.lists.specs.Parts.{part}
 use Rattle.lists.specs.Rows.{joined}
-use Rattle.layout.specs.Layout.{multiframePairs, mostMultiframes, indexOctets, reportOctets, codebookNumbers, thresholdNumbers, firstPair}
-use Rattle.consistency.specs.Tables.{Tables}
+use Rattle.layout.specs.Layout.{multiframePairs, mostMultiframes, indexOctets, reportOctets, firstPair}
+use Rattle.consistency.specs.Tables.{Tables, tablesRight}
 use Rattle.header.specs.Message.{rateOf, expOf}
 use Rattle.settling.specs.Settling.{headerNote}
 use Rattle.settling.specs.Stored.{opened}
-use borrow.Author.Tests.{eq-eqb, ne-eqb}
+use mathlib.Core.Bool.{true, false}
 use Rattle.cutting.specs.Cutting.{whole, refused, cutting}
 use Rattle.reader.specs.Reading.{verdict, Outcome, outcome, readingFound, reading}
 use Rattle.refusals.specs.declared.Reading.the-variants.{WrongTables, Unfit, IndexShort, ReportShort}
@@ -50,23 +50,16 @@ sections headers ns c n = joined (section headers ns c) n
 
 -- ---- the first tests of a reading
 module _ (octets : List ℕ) (tables : Tables) (index report : List ℕ) where
-  pub wrong-codebook : (length (tables .codebook) ≡ codebookNumbers → ⊥) → outcome (Refused WrongTables) index report ≡ reading octets tables index report
+  pub wrong-tables : tablesRight tables ≡ false → outcome (Refused WrongTables) index report ≡ reading octets tables index report
   unfolding reading verdict
-  wrong-codebook h = rw (ne-eqb (length (tables .codebook)) codebookNumbers h)
+  wrong-tables h = rw h
 
-  module _ (sc : length (tables .codebook) ≡ codebookNumbers) where
-    pub wrong-thresholds : (length (tables .thresholds) ≡ thresholdNumbers → ⊥) → outcome (Refused WrongTables) index report ≡ reading octets tables index report
+  module _ (right : tablesRight tables ≡ true) where
+    pub not-cut : (r : Refusal) → cutting octets .ending ≡ refused r → outcome (Refused r) index report ≡ reading octets tables index report
     unfolding reading verdict
-    wrong-thresholds h = rw (eq-eqb (length (tables .codebook)) codebookNumbers sc, ne-eqb (length (tables .thresholds)) thresholdNumbers h)
+    not-cut r e = rw (right, e)
 
-    module _ (st : length (tables .thresholds) ≡ thresholdNumbers) where
-      pub not-cut : (r : Refusal) → cutting octets .ending ≡ refused r → outcome (Refused r) index report ≡ reading octets tables index report
-      unfolding reading verdict
-      not-cut r e = rw (eq-eqb (length (tables .codebook)) codebookNumbers sc, eq-eqb (length (tables .thresholds)) thresholdNumbers st, e)
-
-      pub whole-reading : (o : Outcome) (places : List ℕ) → cutting octets .ending ≡ whole → places ≡ cutting octets .places
-          → o ≡ readingFound octets tables index report places → o ≡ reading octets tables index report
-      unfolding reading verdict
-      whole-reading o places e ep eo =
-          rw (eq-eqb (length (tables .codebook)) codebookNumbers sc, eq-eqb (length (tables .thresholds)) thresholdNumbers st, e)
-          (eo ∙ ap (λ (ps : List ℕ). readingFound octets tables index report ps) ep)
+    pub whole-reading : (o : Outcome) (places : List ℕ) → cutting octets .ending ≡ whole → places ≡ cutting octets .places
+        → o ≡ readingFound octets tables index report places → o ≡ reading octets tables index report
+    unfolding reading verdict
+    whole-reading o places e ep eo = rw (right, e) (eo ∙ ap (λ (ps : List ℕ). readingFound octets tables index report ps) ep)

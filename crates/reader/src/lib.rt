@@ -247,10 +247,7 @@ pub fn read(
     ensures values { λ r. ⌜ answerValues r
         ≡ answerValues (reading (came octets) (tablesIn codebook thresholds) (came index) (came report) .answer) ⌝ }
 {
-    if codebook.len() != ReadingLayout::CODEBOOK {
-        return Answer::Refused(Reading::WrongTables);
-    }
-    if thresholds.len() != ReadingLayout::THRESHOLDS {
+    if !consistency::are_right(codebook, thresholds) {
         return Answer::Refused(Reading::WrongTables);
     }
     let mut places = [0usize; MULTIFRAMES];

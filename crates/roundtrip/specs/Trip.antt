@@ -9,7 +9,7 @@ use lib.ListN.{length, take, drop, replicate}
 use lib.Seq.{take-at}
 use Rattle.lists.specs.Parts.{over, length-over}
 use Rattle.layout.specs.Layout.{indexOctets, reportOctets, codebookNumbers}
-use Rattle.consistency.specs.Tables.{Tables, tablesOf}
+use Rattle.consistency.specs.Tables.{Tables, tablesOf, zeroTables, wrong-fails}
 use Rattle.settings.specs.declared.Settings.{Settings}
 use Rattle.settings.specs.Settings.{settings}
 use Rattle.writer.specs.Writing as W
@@ -25,7 +25,7 @@ use Rattle.refusals.specs.declared.Writing as WR
 use Rattle.refusals.specs.declared.Writing.the-variants.{WrongSettings}
 use Rattle.reader.specs.Reading.{Outcome, outcome, reading}
 use Rattle.reader.specs.ReadingLaws.{refusal-keeps}
-use Rattle.reader.specs.Steps.{wrong-codebook}
+use Rattle.reader.specs.Steps as S
 use Rattle.reader.specs.declared.Summary.{Summary}
 use Rattle.reader.specs.declared.Answer as RA
 use Rattle.reader.specs.declared.Answer.the-variants as R
@@ -34,7 +34,7 @@ use Rattle.refusals.specs.declared.Reading.the-variants.{WrongTables}
 use Rattle.demands.specs.Whole.{Lent}
 use Rattle.demands.specs.ReadsBack.{reads-image}
 use Rattle.demands.specs.Instances.{lone, says1}
-use Rattle.demands.specs.Met.{zeroTables, indexFor, reportFor}
+use Rattle.demands.specs.Met.{indexFor, reportFor}
 use Rattle.roundtrip.specs.declared.Trip.{Trip}
 use Rattle.roundtrip.specs.declared.Trip.the-variants.{NotWritten, NotRead, Back}
 
@@ -245,7 +245,7 @@ wrong-tables u tables out index report room wrong =
     as-written (u .settings) (u .indices) tables out index report (needed (u .indices))
     (accepts (u .settings) (u .indices) (length out) (a .sizes) (a .narrow-indices) (a .speaks) room)
     ∙ ap (λ (q : Outcome). made (tripOf (q .answer)) (imaged (u .settings) (u .indices) (needed (u .indices)) out) (q .index) (q .report))
-    (sym (wrong-codebook (imageOf u) tables index report wrong))
+    (sym (S.wrong-tables (imageOf u) tables index report (wrong-fails tables (λ r. wrong (r .0)))))
 
 -- so is 01's frame 1 with no codebook at all: its 144 octets stand in the output, and the octet beyond is as it came
 pub unread-1 : trip (settings 0 0) (lone 1) (tablesOf [] (zeroTables .thresholds)) (replicate 145 255) (indexFor 1) (reportFor 1)

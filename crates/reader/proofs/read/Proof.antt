@@ -3,15 +3,17 @@ use Prim.Native.Nat.{ℕ, _≤_}
 use mathlib.Core.Path.{_≡_, sym, ap, _∙_, subst}
 use mathlib.Core.List.{List}
 use native.Mathlib.Omega.{arith}
+use mathlib.Core.Bool.{true}
 use lib.ListN.{length, take, replicate}
+use Rattle.lists.specs.Tests.{not-false, not-true}
 use Rattle.cutting.specs.Cutting.{whole, cutting}
 use Rattle.cutting.specs.Laws.{Placed, places-placed, at-most-255}
-use Rattle.reader.specs.Steps.{wrong-codebook, wrong-thresholds, not-cut, whole-reading}
+use Rattle.reader.specs.Steps.{wrong-tables, not-cut, whole-reading}
 use Rattle.reader.proofs.Steps.{cut-whole, cut-refused, front-places, in-numbers}
 use borrow.Author.Needs.{needs}
 use Rattle.reader.proofs.read.Statement.{statement}
 use Rattle.reader.proofs.read.Tie as tie
-use Rattle.consistency.specs.Tables.{tablesOf}
+use Rattle.consistency.specs.Tables.{tablesOf, tablesRight, passes-right}
 
 -- cutting met nothing that it refuses, and counted the places
 counted : (c : tie.After-count)
@@ -28,19 +30,19 @@ lent c =
     let u = c .before .before .before in
     front-places (cutting (u .before .before .before .before .before .before .before .args .octets .now) .places) (replicate 255 0) (u .cut-into .last .1 .0) (c .count .given .0 .0) (u .cut-into .ensures .1) (counted c .1)
 
+-- past the first test the tables are right
+right : (i : tie.Else1) → tablesRight (tablesOf (i .before .before .before .before .before .args .codebook .now) (i .before .before .before .before .before .args .thresholds .now)) ≡ true
+right i = sym (i .before .are-right .ensures) ∙ not-false _ (i .if1 .left)
+
+are-right-requires : tie.Need-are-right-requires
+are-right-requires c κs = search needs
+
 returns : tie.Need-returns
 returns c =
-    let st = c .before .before .before .before in
-    let a = st .args in
+    let q = c .before in
+    let a = q .before .before .before .before .args in
     in-numbers (a .octets .now) (tablesOf (a .codebook .now) (a .thresholds .now)) (a .index .now) (a .report .now)
-    (wrong-codebook (a .octets .now) (tablesOf (a .codebook .now) (a .thresholds .now)) (a .index .now) (a .report .now) (c .if1 .taken))
-
-returns-2 : tie.Need-returns-2
-returns-2 c =
-    let st = c .before .before .before .before .before in
-    let a = st .args in
-    in-numbers (a .octets .now) (tablesOf (a .codebook .now) (a .thresholds .now)) (a .index .now) (a .report .now)
-    (wrong-thresholds (a .octets .now) (tablesOf (a .codebook .now) (a .thresholds .now)) (a .index .now) (a .report .now) (c .before .if1 .left) (c .if2 .taken))
+    (wrong-tables (a .octets .now) (tablesOf (a .codebook .now) (a .thresholds .now)) (a .index .now) (a .report .now) (sym (q .are-right .ensures) ∙ not-true _ (c .if1 .taken)))
 
 slice-aggregate-cut-into : tie.Need-slice-aggregate-cut-into
 slice-aggregate-cut-into c = search needs
@@ -70,7 +72,7 @@ read-found-requires c κs =
     let i = k .before .before .before .before .before in
     let st = i .before .before .before .before .before in
     let a = st .args in
-    ((subst (Placed (a .octets .now)) (sym (lent k)) (places-placed (a .octets .now)), subst (λ (l : List ℕ). length l ≤ 255) (sym (lent k)) (at-most-255 (a .octets .now))), (i .before .if1 .left, i .if2 .left))
+    ((subst (Placed (a .octets .now)) (sym (lent k)) (places-placed (a .octets .now)), subst (λ (l : List ℕ). length l ≤ 255) (sym (lent k)) (at-most-255 (a .octets .now))), passes-right _ (right i))
 
 enum-known-r : tie.Need-enum-known-r
 enum-known-r c = search needs
@@ -81,33 +83,33 @@ same-length c = search needs
 same-length-2 : tie.Need-same-length-2
 same-length-2 c = search needs
 
-returns-3 : tie.Need-returns-3
-returns-3 c =
+returns-2 : tie.Need-returns-2
+returns-2 c =
     let w = c .before .before .before .before in
     let k = w .before .before .before .before .before in
     let i = k .before .before .before .before .before in
     let st = i .before .before .before .before .before in
     let a = st .args in
     in-numbers (a .octets .now) (tablesOf (a .codebook .now) (a .thresholds .now)) (a .index .now) (a .report .now)
-    (whole-reading (a .octets .now) (tablesOf (a .codebook .now) (a .thresholds .now)) (a .index .now) (a .report .now) (i .before .if1 .left) (i .if2 .left) _ _ (counted k .0) (lent k) (w .read-found .ensures))
+    (whole-reading (a .octets .now) (tablesOf (a .codebook .now) (a .thresholds .now)) (a .index .now) (a .report .now) (right i) _ _ (counted k .0) (lent k) (w .read-found .ensures))
 
-returns-4 : tie.Need-returns-4
-returns-4 c =
+returns-3 : tie.Need-returns-3
+returns-3 c =
     let n = c .before in
     let u = n .before .before .before in
     let i = u .before .before in
     let st = i .before .before .before .before .before in
     let a = st .args in
     in-numbers (a .octets .now) (tablesOf (a .codebook .now) (a .thresholds .now)) (a .index .now) (a .report .now)
-    (not-cut (a .octets .now) (tablesOf (a .codebook .now) (a .thresholds .now)) (a .index .now) (a .report .now) (i .before .if1 .left) (i .if2 .left) _
+    (not-cut (a .octets .now) (tablesOf (a .codebook .now) (a .thresholds .now)) (a .index .now) (a .report .now) (right i) _
     (cut-refused (cutting (a .octets .now)) _ (sym (u .cut-into .ensures .0) ∙ n .r .given .1)))
 
 pub read-spec : {M : Type 1} → statement M
 read-spec =
     tie.close
     (tie.spec
+    are-right-requires
     returns
-    returns-2
     slice-aggregate-cut-into
     cut-into-requires
     enum-known-count
@@ -117,5 +119,5 @@ read-spec =
     enum-known-r
     same-length
     same-length-2
-    returns-3
-    returns-4)
+    returns-2
+    returns-3)
