@@ -4,7 +4,6 @@
 use mathlib.Core.Path.{_≡_, sym, ap, _∙_, subst}
 use mathlib.Core.Bool.{Bool}
 use mathlib.Core.List.{List, [], _∷_}
-use mathlib.Core.Logic.{inr}
 use Prim.Native.Nat.{ℕ, _+_, _*_, _-_, _/_, _%_, _≤_, _<_}
 use native.Mathlib.Omega.{arith}
 use lib.Count.{ones}
@@ -30,7 +29,7 @@ use Rattle.promises.specs.Said.{ones24}
 use Rattle.promises.specs.CutOff.{first-of-24}
 use Rattle.hunting_demands.specs.Met as HM
 use Rattle.hunting_demands.specs.Met.{two-ones}
-use Rattle.hunting_demands.specs.HuntsBack.{shifted-carried, no-flips}
+use Rattle.hunting_demands.specs.HuntsBack.{shifted-hold}
 use Rattle.hunting_demands.specs.Aired.{aired, aired-on-air, names-aired-24}
 use Rattle.dsr_demands.specs.Linked.{c-link-names}
 use Rattle.dsr_demands.specs.Called.{octetsOf, countOf, called, octets-are}
@@ -116,9 +115,8 @@ air-told =
 pub air-back : (u : Utterance) → O.HearsAll u (HM.shiftedOctets u) 0 3 fewestMatches zeroTables (indexFor (multiframesOf u)) (reportFor (multiframesOf u)) eight 0
 air-back u =
     let m = multiframesOf u in
-    let c = shifted-carried u (HM.shiftedOctets u) 0 fewestMatches HM.threeZeros HM.fiveZeros (HM.shifted-met u fewestMatches (lit≤ tt)) (lit≤ tt) in
     O.c-hunts-back u (HM.shiftedOctets u) 0 3 fewestMatches zeroTables (indexFor m) (reportFor m) eight 0
-    (record { carried = c; low = lit≤ tt; settled = inr (no-flips u (HM.shiftedOctets u) 0 fewestMatches HM.threeZeros HM.fiveZeros (HM.shifted-met u fewestMatches (lit≤ tt)) 0 (omega arith)); lent = lent-zeros m }) (lit≤ tt) .0
+    (shifted-hold u (HM.shiftedOctets u) 0 fewestMatches HM.threeZeros HM.fiveZeros (HM.shifted-met u fewestMatches (lit≤ tt)) zeroTables (indexFor m) (reportFor m) (lit≤ tt) (lit≤ tt) (lent-zeros m)) (lit≤ tt) .0
 
 -- IF IT IS READ: three multiframes, the second header lost, two packets damaged: the notes are told
 pub read-told : Tells P.says48 (P.allHurt P.says48) zeroTables

@@ -1,7 +1,7 @@
 -- The entries' ends as facts over lists: each refusal leaves all as it came. Assumes nothing.
 use mathlib.Core.Path.{_≡_, refl, sym, ap, ap₂, _∙_}
 use mathlib.Core.Bool.{Bool, true, false}
-use mathlib.Core.List.{List, [], _∷_}
+use mathlib.Core.List.{List}
 use Prim.Native.Nat.{ℕ, _≤_, _<_}
 use native.Mathlib.Omega.{arith}
 use lib.Dec.{ltb}
@@ -20,8 +20,8 @@ use Rattle.notes.specs.Notes.{allFrames, crcNotes}
 use Rattle.notes.specs.Laws.{over-all}
 use Rattle.reader.specs.Reading.{Outcome, outcome}
 use Rattle.reader.specs.declared.Answer.{Answer}
-use Rattle.writer.specs.Writing.{Search, at, nowhere, firstWide, verdict, writing}
-use Rattle.entries.specs.Entries.{Packing, packed, narrowPacking, packing, Unpacking, unpacked, unpacking, Told, numbers, refusal, Given, given, returned, answered, returning, toldOf, givenOf, writeReturned, dsrWrite}
+use Rattle.writer.specs.Writing.{at, nowhere, firstWide, verdict, writing}
+use Rattle.entries.specs.Entries.{packed, narrowPacking, packing, unpacked, unpacking, Told, numbers, refusal, Given, given, returned, answered, returning, toldOf, givenOf, writeReturned, dsrWrite}
 
 -- ---- packing
 module _ (idx s : List ℕ) where

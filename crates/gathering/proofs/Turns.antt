@@ -18,7 +18,6 @@ use Rattle.refusals.specs.declared.Hunt.{Hunt as Refusal}
 use Rattle.refusals.specs.declared.Hunt.the-variants as HR
 use Rattle.gathering.specs.Gathering.{Ending, whole, tooMany, Gathering, ended, prepend, step, last, gathering, aligned, imageOf, answeredBy, answered, LaidBy, Laid}
 use Rattle.gathering.specs.Laws.{length-aligned, image-more}
-use Rattle.gathering.specs.declared.Gathered.{Gathered}
 use Rattle.gathering.specs.declared.Gathered.the-variants as G
 
 -- ---- the recursion, by what the hunt answers

@@ -41,57 +41,71 @@ use Rattle.hunting_demands.specs.AsRead.{Multiframes, Stands, shifted-sy
 abbrev pub receivedFlips : Utterance → List ℕ → ℕ → ℕ → ℕ
 receivedFlips u s at k = ones (bitXor (wordAt (bits s) (placeInRow at k)) (wordIn (imageOf u) k))
 
+-- the premises of reading back, by name
+pub data Premise : Type 0 where
+  Begins Inside Syncs Headers Streams NoneBefore NoneBehind Low Settled TablesAndRoom : Premise
+
 -- a written image standing at bit `at` of octets searched from bit `from` on, where a sync must match in `least` bits
-pub record Carried (u : Utterance) (s : List ℕ) (from at least : ℕ) : Type 0 where
-  pub begins : from ≤ at
-  pub inside : at + multiframeBits * multiframesOf u ≤ searched (bits s)
-  -- "at least T of the 16 bits match the sync"
-  pub syncs : (k : ℕ) → k < multiframesOf u → least ≤ matches (syncAt (bits s) (placeInRow at k)) sync
-  -- at most two flips in each header
-  pub headers : (k : ℕ) → k < multiframesOf u → receivedFlips u s at k ≤ 2
-  -- and the streams as they were written
-  pub streams : (k : ℕ) → k < multiframesOf u → streamAt (bits s) (placeInRow at k) ≡ bits (streamIn (imageOf u) k)
-  -- no match that could be taken instead, before it or behind
-  pub none-before : (t : ℕ) → from ≤ t → t < at → passes least (bits s) t ≡ false
-  pub none-behind : (t : ℕ) → at + multiframeBits * multiframesOf u ≤ t → t + multiframeBits ≤ searched (bits s) → passes least (bits s) t ≡ false
-
-module _ (u : Utterance) (s : List ℕ) (from at least : ℕ) (c : Carried u s from at least) where
-  abbrev m : ℕ
-  m = multiframesOf u
-
-  -- the multiframes found, put together
-  abbrev got : List ℕ
-  got = foundImage s (row at m)
-
-  flips-are : (k : ℕ) → k < m → headerFlips (imageOf u) got k ≡ receivedFlips u s at k
-  flips-are k h = ap (λ (w : ℕ). ones (bitXor w (wordIn (imageOf u) k))) (image-word s at m (c .inside) k h)
-
-  packets-kept : (q : ℕ) → q < pairsOf u → packetIn got q ≡ packetIn (imageOf u) q
-  packets-kept q h =
-      let k : q / multiframePairs < m = omega arith in
-      ap (λ (l : List Bool). streamPacket l q) (image-stream s at m (c .inside) (q / multiframePairs) k ∙ c .streams (q / multiframePairs) k)
-
-  -- they are the image with damaged headers
-  pub damage : Damage m (imageOf u) got
-  damage = record {
-    size = image-size s at m (c .inside) ∙ sym (length-image (u .settings) (u .indices) m);
-    small = image-small s at m (c .inside);
-    syncs = λ k h. image-sync s at m (c .inside) k h ∙ sym (I.image-sync (u .settings) (u .indices) m k h);
-    headers = λ k h. subst (λ (n : ℕ). n ≤ 2) (sym (flips-are k h)) (c .headers k h);
-    packets = λ q h. inl (packets-kept q h);
-  }
-
-  -- and each passes the test
-  stands : (k : ℕ) → k < m → passes least (bits s) (placeInRow at k) ≡ true
-  stands k h =
-      passes-there least (bits s) (placeInRow at k) (c .syncs k h)
-      (ap reading (sym (image-word s at m (c .inside) k h)) ∙ header-read u got k h (damage .headers k h))
-
-  pub in-a-row : InARow (bits s) from at least m
-  in-a-row = record { begins = c .begins; inside = c .inside; stand = stands; none-before = c .none-before; none-behind = c .none-behind }
-
--- ---- the theorem
 module _ (u : Utterance) (s : List ℕ) (from at least : ℕ) (tables : Tables) (index report : List ℕ) where
+  -- what each says
+  abbrev pub Holds : Premise → Type 0
+  Holds Begins = from ≤ at
+  Holds Inside = at + multiframeBits * multiframesOf u ≤ searched (bits s)
+  -- "at least T of the 16 bits match the sync"
+  Holds Syncs = (k : ℕ) → k < multiframesOf u → least ≤ matches (syncAt (bits s) (placeInRow at k)) sync
+  -- at most two flips in each header
+  Holds Headers = (k : ℕ) → k < multiframesOf u → receivedFlips u s at k ≤ 2
+  -- and the streams as they were written
+  Holds Streams = (k : ℕ) → k < multiframesOf u → streamAt (bits s) (placeInRow at k) ≡ bits (streamIn (imageOf u) k)
+  -- no match that could be taken instead, before it or behind
+  Holds NoneBefore = (t : ℕ) → from ≤ t → t < at → passes least (bits s) t ≡ false
+  Holds NoneBehind = (t : ℕ) → at + multiframeBits * multiframesOf u ≤ t → t + multiframeBits ≤ searched (bits s) → passes least (bits s) t ≡ false
+  -- "T is the caller's, 12 to 16"; the syncs say that it is at most 16
+  Holds Low = fewestMatches ≤ least
+  -- two multiframes or more, or an only header that is untouched
+  Holds Settled = (2 ≤ multiframesOf u) ⊎ (receivedFlips u s at 0 ≡ 0)
+  -- 01's tables and room
+  Holds TablesAndRoom = Lent (multiframesOf u) tables index report
+
+  abbrev pub Premises : Type 0
+  Premises = (p : Premise) → Holds p
+
+  module _ (c : Premises) where
+    abbrev m : ℕ
+    m = multiframesOf u
+
+    -- the multiframes found, put together
+    abbrev got : List ℕ
+    got = foundImage s (row at m)
+
+    flips-are : (k : ℕ) → k < m → headerFlips (imageOf u) got k ≡ receivedFlips u s at k
+    flips-are k h = ap (λ (w : ℕ). ones (bitXor w (wordIn (imageOf u) k))) (image-word s at m (c Inside) k h)
+
+    packets-kept : (q : ℕ) → q < pairsOf u → packetIn got q ≡ packetIn (imageOf u) q
+    packets-kept q h =
+        let k : q / multiframePairs < m = omega arith in
+        ap (λ (l : List Bool). streamPacket l q) (image-stream s at m (c Inside) (q / multiframePairs) k ∙ c Streams (q / multiframePairs) k)
+
+    -- they are the image with damaged headers
+    pub damage : Damage m (imageOf u) got
+    damage = record {
+      size = image-size s at m (c Inside) ∙ sym (length-image (u .settings) (u .indices) m);
+      small = image-small s at m (c Inside);
+      syncs = λ k h. image-sync s at m (c Inside) k h ∙ sym (I.image-sync (u .settings) (u .indices) m k h);
+      headers = λ k h. subst (λ (n : ℕ). n ≤ 2) (sym (flips-are k h)) (c Headers k h);
+      packets = λ q h. inl (packets-kept q h);
+    }
+
+    -- and each passes the test
+    stands : (k : ℕ) → k < m → passes least (bits s) (placeInRow at k) ≡ true
+    stands k h =
+        passes-there least (bits s) (placeInRow at k) (c Syncs k h)
+        (ap reading (sym (image-word s at m (c Inside) k h)) ∙ header-read u got k h (damage .headers k h))
+
+    pub in-a-row : InARow (bits s) from at least m
+    in-a-row = record { begins = c Begins; inside = c Inside; stand = stands; none-before = c NoneBefore; none-behind = c NoneBehind }
+
+  -- ---- the theorem
   -- what is read: the settings, count and frames written, the bits outside and the places tested, and these header notes
   abbrev pub heard : (ℕ → ℕ) → G.Outcome
   heard notes =
@@ -106,27 +120,17 @@ module _ (u : Utterance) (s : List ℕ) (from at least : ℕ) (tables : Tables) 
       (same-joined (λ k. f k ∷ replicate multiframePairs 0) (λ k. g k ∷ replicate multiframePairs 0) (multiframesOf u)
       (λ k h. ap (λ (x : ℕ). x ∷ replicate multiframePairs 0) (e k h)))
 
-  pub record Premises : Type 0 where
-    pub carried : Carried u s from at least
-    -- "T is the caller's, 12 to 16"; the syncs say that it is at most 16
-    pub low : fewestMatches ≤ least
-    -- two multiframes or more, or an only header that is untouched
-    pub settled : (2 ≤ multiframesOf u) ⊎ (receivedFlips u s at 0 ≡ 0)
-    -- 01's tables and room
-    pub lent : Lent (multiframesOf u) tables index report
-
   pub hunts-back : Premises → huntingReading s from least tables index report ≡ heard (receivedFlips u s at)
   hunts-back p =
-      let c = p .carried in
       let n = multiframesOf u in
       let g = foundImage s (row at n) in
       let few : n ≤ mostMultiframes = few-multiframes (u .settings) (u .indices) (is-accepted u .sizes) in
-      let headers : (2 ≤ n) ⊎ (headerFlips (imageOf u) g 0 ≡ 0) = ⊎-elim inl (λ e. inr (flips-are u s from at least c 0 (omega arith) ∙ e)) (p .settled) in
-      reads-in-a-row s from least tables index report (p .low) (at-most-all (syncAt (bits s) (placeInRow at 0)) least (c .syncs 0 (omega arith))) (p .lent .codebook-size) (p .lent .thresholds-size) at n
-      (in-a-row u s from at least c) (omega arith) few
+      let headers : (2 ≤ n) ⊎ (headerFlips (imageOf u) g 0 ≡ 0) = ⊎-elim inl (λ e. inr (flips-are p 0 (omega arith) ∙ e)) (p Settled) in
+      reads-in-a-row s from least tables index report (p Low) (at-most-all (syncAt (bits s) (placeInRow at 0)) least (p Syncs 0 (omega arith))) (p TablesAndRoom .codebook-size) (p TablesAndRoom .thresholds-size) at n
+      (in-a-row p) (omega arith) few
       ∙ ap (λ (o : R.Outcome). counted o (outsideOf (bits s) from n) (testedInRow (bits s) from at n))
-      (reads-mended u g (damage u s from at least c) (packets-kept u s from at least c) headers tables index report (p .lent))
-      ∙ same-notes (headerFlips (imageOf u) g) (receivedFlips u s at) (flips-are u s from at least c)
+      (reads-mended u g (damage p) (packets-kept p) headers tables index report (p TablesAndRoom))
+      ∙ same-notes (headerFlips (imageOf u) g) (receivedFlips u s at) (flips-are p)
 
 -- ---- an image that is only shifted: any bits in front of it and behind, and nothing damaged
 module _ (u : Utterance) (s : List ℕ) (from least : ℕ) (front behind : List Bool) where
@@ -151,22 +155,22 @@ module _ (u : Utterance) (s : List ℕ) (from least : ℕ) (front behind : List 
     no-flips k l =
         ap (λ (x : ℕ). ones (bitXor x (wordIn img k))) (there .words k l) ∙ ap ones (xor-self (wordIn img k)) ∙ omega (arith, ones-le 0 0 (lit< tt))
 
-    pub shifted-carried : least ≤ syncBits → Carried u s from (length front) least
-    shifted-carried high = record {
-      begins = h .begins;
-      inside = h .inside;
-      syncs = λ k l. subst (λ (n : ℕ). least ≤ n) (sym (ap (λ (x : List Bool). matches x sync) (shifted-syncs img (multiframesOf u) cut s front behind (h .same) k l) ∙ all-match)) high;
-      headers = λ k l. omega (arith, no-flips k l);
-      streams = there .streams;
-      none-before = h .none-before;
-      none-behind = h .none-behind;
-    }
+    module _ (tables : Tables) (index report : List ℕ) (low : fewestMatches ≤ least) (high : least ≤ syncBits) (lent : Lent (multiframesOf u) tables index report) where
+      pub shifted-hold : Premises u s from (length front) least tables index report
+      shifted-hold Begins = h .begins
+      shifted-hold Inside = h .inside
+      shifted-hold Syncs = λ k l.
+          subst (λ (n : ℕ). least ≤ n) (sym (ap (λ (x : List Bool). matches x sync) (shifted-syncs img (multiframesOf u) cut s front behind (h .same) k l) ∙ all-match)) high
+      shifted-hold Headers = λ k l. omega (arith, no-flips k l)
+      shifted-hold Streams = there .streams
+      shifted-hold NoneBefore = h .none-before
+      shifted-hold NoneBehind = h .none-behind
+      shifted-hold Low = low
+      shifted-hold Settled = inr (no-flips 0 (omega arith))
+      shifted-hold TablesAndRoom = lent
 
-    -- it is read with the same settings, frames and count, and all notes 0
-    pub hunts-shifted : (tables : Tables) (index report : List ℕ) → fewestMatches ≤ least → least ≤ syncBits
-        → Lent (multiframesOf u) tables index report
-        → huntingReading s from least tables index report ≡ heard u s from (length front) least tables index report (λ k. 0)
-    hunts-shifted tables index report low high lent =
-        hunts-back u s from (length front) least tables index report
-        (record { carried = shifted-carried high; low = low; settled = inr (no-flips 0 (omega arith)); lent = lent })
-        ∙ same-notes u s from (length front) least tables index report (receivedFlips u s (length front)) (λ k. 0) no-flips
+      -- it is read with the same settings, frames and count, and all notes 0
+      pub hunts-shifted : huntingReading s from least tables index report ≡ heard u s from (length front) least tables index report (λ k. 0)
+      hunts-shifted =
+          hunts-back u s from (length front) least tables index report shifted-hold
+          ∙ same-notes u s from (length front) least tables index report (receivedFlips u s (length front)) (λ k. 0) no-flips

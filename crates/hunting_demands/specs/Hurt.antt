@@ -4,7 +4,7 @@
 use Prim.Native.Nat.{ℕ, _+_, _-_, _*_, _^_, _≤_, _<_}
 use mathlib.Core.Path.{_≡_, sym, ap, ap₂, _∙_, subst}
 use mathlib.Core.List.{List, _++_}
-use mathlib.Core.Bool.{Bool, true, false}
+use mathlib.Core.Bool.{Bool, true}
 use native.Mathlib.Omega.{arith}
 use lib.Bits.{bitXor, xor-lt}
 use lib.Count.{ones}
@@ -12,6 +12,7 @@ use lib.ListN.{length}
 use Rattle.lists.specs.Parts.{part, part-left}
 use Rattle.lists.specs.Rows.{joined}
 use Rattle.layout.specs.Layout.{multiframePairs, streamOctets, mostMultiframes, firstPair}
+use Rattle.consistency.specs.Tables.{Tables}
 use Rattle.bits.specs.Bits.{bits}
 use Rattle.bits.specs.Laws.{bits-octets}
 use Rattle.packet.specs.Packet.{stream}
@@ -31,7 +32,7 @@ use Rattle.writer.specs.Utterance.{Utterance, multiframesOf, imageOf, is-accept
 use Rattle.demands.specs.Damage.{sentMessage}
 use Rattle.hunting_demands.specs.Standing.{placeInRow, syncAt, wordAt, streamAt, passes-there}
 use Rattle.hunting_demands.specs.Laid.{laidMultiframe, laidOctets, Sizes, bits-laid, size-laid, laid-behind, laid-sync, laid-word, laid-stream}
-use Rattle.hunting_demands.specs.HuntsBack.{receivedFlips, Carried}
+use Rattle.hunting_demands.specs.HuntsBack.{receivedFlips, Premise, Begins, Inside, Syncs, Headers, Streams, NoneBefore, NoneBehind, Low, Settled, TablesAndRoom, Holds}
 
 module _ (u : Utterance) (front : List Bool) (y : ℕ → List Bool) (flips : ℕ → ℕ) (behind : List Bool) (n : ℕ) where
   abbrev pub hurtWord : ℕ → ℕ
@@ -118,18 +119,19 @@ module _ (u : Utterance) (front : List Bool) (y : ℕ → List Bool) (flips : �
     pub inside-there : length front + multiframeBits * multiframesOf u ≤ searched (bits hurt)
     inside-there = omega (arith, searched-are, f .around)
 
-    pub hurt-carried : (from least : ℕ) → from ≤ length front
-        → ((k : ℕ) → k < multiframesOf u → least ≤ matches (syncAt (bits hurt) (placeInRow (length front) k)) sync)
-        → ((k : ℕ) → k < multiframesOf u → receivedFlips u hurt (length front) k ≤ 2)
-        → ((t : ℕ) → from ≤ t → t < length front → passes least (bits hurt) t ≡ false)
-        → ((t : ℕ) → length front + multiframeBits * multiframesOf u ≤ t → t + multiframeBits ≤ searched (bits hurt) → passes least (bits hurt) t ≡ false)
-        → Carried u hurt from (length front) least
-    hurt-carried from least begins syncs headers none-before none-behind = record {
-      begins = begins;
-      inside = inside-there;
-      syncs = syncs;
-      headers = headers;
-      streams = stream-there;
-      none-before = none-before;
-      none-behind = none-behind;
-    }
+    module _ (from least : ℕ) (tables : Tables) (index report : List ℕ) where
+      abbrev Hurt : Premise → Type 0
+      Hurt p = Holds u hurt from (length front) least tables index report p
+
+      -- the premises hold there, if these do
+      pub hurt-hold : Hurt Begins → Hurt Syncs → Hurt Headers → Hurt NoneBefore → Hurt NoneBehind → Hurt Low → Hurt Settled → Hurt TablesAndRoom → (p : Premise) → Hurt p
+      hurt-hold begins syncs headers none-before none-behind low settled lent Begins = begins
+      hurt-hold begins syncs headers none-before none-behind low settled lent Inside = inside-there
+      hurt-hold begins syncs headers none-before none-behind low settled lent Syncs = syncs
+      hurt-hold begins syncs headers none-before none-behind low settled lent Headers = headers
+      hurt-hold begins syncs headers none-before none-behind low settled lent Streams = stream-there
+      hurt-hold begins syncs headers none-before none-behind low settled lent NoneBefore = none-before
+      hurt-hold begins syncs headers none-before none-behind low settled lent NoneBehind = none-behind
+      hurt-hold begins syncs headers none-before none-behind low settled lent Low = low
+      hurt-hold begins syncs headers none-before none-behind low settled lent Settled = settled
+      hurt-hold begins syncs headers none-before none-behind low settled lent TablesAndRoom = lent

@@ -32,7 +32,7 @@ use Rattle.demands.specs.Whole.{Lent}
 use Rattle.demands.specs.ReadsBack.{spoken, padded}
 use Rattle.demands.specs.Met.{indexFor, reportFor, lent-zeros, says24, two-multiframes}
 use Rattle.hunting_demands.specs.Standing.{testedInRow, syncAt, unlike-fails}
-use Rattle.hunting_demands.specs.HuntsBack.{receivedFlips, Carried, same-notes, Premises, hunts-back, Shifted, hunts-shifted}
+use Rattle.hunting_demands.specs.HuntsBack.{receivedFlips, Begins, Inside, Syncs, Headers, Streams, NoneBefore, NoneBehind, Low, Settled, TablesAndRoom, same-notes, Premises, hunts-back, Shifted, hunts-shifted}
 use Rattle.hunting_demands.specs.Hurt as H
 
 -- a sync with as many flips as T = 12 allows
@@ -129,16 +129,13 @@ module _ (u : Utterance) where
   two-flips : (k : ℕ) → k < m → receivedFlips u carriedOctets 3 k ≡ 2
   two-flips k h = H.flips-there u threeZeros (λ k. worstSync) (λ k. 3) manyZeros 151 fits k h ∙ two-ones
 
-  pub carried : Carried u carriedOctets 0 3 fewestMatches
-  carried =
-      H.hurt-carried u threeZeros (λ k. worstSync) (λ k. 3) manyZeros 151 fits 0 fewestMatches (lit≤ tt)
-      (λ k h. H.match-there u threeZeros (λ k. worstSync) (λ k. 3) manyZeros 151 fits k h fewestMatches (le-of-eq (sym worst-matches))) (λ k h. le-of-eq (two-flips k h))
-      not-before not-behind
-
   module _ (tables : Tables) (index report : List ℕ) where
     pub hunts-back-met : 2 ≤ multiframesOf u → Lent (multiframesOf u) tables index report
         → Premises u carriedOctets 0 3 fewestMatches tables index report
-    hunts-back-met two lent = record { carried = carried; low = lit≤ tt; settled = inl two; lent = lent }
+    hunts-back-met two lent =
+        H.hurt-hold u threeZeros (λ k. worstSync) (λ k. 3) manyZeros 151 fits 0 fewestMatches tables index report (lit≤ tt)
+        (λ k h. H.match-there u threeZeros (λ k. worstSync) (λ k. 3) manyZeros 151 fits k h fewestMatches (le-of-eq (sym worst-matches))) (λ k h. le-of-eq (two-flips k h))
+        not-before not-behind (lit≤ tt) (inl two) lent
 
     -- two multiframes so carried are read with their settings, frames and count, every header's two flips are noted, 1,208 bits stand outside,
     -- and 59 places were tested: three before them, their two, and the 54 behind them with a multiframe's bits left
@@ -166,23 +163,20 @@ module _ (u : Utterance) (two : multiframesOf u ≡ 2) (tables : Tables) (index 
   abbrev there : List ℕ
   there = carriedOctets u
 
+  from-0 : Premises u there 0 3 fewestMatches tables index report
+  from-0 = hunts-back-met u tables index report (le-of-eq (sym two)) lent
+
   from-2 : Premises u there 2 3 fewestMatches tables index report
-  from-2 =
-      let c = carried u in
-      record {
-        carried = record {
-          begins = lit≤ tt;
-          inside = c .inside;
-          syncs = c .syncs;
-          headers = c .headers;
-          streams = c .streams;
-          none-before = λ t a h. c .none-before t (omega arith) h;
-          none-behind = c .none-behind;
-        };
-        low = lit≤ tt;
-        settled = inl (le-of-eq (sym two));
-        lent = lent;
-      }
+  from-2 Begins = lit≤ tt
+  from-2 Inside = from-0 Inside
+  from-2 Syncs = from-0 Syncs
+  from-2 Headers = from-0 Headers
+  from-2 Streams = from-0 Streams
+  from-2 NoneBefore = λ t a h. from-0 NoneBefore t (omega arith) h
+  from-2 NoneBehind = from-0 NoneBehind
+  from-2 Low = lit≤ tt
+  from-2 Settled = from-0 Settled
+  from-2 TablesAndRoom = lent
 
   pub hunted-from-2 : huntingReading (carriedOctets u) 2 fewestMatches tables index report .answer
       ≡ Read (record { summary = spoken u; outside = 1206; tested = 57 })

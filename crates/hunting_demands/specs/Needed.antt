@@ -52,7 +52,7 @@ use Rattle.hunting.specs.Says.{nowhere-exactly}
 use Rattle.hunting.specs.declared.Answer.the-variants.{Refused}
 use Rattle.refusals.specs.declared.Hunting.{Hunting as Refusal}
 use Rattle.refusals.specs.declared.Hunting.the-variants.{Octets, MatchRange, Nowhere}
-use Rattle.image.specs.Made.{syncIn, wordIn, streamIn, packetIn, made-packet}
+use Rattle.image.specs.Made.{syncIn, wordIn, packetIn, made-packet}
 use Rattle.image.specs.Laws.{image-packet}
 use Rattle.writer.specs.Laws.{few-multiframes}
 use Rattle.writer.specs.Utterance.{Utterance, multiframesOf, imageOf, is-accepted, rate-not-2}
@@ -62,59 +62,13 @@ use Rattle.demands.specs.Headers.{sentCommon, common-sent, rate-sent, exp-sent}
 use Rattle.demands.specs.Instances.{lone, says1}
 use Rattle.demands.specs.Met.{indexFor, reportFor, lent-zeros, distance, burstAt, doubleAt, hurtWord, hurtStream, hurtImage, hurts, names-met, says24, two-multiframes}
 use Rattle.demands.specs.Needed.{says1At11}
-use Rattle.hunting_demands.specs.Standing.{placeInRow, row, streamBits, syncAt, wordAt, streamAt, all-match, passes-there, unlike-fails, lost-fails, InARow, testedInRow, reads-in-a-row, image-size, image-sync, image-word}
+use Rattle.hunting_demands.specs.Standing.{placeInRow, row, streamBits, syncAt, wordAt, all-match, passes-there, unlike-fails, lost-fails, InARow, testedInRow, reads-in-a-row, image-size, image-sync, image-word}
 use Rattle.hunting_demands.specs.AsRead as A
 use Rattle.hunting_demands.specs.AsRead.{Multiframes, Stands, shifted-syncs, shifted-stands, damaged-cut}
 use Rattle.hunting_demands.specs.Laid.{laidMultiframe, sync-in, word-in}
-use Rattle.hunting_demands.specs.HuntsBack.{receivedFlips, heard, Premises}
+use Rattle.hunting_demands.specs.HuntsBack.{heard, Premise, Begins, Inside, Syncs, Headers, Streams, NoneBefore, NoneBehind, Low, Settled, TablesAndRoom, Holds}
 use Rattle.hunting_demands.specs.Hurt as H
 use Rattle.hunting_demands.specs.Met.{worstSync, sync-size, index24, report24}
-
--- the premises
-pub data Premise : Type 0 where
-  Begins Inside Syncs Headers Streams NoneBefore NoneBehind Low Settled TablesAndRoom : Premise
-
--- what each says; a law each way shows that they are all, and no more
-module _ (u : Utterance) (s : List ℕ) (from at least : ℕ) (tables : Tables) (index report : List ℕ) where
-  abbrev pub Holds : Premise → Type 0
-  Holds Begins = from ≤ at
-  Holds Inside = at + multiframeBits * multiframesOf u ≤ searched (bits s)
-  Holds Syncs = (k : ℕ) → k < multiframesOf u → least ≤ matches (syncAt (bits s) (placeInRow at k)) sync
-  Holds Headers = (k : ℕ) → k < multiframesOf u → receivedFlips u s at k ≤ 2
-  Holds Streams = (k : ℕ) → k < multiframesOf u → streamAt (bits s) (placeInRow at k) ≡ bits (streamIn (imageOf u) k)
-  Holds NoneBefore = (t : ℕ) → from ≤ t → t < at → passes least (bits s) t ≡ false
-  Holds NoneBehind = (t : ℕ) → at + multiframeBits * multiframesOf u ≤ t → t + multiframeBits ≤ searched (bits s) → passes least (bits s) t ≡ false
-  Holds Low = fewestMatches ≤ least
-  Holds Settled = (2 ≤ multiframesOf u) ⊎ (receivedFlips u s at 0 ≡ 0)
-  Holds TablesAndRoom = Lent (multiframesOf u) tables index report
-
-  pub all-hold : ((p : Premise) → Holds p) → Premises u s from at least tables index report
-  all-hold h = record {
-    carried = record {
-      begins = h Begins;
-      inside = h Inside;
-      syncs = h Syncs;
-      headers = h Headers;
-      streams = h Streams;
-      none-before = h NoneBefore;
-      none-behind = h NoneBehind;
-    };
-    low = h Low;
-    settled = h Settled;
-    lent = h TablesAndRoom;
-  }
-
-  pub premises-hold : Premises u s from at least tables index report → (p : Premise) → Holds p
-  premises-hold h Begins = h .carried .begins
-  premises-hold h Inside = h .carried .inside
-  premises-hold h Syncs = h .carried .syncs
-  premises-hold h Headers = h .carried .headers
-  premises-hold h Streams = h .carried .streams
-  premises-hold h NoneBefore = h .carried .none-before
-  premises-hold h NoneBehind = h .carried .none-behind
-  premises-hold h Low = h .low
-  premises-hold h Settled = h .settled
-  premises-hold h TablesAndRoom = h .lent
 
 -- all others hold, this one does not, and the reading is refused, and both buffers stay
 pub record Needed (missing : Premise) (u : Utterance) (s : List ℕ) (from at least : ℕ) (tables : Tables) (index report : List ℕ) (r : Refusal) : Type 0 where
