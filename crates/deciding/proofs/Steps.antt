@@ -11,7 +11,7 @@ use Rattle.lists.specs.Tests.{when}
 use Rattle.lists.specs.Parts.{over}
 use Rattle.layout.specs.Layout.{indexOctets, reportOctets}
 use Rattle.consistency.specs.Tables.{Tables}
-use Rattle.header.specs.Message.{rateOf, expOf}
+use Rattle.message.specs.Message.{rateOf, expOf}
 use Rattle.settling.specs.Settling.{readings, settling}
 use Rattle.settling.specs.Stored.{openAll, packAll, stored-back}
 use Rattle.settling.specs.declared.Settlement.{Settlement}

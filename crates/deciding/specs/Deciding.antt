@@ -9,7 +9,7 @@ use Rattle.lists.specs.Tests.{when}
 use Rattle.layout.specs.Layout.{indexOctets, reportOctets}
 use Rattle.consistency.specs.Tables.{Tables}
 use Rattle.refusals.specs.declared.Reading.the-variants.{Empty, Unsettled, Unfit, IndexShort, ReportShort, AllBad}
-use Rattle.header.specs.Message.{rateOf, expOf}
+use Rattle.message.specs.Message.{rateOf, expOf}
 use Rattle.settling.specs.Settling.{readings, settling}
 use Rattle.settling.specs.declared.Settlement.{Settlement}
 use Rattle.settling.specs.declared.Settlement.the-variants as S

@@ -9,7 +9,7 @@ use borrow.Author.Tests.{ltb-false, eqb-true, eqb-false}
 use Rattle.lists.specs.Tests.{by-test}
 use Rattle.layout.specs.Layout.{indexOctets, reportOctets}
 use Rattle.consistency.specs.Tables.{Tables}
-use Rattle.header.specs.Message.{rateOf, expOf}
+use Rattle.message.specs.Message.{rateOf, expOf}
 use Rattle.settling.specs.Settling.{readings, settling}
 use Rattle.settling.specs.declared.Settlement.{Settlement}
 use Rattle.settling.specs.declared.Settlement.the-variants as S

@@ -6,7 +6,7 @@ use mathlib.Core.List.{List}
 use lib.Dec.{ltb, eqb}
 use Rattle.lists.specs.Tests.{when}
 use Rattle.layout.specs.Layout.{indexOctets, reportOctets}
-use Rattle.header.specs.Message.{rateOf, expOf}
+use Rattle.message.specs.Message.{rateOf, expOf}
 use Rattle.refusals.specs.declared.Reading.the-variants.{Unfit, IndexShort, ReportShort}
 use Rattle.deciding.specs.declared.Verdict.{Verdict}
 use Rattle.deciding.specs.declared.Verdict.the-variants.{Refuse, Accept}

@@ -29,7 +29,7 @@ fn early(common: u16, m: usize, index: usize, report: usize) -> Verdict
     requires { ⌜ m ≤ mostMultiframes ⌝ }
     ensures { λ r. ⌜ r ≡ earlyVerdict m index report common ⌝ }
 {
-    let fields = header::fields_of(common);
+    let fields = message::fields_of(common);
     if fields.settings.rate == UNDEFINED_RATE {
         return Verdict::Refuse(Reading::Unfit);
     }

@@ -18,8 +18,8 @@ use Rattle.crc.specs.Crc.{Damaged, right}
 use Rattle.packet.specs.Packet.{packetOf}
 use Rattle.packet.specs.Laws.{packetOf-good, packetOf-damaged}
 use Rattle.header_code.specs.Code.{flipsTo}
-use Rattle.header.specs.Message.{message}
-use Rattle.header.specs.Message.Laws.{message-lt}
+use Rattle.message.specs.Message.{message}
+use Rattle.message.specs.Message.Laws.{message-lt}
 use Rattle.header.specs.Reading.{decodedAs, reading}
 use Rattle.header.specs.Reading.Laws.{near, lost-at-three}
 use Rattle.header.specs.declared.Header.the-variants.{Codeword, Lost}

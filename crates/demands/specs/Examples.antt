@@ -8,8 +8,8 @@ use Prim.Native.Nat.{ℕ}
 use lib.Count.{ones}
 use Rattle.header_code.specs.Code.{codeword, flipsTo}
 use Rattle.header_code.specs.Code.Examples.{octets, count-1, count-2, count-3, rate-1, exp-9, six-ones, three-from-zero, three-from-rate-1}
-use Rattle.header.specs.Message.{message}
-use Rattle.header.specs.Message.Laws.{message-counts, message-nothing, message-rate-1, message-exp-9}
+use Rattle.message.specs.Message.{message}
+use Rattle.message.specs.Message.Laws.{message-counts, message-nothing, message-rate-1, message-exp-9}
 use Rattle.header.specs.Reading.{decodedAs, reading}
 use Rattle.header.specs.Reading.Laws.{lost-at-three}
 use Rattle.header.specs.declared.Header.the-variants.{Codeword, Lost}

@@ -15,8 +15,8 @@ use Rattle.lists.specs.Tests.{when, true-false}
 use Rattle.lists.specs.Rows.{each, length-each, each-at, same-each}
 use Rattle.settings.specs.declared.Settings.{Settings}
 use Rattle.header_code.specs.Code.{flipsTo}
-use Rattle.header.specs.Message.{message, rateOf, countOf, expOf, commonBits, settingsOf}
-use Rattle.header.specs.Message.Laws.{count-back, exp-back, common-exp, common-message, settings-back, common-settings}
+use Rattle.message.specs.Message.{message, rateOf, countOf, expOf, commonBits, settingsOf}
+use Rattle.message.specs.Message.Laws.{count-back, exp-back, common-exp, common-message, settings-back, common-settings}
 use Rattle.header.specs.Reading as H
 use Rattle.header.specs.Reading.Laws.{lost-not-read, same-message}
 use Rattle.header.specs.declared.Decoded.{Decoded}

@@ -25,7 +25,7 @@ use Rattle.packet.specs.Packet.{guarded, packet, row, packetOf, stream}
 use Rattle.packet.specs.Laws.{row-past, length-packetOf, length-stream, stream-part}
 use Rattle.header_code.specs.Code.{codeword, flipsTo}
 use Rattle.header_code.specs.Code.Distance.{codeword-lt}
-use Rattle.header.specs.Message.Laws.{message-lt}
+use Rattle.message.specs.Message.Laws.{message-lt}
 use Rattle.header.specs.Reading.Laws.{flips-of}
 use Rattle.image.specs.Made.{Small, made}
 use Rattle.writer.specs.Writing.{verdict, roomAnswer, firstFrom, needed}

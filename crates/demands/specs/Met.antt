@@ -28,7 +28,7 @@ use Rattle.packet.specs.Laws.{length-packetOf, length-stream, stream-part}
 use Rattle.consistency.specs.Consistency.{at, risen, flagged, flags, inconsistent}
 use Rattle.header_code.specs.Code.{codeword, flipsTo}
 use Rattle.header_code.specs.Code.Distance.{codeword-lt}
-use Rattle.header.specs.Message.Laws.{message-lt}
+use Rattle.message.specs.Message.Laws.{message-lt}
 use Rattle.header.specs.Reading.Laws.{flips-of}
 use Rattle.reader.specs.Reading.{Outcome, reading}
 use Rattle.image.specs.Made.{Small, made, made-packet}

@@ -43,8 +43,8 @@ use Rattle.header_code.specs.Code.{codeword, flipsTo}
 use Rattle.header_code.specs.Code.Distance.{codeword-lt}
 use Rattle.header_code.specs.Code.Syndrome.{codeword-xor}
 use Rattle.header_code.specs.Code.Examples.{three-from-rate-1}
-use Rattle.header.specs.Message.{message, settingsOf}
-use Rattle.header.specs.Message.Laws.{message-lt, message-back, message-counts, rate-masked, type-masked, count-masked, exp-shifted}
+use Rattle.message.specs.Message.{message, settingsOf}
+use Rattle.message.specs.Message.Laws.{message-lt, message-back, message-counts, rate-masked, type-masked, count-masked, exp-shifted}
 use Rattle.header.specs.Reading.Laws.{flips-of}
 use Rattle.carrier.specs.Carrier.{streamPacket, received, pairCount}
 use Rattle.notes.specs.Laws.{length-notes}

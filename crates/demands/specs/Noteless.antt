@@ -22,8 +22,8 @@ use Rattle.packet.specs.Packet.{indices, packet, apart, frameAt, packetOf, stre
 use Rattle.packet.specs.Laws.{total-widths, packet-92, length-row, getD-row}
 use Rattle.header_code.specs.Code.{codeword}
 use Rattle.header_code.specs.Code.Distance.{no-flips}
-use Rattle.header.specs.Message.{message, countOf, expOf, settingsOf}
-use Rattle.header.specs.Message.Laws.{message-back, common-exp, count-mod, common-settings}
+use Rattle.message.specs.Message.{message, countOf, expOf, settingsOf}
+use Rattle.message.specs.Message.Laws.{message-back, common-exp, count-mod, common-settings}
 use Rattle.header.specs.Reading as H
 use Rattle.header.specs.Reading.Laws.{flips-counted, reads}
 use Rattle.header.specs.declared.Header.{Header}

@@ -27,7 +27,7 @@ use Rattle.frames.specs.Frames.{allZero, zeroFrame, all-zero-at, Nonzero}
 use Rattle.packet.specs.Packet.{frameAt}
 use Rattle.packet.specs.Laws.{length-row, getD-row}
 use Rattle.cutting.specs.Laws.{every-length}
-use Rattle.header.specs.Message.{settingsOf}
+use Rattle.message.specs.Message.{settingsOf}
 use Rattle.header.specs.declared.Header.the-variants.{Lost}
 use Rattle.settling.specs.Settling.{readings, headerNote}
 use Rattle.carrier.specs.Carrier.{received, pairCount}

@@ -12,7 +12,7 @@ use Rattle.lists.specs.Tests.{true-false}
 use Rattle.layout.specs.Layout.{firstFrame, secondFrame}
 use Rattle.packet.specs.Packet.{packetOf, frameAt}
 use Rattle.header_code.specs.Code.Distance.{far-from-one}
-use Rattle.header.specs.Message.Laws.{message-lt}
+use Rattle.message.specs.Message.Laws.{message-lt}
 use Rattle.image.specs.Made.{wordIn}
 use Rattle.image.specs.Laws.{length-image}
 use Rattle.writer.specs.Utterance.{Utterance, multiframesOf, pairsOf, imageOf, same-settings, same-pair}

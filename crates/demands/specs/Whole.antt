@@ -19,7 +19,7 @@ use Rattle.cutting.specs.Cutting.{Cutting, whole, cutting}
 use Rattle.cutting.specs.Laws.{every, every-length, every-at, whole-image}
 use Rattle.header.specs.Reading as H
 use Rattle.header.specs.declared.Header.the-variants.{Lost}
-use Rattle.header.specs.Message.{rateOf, expOf}
+use Rattle.message.specs.Message.{rateOf, expOf}
 use Rattle.settling.specs.declared.Settlement.the-variants as S
 use Rattle.settling.specs.Settling.{readings, settling, headerNote}
 use Rattle.carrier.specs.Carrier.{streamFrom, headerWord, streamPacket, wordAt, streamAt, inPlaces, received, pairCount}

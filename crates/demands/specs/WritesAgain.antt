@@ -19,7 +19,7 @@ use Rattle.crc.specs.Crc.{Right, right}
 use Rattle.crc.specs.Laws.{right-true}
 use Rattle.packet.specs.Packet.{apart, packetOf}
 use Rattle.header_code.specs.Code.{codeword}
-use Rattle.header.specs.Message.{message, settingsOf}
+use Rattle.message.specs.Message.{message, settingsOf}
 use Rattle.header.specs.Reading as H
 use Rattle.header.specs.declared.Header.{Header}
 use Rattle.header.specs.declared.Header.the-variants.{Lost}

@@ -19,7 +19,7 @@ use Rattle.packet.specs.Packet.{stream}
 use Rattle.packet.specs.Laws.{length-stream}
 use Rattle.header_code.specs.Code.{codeword, flipsTo}
 use Rattle.header_code.specs.Code.Distance.{codeword-lt}
-use Rattle.header.specs.Message.Laws.{message-lt}
+use Rattle.message.specs.Message.Laws.{message-lt}
 use Rattle.header.specs.Reading.{decodedAs, reading}
 use Rattle.header.specs.Reading.Laws.{near, flips-of, three-lost}
 use Rattle.header.specs.declared.Header.the-variants.{Codeword, Lost}

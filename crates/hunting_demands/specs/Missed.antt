@@ -31,8 +31,8 @@ use Rattle.header_code.specs.Code.{codeword, flipsTo}
 use Rattle.header_code.specs.Code.Distance.{itself-near}
 use Rattle.header_code.specs.Code.Syndrome.{codeword-xor}
 use Rattle.header_code.specs.Code.Examples as E
-use Rattle.header.specs.Message.{message}
-use Rattle.header.specs.Message.Laws.{message-lt, message-counts, packed}
+use Rattle.message.specs.Message.{message}
+use Rattle.message.specs.Message.Laws.{message-lt, message-counts, packed}
 use Rattle.header.specs.Reading.{decodedAs, reading}
 use Rattle.header.specs.Reading.Laws.{near}
 use Rattle.header.specs.declared.Decoded.{Decoded}

@@ -29,8 +29,8 @@ use Rattle.packet.specs.Packet.{packetOf, stream}
 use Rattle.packet.specs.Laws.{length-packetOf, length-stream}
 use Rattle.header_code.specs.Code.{codeword}
 use Rattle.header_code.specs.Code.Distance.{codeword-lt}
-use Rattle.header.specs.Message.{message, rateOf, expOf, commonBits}
-use Rattle.header.specs.Message.Laws.{message-lt, rate-back, common-rate}
+use Rattle.message.specs.Message.{message, rateOf, expOf, commonBits}
+use Rattle.message.specs.Message.Laws.{message-lt, rate-back, common-rate}
 use Rattle.header.specs.Reading.{decodedAs, reading}
 use Rattle.header.specs.Reading.Laws.{mended}
 use Rattle.header.specs.declared.Decoded.{Decoded}

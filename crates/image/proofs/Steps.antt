@@ -13,7 +13,7 @@ use Rattle.bits.specs.Bits.{field, octets, numbers, value}
 use Rattle.bits.specs.Laws.{length-octets}
 use Rattle.packet.specs.Packet.{stream}
 use Rattle.header_code.specs.Code.{codeword}
-use Rattle.header.specs.Message.{message}
+use Rattle.message.specs.Message.{message}
 use Rattle.image.specs.Image.{multiframe, image}
 use Rattle.image.specs.Laws.{length-image}
 

@@ -7,7 +7,7 @@ use Rattle.layout.specs.Layout.{multiframePairs, headerOctets, streamOctets, fi
 use Rattle.bits.specs.Bits.{field, octets}
 use Rattle.packet.specs.Packet.{stream}
 use Rattle.header_code.specs.Code.{codeword}
-use Rattle.header.specs.Message.{message}
+use Rattle.message.specs.Message.{message}
 
 -- multiframe k: sync 87 B2, the header's codeword with the counter 1 in the first and stepping modulo 16, and twelve packets; frames past
 -- the last are zeros

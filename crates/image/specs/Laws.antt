@@ -15,8 +15,8 @@ use Rattle.packet.specs.Packet.{stream, packetOf}
 use Rattle.packet.specs.Laws.{stream-part, length-stream}
 use Rattle.header_code.specs.Code.{codeword}
 use Rattle.header_code.specs.Code.Distance.{codeword-lt}
-use Rattle.header.specs.Message.{message}
-use Rattle.header.specs.Message.Laws.{message-lt}
+use Rattle.message.specs.Message.{message}
+use Rattle.message.specs.Message.Laws.{message-lt}
 use Rattle.image.specs.Image.{multiframe, image}
 use Rattle.image.specs.Made.{syncIn, headerIn, wordIn, streamIn, packetIn, framed, made, Small, made-part, made-sync, made-header, made-word, made-stream, made-packet, small-made}
 

@@ -1,7 +1,7 @@
 // The image of an utterance: its index octets, seven a frame, laid down as protected multiframes. What may be written is decided above.
-use header::Fields;
 use layout::Multiframe;
 use layout::MultiframeLayout;
+use message::Fields;
 use settings::Settings;
 ghost use mathlib.Core.Path.{_≡_};
 ghost use Prim.Native.Nat.{_+_, _*_, _%_, _≤_, _<_};
@@ -20,7 +20,7 @@ pub fn put_multiframe(settings: Settings, indices: &[u8], k: Multiframe, out: &m
 {
     let at = MultiframeLayout::OCTETS * k.0;
     let count = ((k.0 + 1) & 15) as u8;
-    let message = header::message_of(Fields {
+    let message = message::message_of(Fields {
         settings,
         count,
         exp: 0,

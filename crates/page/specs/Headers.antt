@@ -20,8 +20,8 @@ use Rattle.header_code.specs.Code.{parity, codeword, flipsTo}
 use Rattle.header_code.specs.Code.Distance.{codeword-lt, itself-near}
 use Rattle.header_code.specs.Code.Parity.{parity-zero, parity-next, words, words-right, codeword-packed}
 use Rattle.header_code.specs.Code.Examples as E
-use Rattle.header.specs.Message.{message, settingsOf}
-use Rattle.header.specs.Message.Laws.{message-lt, message-back, rate-masked, type-masked, count-masked, exp-shifted}
+use Rattle.message.specs.Message.{message, settingsOf}
+use Rattle.message.specs.Message.Laws.{message-lt, message-back, rate-masked, type-masked, count-masked, exp-shifted}
 use Rattle.header.specs.Reading as R
 use Rattle.header.specs.Reading.Laws.{near, flips-of}
 use Rattle.header.specs.declared.Header.the-variants.{Codeword}

@@ -24,8 +24,8 @@ use Rattle.packet.specs.Examples.{oneFrame, zeroFrame}
 use Rattle.header_code.specs.Code.{codeword}
 use Rattle.header_code.specs.Code.Distance.{codeword-lt}
 use Rattle.header_code.specs.Code.Examples as C
-use Rattle.header.specs.Message.{message}
-use Rattle.header.specs.Message.Laws.{message-lt, message-nothing, message-rate-1, count-mod}
+use Rattle.message.specs.Message.{message}
+use Rattle.message.specs.Message.Laws.{message-lt, message-nothing, message-rate-1, count-mod}
 use Rattle.image.specs.Image.{image}
 use Rattle.image.specs.Made.{Small, headerIn}
 use Rattle.image.specs.Laws.{image-header}

@@ -24,8 +24,8 @@ use Rattle.crc.specs.Crc.{after, crc, alike, right}
 use Rattle.packet.specs.Packet.{apart}
 use Rattle.header_code.specs.Code.{codeword}
 use Rattle.header_code.specs.Code.Examples.{of-octets, three-from-zero}
-use Rattle.header.specs.Message.{message, rateOf, countOf, commonBits}
-use Rattle.header.specs.Message.Laws.{message-lt, rate-back, type-back, count-back, exp-back, common-rate, common-type, common-exp, common-message}
+use Rattle.message.specs.Message.{message, rateOf, countOf, commonBits}
+use Rattle.message.specs.Message.Laws.{message-lt, rate-back, type-back, count-back, exp-back, common-rate, common-type, common-exp, common-message}
 use Rattle.header.specs.Reading as H
 use Rattle.header.specs.Reading.Laws.{lost-at-three}
 use Rattle.header.specs.declared.Header.{Header}

@@ -23,8 +23,8 @@ use Rattle.bits.specs.Bits.{value, bits, field, fields}
 use Rattle.crc.specs.Crc.{after, crc, alike, right}
 use Rattle.header_code.specs.Code.{codeword}
 use Rattle.header_code.specs.Code.Examples.{of-octets, count-1, count-2, exp-9, three-from-zero}
-use Rattle.header.specs.Message.{message, rateOf, expOf, commonBits}
-use Rattle.header.specs.Message.Laws.{message-lt, message-counts, rate-back, rate-masked, exp-shifted, common-rate, common-exp, common-message}
+use Rattle.message.specs.Message.{message, rateOf, expOf, commonBits}
+use Rattle.message.specs.Message.Laws.{message-lt, message-counts, rate-back, rate-masked, exp-shifted, common-rate, common-exp, common-message}
 use Rattle.header.specs.Reading as H
 use Rattle.header.specs.Reading.Laws.{lost-at-three}
 use Rattle.header.specs.declared.Header.{Header}

@@ -11,8 +11,8 @@ use lib.ListN.{replicate}
 use borrow.Author.Tests.{eq-eqb, ne-eqb}
 use Rattle.settings.specs.Settings.{settings as set}
 use Rattle.frames.specs.Frames.{zeroFrame}
-use Rattle.header.specs.Message.{message, rateOf, countOf, commonBits}
-use Rattle.header.specs.Message.Laws.{rate-back, count-back, common-rate, common-message, message-counts, message-rate-1}
+use Rattle.message.specs.Message.{message, rateOf, countOf, commonBits}
+use Rattle.message.specs.Message.Laws.{rate-back, count-back, common-rate, common-message, message-counts, message-rate-1}
 use Rattle.header.specs.declared.Header.{Header}
 use Rattle.header.specs.declared.Header.the-variants.{Codeword, Lost}
 use Rattle.settling.specs.Settling.{firstAgreeing, onlyOne, settling, headerNote}

@@ -25,7 +25,7 @@ use Rattle.packet.specs.Packet.{frameAt, packetOf}
 use Rattle.packet.specs.Laws.{length-packetOf}
 use Rattle.header_code.specs.Code.{codeword, flipsTo}
 use Rattle.header_code.specs.Code.Distance.{codeword-lt}
-use Rattle.header.specs.Message.Laws.{message-lt}
+use Rattle.message.specs.Message.Laws.{message-lt}
 use Rattle.header.specs.Reading.Laws.{flips-of}
 use Rattle.image.specs.Made.{packetIn, made-word, made-packet}
 use Rattle.image.specs.Laws.{image-packet}

@@ -28,8 +28,8 @@ use Rattle.cutting.specs.declared.Piece.the-variants.{CutShort}
 use Rattle.refusals.specs.declared.Reading.the-variants as RR
 use Rattle.cutting.specs.Cutting.{syncMet, pieceBy, pieceOf, Cutting, cutting}
 use Rattle.cutting.specs.Laws.{lone-sync, every-length, octetsOf}
-use Rattle.header.specs.Message.{settingsOf}
-use Rattle.header.specs.Message.Laws.{count-back}
+use Rattle.message.specs.Message.{settingsOf}
+use Rattle.message.specs.Message.Laws.{count-back}
 use Rattle.header.specs.declared.Header.{Header}
 use Rattle.header.specs.declared.Header.the-variants.{Codeword, Lost}
 use Rattle.settling.specs.Settling.{readings, headerNote}

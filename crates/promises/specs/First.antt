@@ -20,7 +20,7 @@ use Rattle.packet.specs.Packet.{apart, frameAt, packetOf}
 use Rattle.packet.specs.Laws.{length-row, getD-row, packetOf-back}
 use Rattle.cutting.specs.Cutting.{whole, cutting}
 use Rattle.cutting.specs.Laws.{every-length}
-use Rattle.header.specs.Message.{commonBits}
+use Rattle.message.specs.Message.{commonBits}
 use Rattle.header.specs.Reading as H
 use Rattle.header.specs.declared.Decoded.{Decoded}
 use Rattle.header.specs.declared.Header.{Header}

@@ -30,8 +30,8 @@ use Rattle.header_code.specs.Code.{codeword, flipsTo}
 use Rattle.header_code.specs.Code.Distance.{codeword-lt}
 use Rattle.header_code.specs.Code.Syndrome.{codeword-xor}
 use Rattle.header_code.specs.Code.Examples.{codeword-1}
-use Rattle.header.specs.Message.{message, rateOf, typeOf, countOf, expOf, commonBits}
-use Rattle.header.specs.Message.Laws.{message-lt, message-back, rate-back, type-back, count-back, exp-back, rate-masked, type-masked, count-masked, exp-shifted, count-mod}
+use Rattle.message.specs.Message.{message, rateOf, typeOf, countOf, expOf, commonBits}
+use Rattle.message.specs.Message.Laws.{message-lt, message-back, rate-back, type-back, count-back, exp-back, rate-masked, type-masked, count-masked, exp-shifted, count-mod}
 use Rattle.header.specs.Reading.Laws.{flips-of}
 use Rattle.header.specs.Reading as H
 use Rattle.header.specs.declared.Header.{Header}

@@ -23,7 +23,7 @@ use Rattle.packet.specs.Packet.{packetOf}
 use Rattle.packet.specs.Laws.{length-packetOf}
 use Rattle.header_code.specs.Code.{codeword, flipsTo}
 use Rattle.header_code.specs.Code.Distance.{codeword-lt}
-use Rattle.header.specs.Message.Laws.{message-lt}
+use Rattle.message.specs.Message.Laws.{message-lt}
 use Rattle.image.specs.Made.{packetIn, made, made-word, made-packet}
 use Rattle.image.specs.Laws.{image-packet}
 use Rattle.writer.specs.Utterance.{Utterance, multiframesOf, pairsOf, imageOf}

@@ -28,7 +28,7 @@ use Rattle.packet.specs.Packet.{guarded, packet, row, packetOf}
 use Rattle.packet.specs.Laws.{length-packetOf, packetOf-good}
 use Rattle.cutting.specs.Laws.{every-length}
 use Rattle.header_code.specs.Code.{codeword}
-use Rattle.header.specs.Message.{message}
+use Rattle.message.specs.Message.{message}
 use Rattle.header.specs.Reading.{decodedAs}
 use Rattle.header.specs.declared.Header.the-variants.{Codeword, Lost}
 use Rattle.settling.specs.Settling.{readings, settling, headerNote}

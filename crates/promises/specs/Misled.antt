@@ -13,8 +13,8 @@ use Rattle.consistency.specs.Tables.{Tables}
 use Rattle.cutting.specs.Cutting.{Cutting, cutting}
 use Rattle.cutting.specs.Laws.{every-length}
 use Rattle.header_code.specs.Code.Distance.{far-from-one}
-use Rattle.header.specs.Message.{settingsOf, commonBits}
-use Rattle.header.specs.Message.Laws.{message-lt}
+use Rattle.message.specs.Message.{settingsOf, commonBits}
+use Rattle.message.specs.Message.Laws.{message-lt}
 use Rattle.header.specs.Reading as H
 use Rattle.header.specs.Reading.Laws.{flips-counted, reads}
 use Rattle.header.specs.declared.Header.{Header}

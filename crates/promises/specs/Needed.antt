@@ -31,7 +31,7 @@ use Rattle.packet.specs.Laws.{getD-row, row-past, packetOf-good}
 use Rattle.cutting.specs.Cutting.{Cutting, whole, cutting}
 use Rattle.cutting.specs.Laws.{every-length, multiframe, inverse, octetsOf, placesOf, Proper, cut-chunks}
 use Rattle.header_code.specs.Code.{codeword}
-use Rattle.header.specs.Message.{message}
+use Rattle.message.specs.Message.{message}
 use Rattle.header.specs.Reading.{decodedAs}
 use Rattle.header.specs.declared.Decoded.{Decoded}
 use Rattle.header.specs.declared.Header.{Header}

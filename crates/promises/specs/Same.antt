@@ -18,7 +18,7 @@ use Rattle.packet.specs.Packet.{apart}
 use Rattle.consistency.specs.Consistency.{inconsistent}
 use Rattle.cutting.specs.Cutting.{whole, cutting}
 use Rattle.header.specs.Reading as H
-use Rattle.header.specs.Message.{settingsOf}
+use Rattle.message.specs.Message.{settingsOf}
 use Rattle.header.specs.declared.Header.{Header}
 use Rattle.header.specs.declared.Header.the-variants.{Lost}
 use Rattle.settling.specs.Settling.{readings, settling, headerNote}

@@ -19,8 +19,8 @@ use Rattle.settings.specs.declared.Settings.{Settings}
 use Rattle.packet.specs.Packet.{packetOf}
 use Rattle.header_code.specs.Code.{codeword, flipsTo}
 use Rattle.header_code.specs.Code.Distance.{far-from-one}
-use Rattle.header.specs.Message.{message, settingsOf}
-use Rattle.header.specs.Message.Laws.{message-lt, rate-lt, type-lt, settings-fit, settings-back}
+use Rattle.message.specs.Message.{message, settingsOf}
+use Rattle.message.specs.Message.Laws.{message-lt, rate-lt, type-lt, settings-fit, settings-back}
 use Rattle.header.specs.Reading as H
 use Rattle.header.specs.Reading.Laws.{flips-of}
 use Rattle.header.specs.declared.Header.{Header}

@@ -13,7 +13,7 @@ use Rattle.layout.specs.Layout.{frameIndices, pairFrames, multiframeFrames, ind
 use Rattle.consistency.specs.Tables.{Tables}
 use Rattle.settings.specs.declared.Settings.{Settings}
 use Rattle.frames.specs.Frames.{allZero, zeroFrame}
-use Rattle.header.specs.Message.{settingsOf}
+use Rattle.message.specs.Message.{settingsOf}
 use Rattle.carrier.specs.Carrier.{received, pairCount}
 use Rattle.notes.specs.Laws.{length-all, length-notes}
 use Rattle.bad_pairs.specs.BadPairs.{badPairs}

@@ -11,7 +11,7 @@ use Rattle.consistency.specs.Tables.{Tables, tablesRight}
 use Rattle.refusals.specs.Refusals.{success, readingNumber, readingPlace}
 use Rattle.refusals.specs.declared.Reading.the-variants.{WrongTables}
 use Rattle.cutting.specs.Cutting.{Ending, whole, refused, cutting}
-use Rattle.header.specs.Message.{settingsOf}
+use Rattle.message.specs.Message.{settingsOf}
 use Rattle.carrier.specs.Carrier.{received, pairCount}
 use Rattle.notes.specs.Notes.{allFrames}
 use Rattle.bad_pairs.specs.BadPairs.{badPairs}

@@ -12,7 +12,7 @@ use Rattle.lists.specs.Parts.{over}
 use Rattle.layout.specs.Layout.{indexOctets, reportOctets, codebookNumbers, thresholdNumbers}
 use Rattle.consistency.specs.Tables.{Tables, tablesRight, RightTables, right-passes, passes-right}
 use Rattle.cutting.specs.Cutting.{Ending, whole, refused, cutting}
-use Rattle.header.specs.Message.{rateOf, expOf}
+use Rattle.message.specs.Message.{rateOf, expOf}
 use Rattle.settling.specs.Settling.{readings, settling}
 use Rattle.carrier.specs.Carrier.{pairCount}
 use Rattle.bad_pairs.specs.BadPairs.{badPairs}

@@ -18,7 +18,7 @@ use Rattle.refusals.specs.declared.Reading.the-variants.{WrongTables, Unknown, 
 use Rattle.cutting.specs.Cutting.{Ending, whole, refused, cutting}
 use Rattle.cutting.specs.Reached.{Reached, Meets, Reason, ends-exactly, whole-exactly}
 use Rattle.cutting.specs.declared.Piece.the-variants as P
-use Rattle.header.specs.Message.{rateOf, expOf}
+use Rattle.message.specs.Message.{rateOf, expOf}
 use Rattle.settling.specs.Settling.{readings, settling}
 use Rattle.settling.specs.declared.Settlement.{Settlement}
 use Rattle.settling.specs.declared.Settlement.the-variants as S

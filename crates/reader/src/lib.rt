@@ -65,7 +65,7 @@ fn write(
     replacing::replace(notes, index);
     report::put_report(headers, notes, common, report);
     let m = places.len();
-    let settled = header::fields_of(common);
+    let settled = message::fields_of(common);
     let settings = settled.settings;
     Summary {
         settings,

@@ -14,7 +14,7 @@ use Rattle.lists.specs.Tests.{when}
 use Rattle.lists.specs.Parts.{over}
 use Rattle.carrier.specs.Carrier.{wordAt, inPlaces}
 use Rattle.lists.specs.Rows.{length-each, each-at, each-more}
-use Rattle.header.specs.Message.{countOf, commonBits}
+use Rattle.message.specs.Message.{countOf, commonBits}
 use Rattle.header.specs.Reading.{reading}
 use Rattle.header.specs.declared.Decoded.{Decoded}
 use Rattle.header.specs.declared.Header.{Header}

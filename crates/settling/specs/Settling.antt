@@ -8,7 +8,7 @@ use lib.ListN.{length}
 use Rattle.lists.specs.Tests.{when}
 use Rattle.lists.specs.Rows.{each}
 use Rattle.carrier.specs.Carrier.{wordAt, inPlaces}
-use Rattle.header.specs.Message.{countOf, commonBits}
+use Rattle.message.specs.Message.{countOf, commonBits}
 use Rattle.header.specs.Reading.{reading}
 use Rattle.header.specs.declared.Header.{Header}
 use Rattle.header.specs.declared.Header.the-variants.{Codeword, Lost}

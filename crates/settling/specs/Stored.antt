@@ -12,7 +12,7 @@ use borrow.Author.Tests.{ne-eqb}
 use Rattle.lists.specs.Tests.{when}
 use Rattle.carrier.specs.Carrier.{wordAt, inPlaces}
 use Rattle.lists.specs.Rows.{each, length-each, each-at, same-each}
-use Rattle.header.specs.Message.{commonBits}
+use Rattle.message.specs.Message.{commonBits}
 use Rattle.header.specs.Reading.{mendable, ReadAs, reading}
 use Rattle.header.specs.Reading.Laws.{reads}
 use Rattle.header.specs.declared.Header.{Header}

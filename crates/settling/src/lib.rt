@@ -79,7 +79,7 @@ fn has_common(h: Header, common: u16) -> bool
     let Header::Codeword(d) = h else {
         return false;
     };
-    common == header::common_of(d.message)
+    common == message::common_of(d.message)
 }
 
 // Whether a header before that of multiframe k was read with these common bits: the nearest is tried first.
@@ -106,7 +106,7 @@ fn agreed(headers: &[u32], k: Multiframe) -> Settlement
     let Header::Codeword(d) = open_reading(headers[at]) else {
         return Settlement::Unsettled;
     };
-    let common = header::common_of(d.message);
+    let common = message::common_of(d.message);
     if was_seen(headers, k, common) {
         return Settlement::Settled { common };
     }
@@ -138,7 +138,7 @@ fn only_one(headers: &[u32]) -> Settlement
     };
     if d.flips == 0 {
         return Settlement::Settled {
-            common: header::common_of(d.message),
+            common: message::common_of(d.message),
         };
     }
     Settlement::Unsettled
@@ -183,8 +183,8 @@ fn note_of(h: Header, k: Multiframe, common: u16) -> u8
     let Header::Codeword(d) = h else {
         return LOST;
     };
-    let step = step_note(header::fields_of(d.message).count, k);
-    let like = common_note(header::common_of(d.message), common);
+    let step = step_note(message::fields_of(d.message).count, k);
+    let like = common_note(message::common_of(d.message), common);
     d.flips as u8 + step + like
 }
 

@@ -22,8 +22,8 @@ use Rattle.packet.specs.Packet.{stream, packetOf, frameAt}
 use Rattle.packet.specs.Laws.{stream-part, length-stream, fits-frame, getD-row, packetOf-same}
 use Rattle.header_code.specs.Code.{codeword}
 use Rattle.header_code.specs.Code.Distance.{codeword-lt, codeword-low}
-use Rattle.header.specs.Message.{message, settingsOf}
-use Rattle.header.specs.Message.Laws.{message-lt, settings-back}
+use Rattle.message.specs.Message.{message, settingsOf}
+use Rattle.message.specs.Message.Laws.{message-lt, settings-back}
 use Rattle.image.specs.Image.{image}
 use Rattle.image.specs.Made.{wordIn, packetIn, Small}
 use Rattle.image.specs.Laws.{length-image, image-word, image-packet}

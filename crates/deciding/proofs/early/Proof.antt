@@ -3,7 +3,7 @@ use Prim.Native.Nat.{_*_}
 use mathlib.Core.Path.{sym, ap, _∙_}
 use borrow.Author.Tests.{eq-eqb, ne-eqb, lt-ltb, le-ltb}
 use Rattle.settings.specs.declared.Settings.{Settings}
-use Rattle.header.specs.Message.{rateOf, expOf}
+use Rattle.message.specs.Message.{rateOf, expOf}
 use Rattle.deciding.specs.Steps.{earlyVerdict}
 use borrow.Author.Needs.{needs}
 use Rattle.deciding.proofs.early.Statement.{statement}

@@ -5,8 +5,8 @@ use native.Mathlib.Omega.{arith}
 use lib.Bits.{mask-lt, and-mask}
 use borrow.Author.Needs.{needs}
 use Rattle.header_code.specs.Code.{codeword}
-use Rattle.header.specs.Message.{message}
-use Rattle.header.specs.Message.Laws.{count-mod}
+use Rattle.message.specs.Message.{message}
+use Rattle.message.specs.Message.Laws.{count-mod}
 use Rattle.image.proofs.Steps.{laid-multiframe}
 use Rattle.image.proofs.put_multiframe.Statement.{statement}
 use Rattle.image.proofs.put_multiframe.Tie as tie

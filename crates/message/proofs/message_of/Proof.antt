@@ -1,9 +1,9 @@
 -- Each field is masked to its width and shifted behind the ones before it. Assumes nothing.
 use native.Mathlib.Omega.{arith}
 use lib.Bits.{mask-lt}
-use Rattle.header.specs.Message.Laws.{packed}
-use Rattle.header.proofs.message_of.Statement.{statement}
-use Rattle.header.proofs.message_of.Tie as tie
+use Rattle.message.specs.Message.Laws.{packed}
+use Rattle.message.proofs.message_of.Statement.{statement}
+use Rattle.message.proofs.message_of.Tie as tie
 
 cast-rate : tie.Need-cast-rate
 cast-rate c = record { fits = omega (arith, mask-lt (c .before .args .f .settings .rate) 2) }

@@ -1,7 +1,7 @@
 -- The mask and the shift there and back keep all but the counter. Assumes nothing.
-use Rattle.header.specs.Message.Laws.{common-masked}
-use Rattle.header.proofs.common_of.Statement.{statement}
-use Rattle.header.proofs.common_of.Tie as tie
+use Rattle.message.specs.Message.Laws.{common-masked}
+use Rattle.message.proofs.common_of.Statement.{statement}
+use Rattle.message.proofs.common_of.Tie as tie
 
 returns : tie.Need-returns
 returns c = common-masked (c .args .message) (c .fits .message .fits)

@@ -10,7 +10,7 @@ use lib.Dec.{lit<}
 use lib.Pow.{shl-exact}
 use Rattle.settings.specs.declared.Settings.{Settings}
 use Rattle.settings.specs.Settings.{settings, settings-same, settingsRight, rate-right, kind-right}
-use Rattle.header.specs.Message.{message, rateOf, typeOf, settingsOf, countOf, expOf, commonBits}
+use Rattle.message.specs.Message.{message, rateOf, typeOf, settingsOf, countOf, expOf, commonBits}
 
 pub message-lt : (s : Settings) (c e : ℕ) → message s c e < 2 ^ 16
 unfolding message

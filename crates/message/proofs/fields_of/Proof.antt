@@ -3,9 +3,9 @@ use Prim.Native.Nat.{_/_}
 use native.Mathlib.Omega.{arith}
 use lib.Bits.{mask-lt}
 use Rattle.settings.specs.Settings.{settings-same}
-use Rattle.header.specs.Message.Laws.{rate-masked, type-masked, count-masked, exp-shifted}
-use Rattle.header.proofs.fields_of.Statement.{statement}
-use Rattle.header.proofs.fields_of.Tie as tie
+use Rattle.message.specs.Message.Laws.{rate-masked, type-masked, count-masked, exp-shifted}
+use Rattle.message.proofs.fields_of.Statement.{statement}
+use Rattle.message.proofs.fields_of.Tie as tie
 
 cast-rate : tie.Need-cast-rate
 cast-rate c = record { fits = omega (arith, mask-lt (c .args .message) 2) }
