@@ -16,10 +16,10 @@ use Rattle.writer.specs.Utterance.{Utterance, multiframesOf, imageOf}
 use Rattle.entries.specs.Entries.{answerNumbers, Returned, returned, returning, givenOf, dsrRead}
 use Rattle.demands.specs.Damage.{Damage}
 use Rattle.demands.specs.Whole.{pairNoteIn}
-use Rattle.promises.specs.Chunks.{Refuses}
-use Rattle.promises.specs.Inverse.{found, one-inverse, spaced, spaced-image}
-use Rattle.promises.specs.CutOff.{cut-off-answer, cut-inside-damaged}
-use Rattle.promises.specs.CutDamaged.{cut-off-told-damaged}
+use Rattle.recordings.specs.Chunks.{Refuses}
+use Rattle.recordings.specs.Inverse.{found, one-inverse, spaced, spaced-image}
+use Rattle.recordings.specs.CutOff.{cut-off-answer, cut-inside-damaged}
+use Rattle.recordings.specs.CutDamaged.{cut-off-told-damaged}
 use Rattle.dsr_demands.specs.Calls.{told-refused, read-zero}
 use Rattle.dsr_demands.specs.Named.{pairNoteAt, got-is, at}
 

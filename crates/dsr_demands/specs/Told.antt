@@ -25,8 +25,8 @@ use Rattle.demands.specs.NamesTheDamage as N
 use Rattle.demands.specs.ReadsBack.{spoken}
 use Rattle.promises.specs.Flipped.{flipped, butOne, rateBits}
 use Rattle.promises.specs.Met as P
-use Rattle.promises.specs.Said.{ones24}
-use Rattle.promises.specs.CutOff.{first-of-24}
+use Rattle.recordings.specs.Said.{ones24}
+use Rattle.recordings.specs.CutOff.{first-of-24}
 use Rattle.hunting_demands.specs.Met as HM
 use Rattle.hunting_demands.specs.Met.{two-ones}
 use Rattle.hunting_demands.specs.HuntsBack.{shifted-hold}

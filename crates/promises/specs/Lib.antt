@@ -2,14 +2,6 @@ pub mod Misled
 pub mod Trusted
 pub mod Heard
 pub mod IfRead
-pub mod Chunks
-pub mod Same
-pub mod First
-pub mod Inverse
-pub mod Said
-pub mod Hit
-pub mod CutOff
-pub mod CutDamaged
 pub mod Ruled
 pub mod Flipped
 pub mod Met

@@ -22,8 +22,8 @@ use Rattle.demands.specs.Received.{Inconsistent, BadBefore, ByRule, BadPair, Co
 use Rattle.demands.specs.Met.{indexFor, reportFor}
 use Rattle.demands.specs.Needed.{all-bad-refuses}
 use Rattle.demands.specs.NamesTheDamage as N
-use Rattle.promises.specs.Hit.{hitImage, hits, is-hit, not-hit, clean-header}
-use Rattle.promises.specs.Said.{rises23, rises47, rises7, stairs, lent-stairs, inconsistent-23, inconsistent-47, inconsistent-7, consistent-7}
+use Rattle.recordings.specs.Hit.{hitImage, hits, is-hit, not-hit, clean-header}
+use Rattle.recordings.specs.Said.{rises23, rises47, rises7, stairs, lent-stairs, inconsistent-23, inconsistent-47, inconsistent-7, consistent-7}
 
 -- ---- which pairs are bad where pair p alone is damaged, whatever the utterance and the tables
 module _ (u : Utterance) (p : ℕ) (inside : p < pairsOf u) (tables : Tables) where

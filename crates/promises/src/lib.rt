@@ -1,1 +1,1 @@
-// What the yards are told, as theorems over the demands; no code.
+// What the yards are told of readings, as theorems over the demands: when a list can be trusted; no code.

@@ -56,10 +56,10 @@ use Rattle.demands.specs.Headers.{sentCommon, common-sent, settings-sent}
 use Rattle.demands.specs.Met.{indexFor, reportFor, lent-zeros}
 use Rattle.demands.specs.ReadsBack.{spoken, reads-image, zeros, zero-rows, none-bad}
 use Rattle.demands.specs.WritesAgain as A
-use Rattle.promises.specs.Chunks.{multiframeCount, refused-behind, Chunked, chunked, Refuses, cut-refuses}
-use Rattle.promises.specs.Inverse.{nothing-14}
-use Rattle.promises.specs.First as F
-use Rattle.promises.specs.Said.{ones24}
+use Rattle.recordings.specs.Chunks.{multiframeCount, refused-behind, Chunked, chunked, Refuses, cut-refuses}
+use Rattle.recordings.specs.Inverse.{nothing-14}
+use Rattle.recordings.specs.First as F
+use Rattle.recordings.specs.Said.{ones24}
 
 -- ---- THE FIRST k MULTIFRAMES ALONE, fewer than all
 -- the success answer: the settings sent, k, all of its frames speech, no bad pair, and no end

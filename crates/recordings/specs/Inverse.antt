@@ -26,9 +26,9 @@ use Rattle.demands.specs.Damage.{Damage}
 use Rattle.demands.specs.Whole.{rowOf, cut-is}
 use Rattle.demands.specs.Met.{indexFor, reportFor, lent-zeros, hurtImage, hurts, says24, two-multiframes, names-says24}
 use Rattle.demands.specs.NamesTheDamage as N
-use Rattle.promises.specs.Same.{same-read}
-use Rattle.promises.specs.First as F
-use Rattle.promises.specs.Chunks.{multiframesIn, multiframeCount, inverseCount, places-count, chunk-octets, refused-behind, chunked, Refuses, cut-refuses, none-refuses}
+use Rattle.recordings.specs.Same.{same-read}
+use Rattle.recordings.specs.First as F
+use Rattle.recordings.specs.Chunks.{multiframesIn, multiframeCount, inverseCount, places-count, chunk-octets, refused-behind, chunked, Refuses, cut-refuses, none-refuses}
 
 -- ---- chunks without their inverse syncs
 abbrev pub plain : List Chunk → List Chunk

@@ -36,9 +36,9 @@ use Rattle.demands.specs.Whole.{rowOf, pairNoteIn, pair-note-is}
 use Rattle.demands.specs.Headers.{sentCommon}
 use Rattle.demands.specs.Met.{indexFor, reportFor, lent-zeros, zero-consistent}
 use Rattle.demands.specs.WritesAgain as A
-use Rattle.promises.specs.First as F
-use Rattle.promises.specs.Said.{ones24, gap24, zero-22}
-use Rattle.promises.specs.Hit.{hitImage, hits, is-hit, not-hit, clean-header}
+use Rattle.recordings.specs.First as F
+use Rattle.recordings.specs.Said.{ones24, gap24, zero-22}
+use Rattle.recordings.specs.Hit.{hitImage, hits, is-hit, not-hit, clean-header}
 
 -- ---- they are read, and the last pair that came, q, has note 0
 module _ (u : Utterance) (s : List ℕ) (d : Damage (multiframesOf u) (imageOf u) s) (k : ℕ) (less : k < multiframesOf u) (tables : Tables) (index report : List ℕ)
