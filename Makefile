@@ -27,7 +27,8 @@ else
 BUILD := target/outside/$(ARCH)
 TOOLS := $(ARCH)-linux-gnu-
 STATIC := -static
-RUN := qemu-$(ARCH)
+# rt links dsrlist for x86-64 with a shared C library: -L says where that is.
+RUN := qemu-$(ARCH) -L /usr/$(ARCH)-linux-gnu
 SANITIZE :=
 NOT_JUDGED := "emulated, no time of a processor"
 endif
@@ -112,7 +113,8 @@ packages:
 
 # --- the proved code, compiled
 
-# rt proves, and compiles for x86-64. For aarch64 the same module, proved once more, goes to the same compiler with another target.
+# rt proves, and compiles for x86-64. The same module, proved once more, goes to the same compiler for both (tools/compile); that the
+# archive for x86-64 comes out as rt's own is a check (twin).
 target/staticlib/libdsr.a: $(RATTLE)
 	@tools/prove staticlib dsr
 	@touch $@
@@ -121,10 +123,13 @@ target/lib/x86_64/libdsr.a: target/staticlib/libdsr.a
 	@mkdir -p $(@D)
 	@cp $< $@
 
-target/lib/aarch64/libdsr.a: target/staticlib/libdsr.a
+target/compiled/aarch64/libdsr.a: target/staticlib/libdsr.a
 	@echo 'compiling dsr for aarch64'
+	@tools/compile dsr target/compiled >target/compiling-dsr.log 2>&1 || { tail -n 20 target/compiling-dsr.log; exit 1; }
+
+target/lib/aarch64/libdsr.a: target/compiled/aarch64/libdsr.a
 	@mkdir -p $(@D)
-	@tools/compile aarch64 dsr $@ >target/compiling-dsr.log 2>&1 || { tail -n 20 target/compiling-dsr.log; exit 1; }
+	@cp $< $@
 
 # The archive's code is position independent. The C library gives memset.
 $(SHARED): $(ARCHIVE) c/dsr.map
@@ -138,15 +143,18 @@ target/bin/dsrlist: $(RATTLE)
 	@touch $@
 
 target/bin/x86_64/dsrlist: target/bin/dsrlist
+	@.ci/packages x86_64
 	@mkdir -p $(@D)
 	@cp $< $@
 
-target/bin/aarch64/dsrlist: target/bin/dsrlist
+target/compiled/aarch64/dsrlist.o: target/bin/dsrlist
 	@echo 'compiling dsrlist for aarch64'
-	@mkdir -p $(@D)
-	@tools/compile aarch64 dsrlist $(@D)/dsrlist.o >target/compiling-dsrlist.log 2>&1 || { tail -n 20 target/compiling-dsrlist.log; exit 1; }
+	@tools/compile dsrlist target/compiled >target/compiling-dsrlist.log 2>&1 || { tail -n 20 target/compiling-dsrlist.log; exit 1; }
+
+target/bin/aarch64/dsrlist: target/compiled/aarch64/dsrlist.o
 	@.ci/packages aarch64
-	@$(TOOLS)gcc $(STATIC) $(@D)/dsrlist.o -o $@
+	@mkdir -p $(@D)
+	@$(TOOLS)gcc $(STATIC) $< -o $@
 
 # The writer alone as one object, for a terminal that never reads.
 writer: $(MADE)/dsr_write.o ## the writer alone as one object that wants memset only, target/lib/ARCH/dsr_write.o
@@ -207,12 +215,11 @@ $(BUILD)/libliteral.so: $(BUILD)/libliteral.a
 
 # --- the checks
 
-.PHONY: programs independent independent-build wrapper wrapper-literal example crctable sample-check listing readme-c readme-rust crates-named installed man-pages versions \
+.PHONY: programs independent independent-build wrapper wrapper-literal example crctable sample-check listing readme-c readme-rust readme-printed crates-named installed man-pages versions \
     fuzz drawing drawing-check twin writer writer-size writer-alone stack
 
 # What more than one check calls.
-programs: $(foreach l,library literal,$(foreach p,$(ENTRIES),$(BUILD)/$(l)/drive-$(p))) $(BUILD)/literal/sample-list $(BUILD)/libliteral.a \
-    $(BUILD)/libliteral.so
+programs: $(foreach p,$(ENTRIES),$(BUILD)/$(LIB)/drive-$(p)) $(if $(filter literal,$(LIB)),$(addprefix $(BUILD)/,literal/sample-list libliteral.a libliteral.so))
 
 # The independent implementation against the library (or, with LIB=literal, the literal version).
 compare-%: $(BUILD)/$(LIB)/drive-% independent-build
@@ -229,10 +236,11 @@ independent-build:
 independent:
 	cd checks/independent && $(CARGO) test --quiet --offline --release --lib
 
-# Bugs planted in the literal version, one at a time: the comparisons have to notice each (checks/planted/list).
+# Bugs planted in the literal version, one at a time: the comparisons have to notice each (checks/planted/list). PLANTED is the words
+# for checks/planted/run: with none, the comparisons also run with no bug planted.
 .PHONY: planted
 planted: independent-build ## plants bugs in the literal version: the comparisons have to notice each
-	$(PYTHON) checks/planted/run
+	$(PYTHON) checks/planted/run $(PLANTED)
 
 # The Rust package over the library, and over the literal version.
 wrapper: $(ARCHIVE)
@@ -281,6 +289,10 @@ readme-rust: $(README_WITH)
 	    >$(README)/rust/Cargo.toml
 	cd $(README)/rust && $(README_ENV) $(CARGO) run --quiet --offline >got
 	diff $(README)/rust/got $(README)/rust/output
+
+# README's commands themselves, as printed, in a copy of the repository; and errors planted in the page, which have to be noticed.
+readme-printed: lib dsrlist
+	.ci/printed $(BUILD)/printed
 
 # What make install puts into a folder of its own: the README's C programs are built against it as a user would.
 installed: lib dsrlist
@@ -332,10 +344,9 @@ crctable: $(ARCHIVE)
 	$(TOOLS)objdump -h $< | grep -E '\.crctable[^ ]* +0*100 '
 	$(TOOLS)objdump -r $< | grep -m 1 -E 'R_(X86_64_PC32|AARCH64_ADR_PREL_PG_HI21) .*\.crctable'
 
-# What tools/compile makes for x86-64 is what rt makes, octet for octet: for aarch64 it does nothing else but name another target.
-twin: target/staticlib/libdsr.a
-	@tools/compile x86_64 dsr target/twin/libdsr.a >target/compiling-twin.log 2>&1 || { tail -n 20 target/compiling-twin.log; exit 1; }
-	cmp target/twin/libdsr.a $<
+# What tools/compile made for x86-64 is what rt makes, octet for octet: for aarch64 it did nothing else but name another target.
+twin: target/staticlib/libdsr.a target/compiled/aarch64/libdsr.a
+	cmp target/compiled/x86_64/libdsr.a $<
 
 # --- dsr.h's inline functions, as C99, C++11 and C++20
 

@@ -13,6 +13,8 @@ import random
 import struct
 import sys
 
+import numpy
+
 from driver import Driver, numbers
 
 SEED = int(os.environ.get("SEED", "201108"))
@@ -46,14 +48,11 @@ TRANSPOSED = [[MATRIX[i][j] for i in range(16)] for j in range(16)]
 GENERATOR = {0, 8, 12, 14, 15}
 
 
-def by_matrix(message):
-    """The codeword: message, then transposed matrix times message."""
-    bits = [message >> i & 1 for i in range(16)]
-    word = message
-    for j, row in enumerate(TRANSPOSED):
-        p = sum(a * b for a, b in zip(row, bits)) % 2
-        word |= p << (16 + j)
-    return word
+def by_matrix(messages):
+    """The codewords: each message, then transposed matrix times message."""
+    bits = messages[:, None] >> numpy.arange(16) & 1
+    parity = bits @ numpy.transpose(TRANSPOSED) % 2
+    return messages | (parity << numpy.arange(16, 32)).sum(axis=1)
 
 
 def by_division(message):
@@ -69,24 +68,32 @@ def by_division(message):
 
 # Two message halves of words at most two apart differ in at most two bits.
 NEAR = [0] + [1 << i for i in range(16)] + [1 << i | 1 << j for i, j in itertools.combinations(range(16), 2)]
+ONES = numpy.array([x.bit_count() for x in range(65536)])
 
 
-def nearest(codewords, word):
-    """(message, flips) of the codeword at most two bits away, or None."""
-    found = None
+def distance(some, other):
+    """The number of bits in which words differ, each from its own."""
+    differ = some ^ other
+    return ONES[differ & 0xFFFF] + ONES[differ >> 16]
+
+
+def nearest(codewords, words):
+    """(message, flips) of the codeword at most two bits away, or None: of each word. All words go through each step together."""
+    messages, flips = numpy.full(len(words), -1), numpy.zeros(len(words), int)
     for step in NEAR:
-        message = (word ^ step) & 0xFFFF
-        distance = (codewords[message] ^ word).bit_count()
-        if distance <= 2:
-            if found is not None:
-                raise SystemExit("two codewords within two bits of %08x" % word)
-            found = (message, distance)
-    return found
+        message = (words ^ step) & 0xFFFF
+        apart = distance(codewords[message], words)
+        close = apart <= 2
+        if (close & (messages >= 0)).any():
+            raise SystemExit("two codewords within two bits of %08x" % words[close & (messages >= 0)][0])
+        messages[close], flips[close] = message[close], apart[close]
+    return [None if message < 0 else (message, count) for message, count in zip(messages.tolist(), flips.tolist())]
 
 
 def nearest_of_all(codewords, word):
-    """The same with no shortcut: every one of the 65,536."""
-    close = [(c & 0xFFFF, (c ^ word).bit_count()) for c in codewords if (c ^ word).bit_count() <= 2]
+    """The same of one word with no shortcut: every one of the 65,536."""
+    apart = distance(codewords, word)
+    close = [(int(codewords[i]) & 0xFFFF, int(apart[i])) for i in numpy.flatnonzero(apart <= 2)]
     return close[0] if close else None
 
 
@@ -110,8 +117,7 @@ class Check:
         lost = 0
         for start in range(0, len(words), 20000):
             part = words[start : start + 20000]
-            for word, got in zip(part, self.read(part)):
-                close = nearest(codewords, word)
+            for word, got, close in zip(part, self.read(part), nearest(codewords, numpy.array(part))):
                 want = (UNREADABLE, 1, LENT, LENT) if close is None else (0, 1) + close
                 lost += close is None
                 if got != want:
@@ -131,7 +137,8 @@ def main():
     rng = random.Random(SEED)
     print("  seed %d" % SEED)
     check = Check(sys.argv[1:])
-    codewords = [by_matrix(message) for message in range(65536)]
+    table = by_matrix(numpy.arange(65536))
+    codewords = table.tolist()
     for message in range(65536):
         if by_division(message) != codewords[message]:
             raise SystemExit("message %04x: matrix and division disagree" % message)
@@ -145,24 +152,24 @@ def main():
     if untransposed == 0:
         raise SystemExit("the matrix is its own transpose: the check could not tell them apart")
 
-    check.compare(codewords, "every codeword, clean", codewords, 0)
+    check.compare(table, "every codeword, clean", codewords, 0)
     some = [0, 0xFFFF, 0x0008, 0x0010, 0x8000] + [rng.randrange(65536) for _ in range(27)]
     for count in (1, 2):
         words = [flipped(codewords[m], places) for m in some for places in itertools.combinations(range(32), count)]
-        check.compare(codewords, "every %d flip(s) of %d codewords" % (count, len(some)), words, 0)
+        check.compare(table, "every %d flip(s) of %d codewords" % (count, len(some)), words, 0)
     three = [flipped(codewords[m], places) for m in some[:6] for places in itertools.combinations(range(32), 3)]
-    check.compare(codewords, "every three flips of 6 codewords: all lost", three, len(three))
+    check.compare(table, "every three flips of 6 codewords: all lost", three, len(three))
     four = [flipped(codewords[some[5]], places) for places in itertools.combinations(range(32), 4)]
-    check.compare(codewords, "every four flips of a codeword: 465 read as another", four, 35960 - 465)
+    check.compare(table, "every four flips of a codeword: 465 read as another", four, 35960 - 465)
     for count in range(5):
         words = [flipped(codewords[rng.randrange(65536)], rng.sample(range(32), count)) for _ in range(20000)]
-        check.compare(codewords, "random messages, %d flip(s)" % count, words, None if count == 4 else 20000 * (count == 3))
-    check.compare(codewords, "random words", [rng.getrandbits(32) for _ in range(60000)])
+        check.compare(table, "random messages, %d flip(s)" % count, words, None if count == 4 else 20000 * (count == 3))
+    check.compare(table, "random words", [rng.getrandbits(32) for _ in range(60000)])
     some = [rng.getrandbits(32) for _ in range(50)] + [flipped(rng.choice(codewords), rng.sample(range(32), k % 5)) for k in range(100)]
-    for word in some:
-        if nearest(codewords, word) != nearest_of_all(codewords, word):
+    for word, close in zip(some, nearest(table, numpy.array(some))):
+        if close != nearest_of_all(table, word):
             raise SystemExit("word %08x: the shortcut misses a codeword" % word)
-    check.compare(codewords, "random and damaged words, against all codewords each", some)
+    check.compare(table, "random and damaged words, against all codewords each", some)
     check.driver.end()
 
 

@@ -9,17 +9,17 @@ use native.Mathlib.Numerals.{add-one}
 use native.Mathlib.Omega.{arith}
 use lib.Bits.{bitAnd, bitOr, and-mask, or-zero-l, or-lt, mask-lt}
 use lib.Dec.{eqb, lit<, lit≤}
-use lib.Pow.{pow-pos, shr-lt}
+use lib.Pow.{pow-pos, pow-mono, shr-lt}
 use lib.ListN.{length, take, drop, getD, set, length-append, take-append-drop, replicate, length-replicate, replicate-append-replicate}
-use lib.Seq.{take-add, drop-drop, length-take-le, drop-at}
-use Rattle.lists.specs.Parts.{part, over, over-none, over-over, length-over, set-over, behind, length-part}
+use lib.Seq.{take-add, take-at, drop-drop, length-take-le, drop-at}
+use Rattle.lists.specs.Parts.{part, over, over-none, over-over, drop-over, length-over, set-over, behind, length-part}
 use Rattle.layout.specs.Layout.{widths, frameIndices, frameBits, mostNarrow, pairIndices, dataBits, packetBits, firstFrame, secondFrame}
 use Rattle.bits.specs.Bits.{bits, field, value, laid, numbers, octets, total}
 use Rattle.bits.specs.Laws.{length-field, field-value, field-add, field-low, take-field, field-part, value-field, value-lt, length-laid, length-numbers, laid-append, laid-one, numbers-more, numbers-front, total-same, octets-append, length-octets, joined, joined-lt, word-add, in-word}
 use Rattle.crc.specs.Crc.{Rem, crc, code, coded, none, sent, fedAll, right}
 use Rattle.crc.specs.Laws.{crc-fed, fed-append, length-sent}
 use Rattle.crc.proofs.Register.{coded-code, right-test, code-lt}
-use Rattle.packet.specs.Packet.{restBits, secondBits, twoPackets, frame, indices, guarded, packet, apart, row, frameAt, packetOf, stream}
+use Rattle.packet.specs.Packet.{restBits, halfBits, secondBits, twoPackets, frame, indices, guarded, packet, apart, row, frameAt, packetOf, stream}
 use Rattle.packet.specs.Laws.{length-frame, total-widths, length-row, row-past, length-stream, stream-add}
 
 -- ---- a frame as a word
@@ -89,77 +89,139 @@ crc-law a b c y z ha ec ey ez =
     (ap (λ (l : List Bool). field 40 a ++ l) (joined 4 frameBits (a / 2 ^ 40) b (lit≤ tt) h) ∙ sym (append-assoc (field 40 a) (field 4 (a / 2 ^ 40)) (field frameBits b))
     ∙ ap (λ (l : List Bool). l ++ field frameBits b) (sym (field-add 40 4 a))))
 
--- ---- a packet as a word of 64 bits and 28 more
+-- ---- a packet as a word of 64 bits and 28 more, behind n leading bits
 code-field : (r : Rem) → field 4 (code r) ≡ sent r
 code-field r = ap (λ (n : ℕ). field n (code r)) (sym (length-sent r)) ∙ field-value (sent r)
 
-pub pack-law : (idx : List ℕ) (q a b c : ℕ) → a ≡ value (frame widths (frameAt idx (firstFrame q))) → b ≡ value (frame widths (frameAt idx (secondFrame q)))
-    → c ≡ code (crc (field frameBits a ++ field frameBits b))
-    → field 64 (bitOr a (b * 2 ^ frameBits % 2 ^ 64)) ++ field restBits (bitOr (b / 2 ^ 20) (c * 2 ^ 24 % 2 ^ 64)) ≡ packetOf idx q
-unfolding packetOf packet guarded
-pack-law idx q a b c ea eb ec =
-    let f = frameAt idx (firstFrame q) in
-    let g = frameAt idx (secondFrame q) in
-    let ha : a < 2 ^ frameBits = word-small f a ea in
-    let hb : b / 2 ^ 20 < 2 ^ 24 = shr-lt 24 20 (word-small g b eb) in
-    let fa : field frameBits a ≡ frame widths f = word-frame f a ea in
-    let fb : field frameBits b ≡ frame widths g = word-frame g b eb in
-    let d = frame widths f ++ frame widths g in
-    let fc : field 4 c ≡ sent (crc d) = ap (field 4) (ec ∙ ap₂ (λ (x y : List Bool). code (crc (x ++ y))) fa fb) ∙ code-field (crc d) in
-    ap₂ (λ (x y : List Bool). x ++ y) (joined frameBits 20 a b (lit≤ tt) ha) (joined 24 4 (b / 2 ^ 20) c (lit≤ tt) hb)
-    ∙ append-assoc (field frameBits a) (field 20 b) (field 24 (b / 2 ^ 20) ++ field 4 c)
-    ∙ ap (λ (x : List Bool). field frameBits a ++ x) (sym (append-assoc (field 20 b) (field 24 (b / 2 ^ 20)) (field 4 c)) ∙ ap (λ (x : List Bool). x ++ field 4 c) (sym (field-add 20 24 b)))
-    ∙ ap₂ (λ (x y : List Bool). x ++ y) fa (ap₂ (λ (x y : List Bool). x ++ y) fb fc) ∙ sym (append-assoc (frame widths f) (frame widths g) (sent (crc d)))
+-- a packet behind n leading bits: `low` and `high` are the code's two words
+module _ (idx : List ℕ) (q a b c lead n : ℕ) (hn : n ≤ halfBits) (hl : lead < 2 ^ n) (ea : a ≡ value (frame widths (frameAt idx (firstFrame q))))
+    (eb : b ≡ value (frame widths (frameAt idx (secondFrame q)))) where
+  abbrev front : ℕ
+  front = bitOr lead (a * 2 ^ n % 2 ^ 64)
 
-pub high-small : (idx : List ℕ) (q b c : ℕ) (r : Rem) → b ≡ value (frame widths (frameAt idx (secondFrame q))) → c ≡ code r
-    → bitOr (b / 2 ^ 20) (c * 2 ^ 24 % 2 ^ 64) < 2 ^ restBits
-high-small idx q b c r eb ec =
-    let hb : b / 2 ^ 20 < 2 ^ 24 = shr-lt 24 20 (word-small (frameAt idx (secondFrame q)) b eb) in
-    let hc : c < 2 ^ 4 = subst (λ (n : ℕ). n < 2 ^ 4) (sym ec) (code-lt r) in
-    joined-lt 24 4 (b / 2 ^ 20) c (lit≤ tt) hb hc
+  abbrev low : ℕ
+  low = bitOr front (b * 2 ^ (frameBits + n) % 2 ^ 64)
 
--- ---- two packets as 23 octets, by three words
-pub two-words : (a b c d : ℕ) → b < 2 ^ restBits → c < 2 ^ 64
-    → octets twoPackets ((field 64 a ++ field restBits b) ++ (field 64 c ++ field restBits d))
-    ≡ octets 8 (field 64 a) ++ (octets 8 (field 64 (bitOr b (c * 2 ^ restBits % 2 ^ 64))) ++ octets 7 (field 56 (bitOr (c / 2 ^ 36) (d * 2 ^ restBits % 2 ^ 64))))
-two-words a b c d hb hc =
-    let v = bitOr b (c * 2 ^ restBits % 2 ^ 64) in
-    let w = bitOr (c / 2 ^ 36) (d * 2 ^ restBits % 2 ^ 64) in
-    let hw : c / 2 ^ 36 < 2 ^ restBits = shr-lt restBits 36 hc in
-    let ev : field 64 v ≡ field restBits b ++ field 36 c = joined restBits 36 b c (lit≤ tt) hb in
-    let ew : field 56 w ≡ field restBits (c / 2 ^ 36) ++ field restBits d = joined restBits restBits (c / 2 ^ 36) d (lit≤ tt) hw in
-    let e : (field 64 a ++ field restBits b) ++ (field 64 c ++ field restBits d) ≡ field 64 a ++ (field 64 v ++ field 56 w) =
-    ap (λ (x : List Bool). (field 64 a ++ field restBits b) ++ (x ++ field restBits d)) (field-add 36 restBits c)
-    ∙ simp append-assoc (ap (λ (x : List Bool). field 64 a ++ x) (regroup (field restBits b) (field 36 c) (field restBits (c / 2 ^ 36)) (field restBits d)
-    ∙ ap₂ (λ (x y : List Bool). x ++ y) (sym ev) (sym ew))) in
-    ap (octets twoPackets) e ∙ octets-append 8 15 (field 64 a) (field 64 v ++ field 56 w) (length-field 64 a)
-    ∙ ap (λ (x : List ℕ). octets 8 (field 64 a) ++ x) (octets-append 8 7 (field 64 v) (field 56 w) (length-field 64 v))
-  where
-    regroup : (p q r s : List Bool) → p ++ (q ++ (r ++ s)) ≡ (p ++ q) ++ (r ++ s)
-    regroup p q r s = sym (append-assoc p q (r ++ s))
+  abbrev high : ℕ
+  high = bitOr (b / 2 ^ (20 - n)) (c * 2 ^ (24 + n) % 2 ^ 64)
 
+  front-small : front < 2 ^ (n + frameBits)
+  front-small = joined-lt n frameBits lead a (omega arith) hl (word-small (frameAt idx (firstFrame q)) a ea)
+
+  rest-small : b / 2 ^ (20 - n) < 2 ^ (24 + n)
+  rest-small =
+      let e : frameBits ≡ 24 + n + (20 - n) = omega arith in
+      shr-lt (24 + n) (20 - n) (subst (λ (m : ℕ). b < 2 ^ m) e (word-small (frameAt idx (secondFrame q)) b eb))
+
+  low-bits : field 64 low ≡ (field n lead ++ field frameBits a) ++ field (20 - n) b
+  low-bits =
+      let m : frameBits + n ≡ n + frameBits = omega arith in
+      let e : 64 ≡ n + frameBits + (20 - n) = omega arith in
+      ap₂ (λ (x y : ℕ). field x (bitOr front (b * 2 ^ y % 2 ^ 64))) e m ∙ joined (n + frameBits) (20 - n) front b (omega arith) front-small
+      ∙ ap (λ (l : List Bool). l ++ field (20 - n) b) (joined n frameBits lead a (omega arith) hl)
+
+  high-bits : field (restBits + n) high ≡ field (24 + n) (b / 2 ^ (20 - n)) ++ field 4 c
+  high-bits =
+      let e : restBits + n ≡ 24 + n + 4 = omega arith in
+      ap (λ (m : ℕ). field m high) e ∙ joined (24 + n) 4 (b / 2 ^ (20 - n)) c (omega arith) rest-small
+
+  second-bits : field frameBits b ≡ field (20 - n) b ++ field (24 + n) (b / 2 ^ (20 - n))
+  second-bits = let e : frameBits ≡ 20 - n + (24 + n) = omega arith in ap (λ (m : ℕ). field m b) e ∙ field-add (20 - n) (24 + n) b
+
+  pub pack-law : c ≡ code (crc (field frameBits a ++ field frameBits b)) → field 64 low ++ field (restBits + n) high ≡ field n lead ++ packetOf idx q
+  unfolding packetOf packet guarded
+  pack-law ec =
+      let f = frameAt idx (firstFrame q) in
+      let g = frameAt idx (secondFrame q) in
+      let fa : field frameBits a ≡ frame widths f = word-frame f a ea in
+      let fb : field frameBits b ≡ frame widths g = word-frame g b eb in
+      let d = frame widths f ++ frame widths g in
+      let fc : field 4 c ≡ sent (crc d) = ap (field 4) (ec ∙ ap₂ (λ (x y : List Bool). code (crc (x ++ y))) fa fb) ∙ code-field (crc d) in
+      ap₂ (λ (x y : List Bool). x ++ y) low-bits high-bits ∙ regroup (field n lead) (field frameBits a) (field (20 - n) b) (field (24 + n) (b / 2 ^ (20 - n))) (field 4 c)
+      ∙ ap (λ (x : List Bool). field n lead ++ x)
+      (ap₂ (λ (x y : List Bool). x ++ y) (ap₂ (λ (x y : List Bool). x ++ y) fa (sym second-bits ∙ fb)) fc)
+    where
+      regroup : (l x y z w : List Bool) → ((l ++ x) ++ y) ++ (z ++ w) ≡ l ++ ((x ++ (y ++ z)) ++ w)
+      regroup l x y z w = simp append-assoc
+
+  pub low-small : low < 2 ^ 64
+  low-small =
+      let e : n + frameBits ≤ 64 = omega arith in
+      or-lt 64 front (b * 2 ^ (frameBits + n) % 2 ^ 64) (lt-of-lt-of-le front-small (pow-mono e)) (mod-lt (b * 2 ^ (frameBits + n)) (pow-pos 64))
+
+  pub high-small : (r : Rem) → c ≡ code r → high < 2 ^ (restBits + n)
+  high-small r ec =
+      let e : 24 + n + 4 ≡ restBits + n = omega arith in
+      let hc : c < 2 ^ 4 = subst (λ (m : ℕ). m < 2 ^ 4) (sym ec) (code-lt r) in
+      subst (λ (m : ℕ). high < 2 ^ m) e (joined-lt (24 + n) 4 (b / 2 ^ (20 - n)) c (omega arith) rest-small hc)
+
+-- ---- two packets as 23 octets, in four stores: the third begins in the last octet of the second, whose bits it has again
 pub two-packets : (idx : List ℕ) (q : ℕ) → stream idx q 2 ≡ packetOf idx q ++ packetOf idx (q + 1)
 unfolding stream
 two-packets idx q = ap (λ (n : ℕ). packetOf idx n ++ packetOf idx (q + 1)) (add-zero q)
 
--- three stores behind each other
-pub put-two-law : (l : List ℕ) (at : ℕ) (idx : List ℕ) (q a b c d : ℕ) {m n o : List ℕ} → at + twoPackets ≤ length l → b < 2 ^ restBits → c < 2 ^ 64
-    → field 64 a ++ field restBits b ≡ packetOf idx q → field 64 c ++ field restBits d ≡ packetOf idx (q + 1)
-    → m ≡ over l at 8 (octets 8 (field 64 a)) → n ≡ over m (at + 8) 8 (octets 8 (field 64 (bitOr b (c * 2 ^ restBits % 2 ^ 64))))
-    → o ≡ over n (at + 16) 7 (octets 7 (field 56 (bitOr (c / 2 ^ 36) (d * 2 ^ restBits % 2 ^ 64)))) → o ≡ over l at twoPackets (octets twoPackets (stream idx q 2))
-put-two-law l at idx q a b c d {m} {n} {o} room hb hc ep eq em en eo =
+module _ (a b c d : ℕ) where
+  -- the second store: three octets that stay, and one that the third lays over
+  rest-octets : octets 4 (field 32 b) ≡ octets 3 (field 24 b) ++ octets 1 (field 8 (b / 2 ^ 24))
+  rest-octets = ap (octets 4) (field-add 24 8 b) ∙ octets-append 3 1 (field 24 b) (field 8 (b / 2 ^ 24)) (length-field 24 b)
+
+  two-words : (p q : List Bool) → field 64 a ++ field restBits b ≡ p → field 64 c ++ field 32 d ≡ field 4 (b / 2 ^ 24) ++ q
+      → octets twoPackets (p ++ q) ≡ ((octets 8 (field 64 a) ++ octets 3 (field 24 b)) ++ octets 8 (field 64 c)) ++ octets 4 (field 32 d)
+  two-words p q ep eq =
+      let e : p ++ q ≡ field 64 a ++ (field 24 b ++ (field 64 c ++ field 32 d)) =
+      ap (λ (x : List Bool). x ++ q) (sym ep ∙ ap (λ (x : List Bool). field 64 a ++ x) (field-add 24 4 b)) ∙ regroup (field 64 a) (field 24 b) (field 4 (b / 2 ^ 24)) q
+      ∙ ap (λ (x : List Bool). field 64 a ++ (field 24 b ++ x)) (sym eq) in
+      ap (octets twoPackets) e ∙ octets-append 8 15 (field 64 a) (field 24 b ++ (field 64 c ++ field 32 d)) (length-field 64 a)
+      ∙ ap (λ (x : List ℕ). octets 8 (field 64 a) ++ x)
+      (octets-append 3 12 (field 24 b) (field 64 c ++ field 32 d) (length-field 24 b) ∙ ap (λ (x : List ℕ). octets 3 (field 24 b) ++ x) (octets-append 8 4 (field 64 c) (field 32 d) (length-field 64 c)))
+      ∙ together (octets 8 (field 64 a)) (octets 3 (field 24 b)) (octets 8 (field 64 c)) (octets 4 (field 32 d))
+    where
+      regroup : (x y z w : List Bool) → (x ++ (y ++ z)) ++ w ≡ x ++ (y ++ (z ++ w))
+      regroup x y z w = simp append-assoc
+
+      together : (x y z w : List ℕ) → x ++ (y ++ (z ++ w)) ≡ ((x ++ y) ++ z) ++ w
+      together x y z w = simp append-assoc
+
+-- what is laid over a thing at its place, and is as long, takes its place
+in-place : (l x g : List ℕ) (at u v : ℕ) → at + u ≤ length l → length x ≡ u → u ≤ v → over (over l at u x) at v g ≡ over l at v g
+in-place l x g at u v room size h =
+    let r : at ≤ length l = omega arith in
+    let k : at + u ≤ at + v = omega arith in
+    ap₂ (λ (s t : List ℕ). s ++ (g ++ t)) (take-at (take at l) (x ++ drop (at + u) l) at (length-take-le at l r)) (drop-over l x at u room size (at + v) k)
+
+-- and what is laid behind f, over what stood there
+instead : (l : List ℕ) (at w u v : ℕ) (f x g : List ℕ) {m n : List ℕ} → at + (w + u) ≤ length l → length f ≡ w → length x ≡ u → u ≤ v
+    → m ≡ over l at (w + u) (f ++ x) → n ≡ over m (at + w) v g → n ≡ over l at (w + v) (f ++ g)
+instead l at w u v f x g {m} {n} room lf lx h em en =
+    let r : at + w ≤ length l = omega arith in
+    let s = over l at w f in
+    let k : at + w + u ≤ length s = omega (arith, length-over l f at w r lf) in
+    en ∙ ap (λ (y : List ℕ). over y (at + w) v g) (em ∙ sym (over-over l f at w r lf u x)) ∙ in-place s x g (at + w) u v k lx h ∙ over-over l f at w r lf v g
+
+pub put-two-law : (l : List ℕ) (at : ℕ) (idx : List ℕ) (q a b c d : ℕ) {k m n o : List ℕ} → at + twoPackets ≤ length l
+    → field 64 a ++ field restBits b ≡ packetOf idx q → field 64 c ++ field 32 d ≡ field 4 (b / 2 ^ 24) ++ packetOf idx (q + 1)
+    → k ≡ over l at 8 (octets 8 (field 64 a)) → m ≡ over k (at + 8) 4 (octets 4 (field 32 b))
+    → n ≡ over m (at + 11) 8 (octets 8 (field 64 c)) → o ≡ over n (at + 11 + 8) 4 (octets 4 (field 32 d)) → o ≡ over l at twoPackets (octets twoPackets (stream idx q 2))
+put-two-law l at idx q a b c d {k} {m} {n} {o} room ep eq ek em en eo =
     let f = octets 8 (field 64 a) in
-    let g = octets 8 (field 64 (bitOr b (c * 2 ^ restBits % 2 ^ 64))) in
-    let h = octets 7 (field 56 (bitOr (c / 2 ^ 36) (d * 2 ^ restBits % 2 ^ 64))) in
-    let h8 : at + 8 ≤ length l = omega arith in
-    let h16 : at + 16 ≤ length l = omega arith in
+    let g = octets 3 (field 24 b) in
+    let x = octets 1 (field 8 (b / 2 ^ 24)) in
+    let h = octets 8 (field 64 c) in
+    let i = octets 4 (field 32 d) in
+    let r₁ : at + 8 ≤ length l = omega arith in
+    let r₂ : at + (11 + 1) ≤ length l = omega arith in
+    let r₃ : at + 19 ≤ length l = omega arith in
     let lf : length f ≡ 8 = length-octets 8 (field 64 a) in
-    let lg : length g ≡ 8 = length-octets 8 (field 64 (bitOr b (c * 2 ^ restBits % 2 ^ 64))) in
-    let lfg : length (f ++ g) ≡ 16 = rw (length-append, lf, lg) in
-    let e : n ≡ over l at 16 (f ++ g) = behind l at 8 8 f g h8 lf em en in
-    behind l at 16 7 (f ++ g) h h16 lfg e eo
-    ∙ ap (over l at twoPackets)
-    (append-assoc f g h ∙ sym (two-words a b c d hb hc) ∙ ap (octets twoPackets) (ap₂ (λ (x y : List Bool). x ++ y) ep eq ∙ sym (two-packets idx q)))
+    let lg : length g ≡ 3 = length-octets 3 (field 24 b) in
+    let lh : length h ≡ 8 = length-octets 8 (field 64 c) in
+    let lfg : length (f ++ g) ≡ 11 = rw (length-append, lf, lg) in
+    let lfgh : length ((f ++ g) ++ h) ≡ 19 = rw (length-append, lfg, lh) in
+    let e₂ : m ≡ over l at (11 + 1) ((f ++ g) ++ x) =
+    behind l at 8 4 f (octets 4 (field 32 b)) r₁ lf ek em ∙ ap (over l at 12) (ap (λ (y : List ℕ). f ++ y) (rest-octets a b c d) ∙ sym (append-assoc f g x)) in
+    let e₃ : n ≡ over l at 19 ((f ++ g) ++ h) = instead l at 11 1 8 (f ++ g) x h r₂ lfg (length-octets 1 (field 8 (b / 2 ^ 24))) (lit≤ tt) e₂ en in
+    let z : at + 11 + 8 ≡ at + 19 = omega arith in
+    behind l at 19 4 ((f ++ g) ++ h) i r₃ lfgh e₃ (eo ∙ ap (λ (y : ℕ). over n y 4 i) z)
+    ∙ ap (over l at twoPackets) (sym (two-words a b c d (packetOf idx q) (packetOf idx (q + 1)) ep eq) ∙ ap (octets twoPackets) (sym (two-packets idx q)))
 
 -- ---- the stream, two packets at a time
 pub stream-none : (idx : List ℕ) (q : ℕ) (l : List ℕ) (at : ℕ) → l ≡ over l at 0 (octets 0 (stream idx q 0))
@@ -275,6 +337,3 @@ apart-law l at a b s to {m} {n} room fit ea eb em en =
     front-word y b eb hy ∙ ap (indices widths) (sym (ap₂ drop total-widths ep ∙ drop-at x y frameBits lx)) in
     let h7 : to + frameIndices ≤ length s = omega arith in
     behind s to frameIndices frameIndices f g h7 (length-numbers widths (field frameBits a)) em en ∙ ap₂ (λ (u v : List ℕ). over s to pairIndices (u ++ v)) ef eg
-
-pub low-small : (a b : ℕ) → a < 2 ^ frameBits → bitOr a (b * 2 ^ frameBits % 2 ^ 64) < 2 ^ 64
-low-small a b h = or-lt 64 a (b * 2 ^ frameBits % 2 ^ 64) (lt-of-lt-of-le h (lit≤ tt)) (mod-lt (b * 2 ^ frameBits) (pow-pos 64))

@@ -3,7 +3,7 @@
 -- Assumes nothing.
 use mathlib.Core.Bool.{Bool}
 use mathlib.Core.List.{List, [], _∷_, _++_}
-use Prim.Native.Nat.{ℕ, zero, suc, _+_, _-_, _*_, _/_}
+use Prim.Native.Nat.{ℕ, zero, suc, _+_, _-_, _*_, _/_, _%_}
 use lib.ListN.{drop, getD}
 use Rattle.layout.specs.Layout.{widths, frameIndices, frameBits, crcBits, packetBits, firstFrame, secondFrame}
 use Rattle.bits.specs.Bits.{laid, numbers, total}
@@ -13,6 +13,10 @@ use Rattle.crc.specs.Crc.{crc, sent}
 -- a packet's bits behind its first 64
 abbrev pub restBits : ℕ
 restBits = packetBits - 64
+
+-- a packet's bits in its last octet, if it began with one; as many lead an odd packet in its first
+abbrev pub halfBits : ℕ
+halfBits = packetBits % 8
 
 -- the second frame and the CRC
 abbrev pub secondBits : ℕ

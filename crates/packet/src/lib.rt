@@ -15,7 +15,7 @@ ghost use Rattle.lists.specs.Lent.{came, left};
 ghost use Rattle.layout.specs.Layout.{widths, frameIndices, frameBits, pairIndices, dataBits, packetBits, packetStart, multiframePairs, streamOctets};
 ghost use Rattle.bits.specs.Bits.{bits, field, value, octets};
 ghost use Rattle.crc.specs.Crc.{crc, code, right};
-ghost use Rattle.packet.specs.Packet.{restBits, secondBits, twoPackets, frame, indices, apart, frameAt, packetOf, stream};
+ghost use Rattle.packet.specs.Packet.{restBits, halfBits, secondBits, twoPackets, frame, indices, apart, frameAt, packetOf, stream};
 
 // Bits of a word, and the packet's bits that are left when one is full.
 const WORD: usize = 64;
@@ -26,6 +26,14 @@ const REST: usize = PacketLayout::BITS - WORD;
 const TWO: usize = 2 * PacketLayout::BITS / 8;
 
 const FULL: usize = WORD / 8;
+
+// Of two packets the second begins in the middle of this octet, behind these bits of the first.
+const ODD: usize = PacketLayout::BITS / 8;
+
+const HALF: usize = PacketLayout::BITS % 8;
+
+// Octets of what is left of a packet when a word is full, with half an octet that is not its own.
+const TAIL: usize = (REST + HALF) / 8;
 
 // A frame's whole octets, their bits, and the bits behind them; with the CRC's four bits more a frame is one octet more.
 const WHOLE: u32 = (FrameLayout::BITS / 8) as u32;
@@ -89,43 +97,41 @@ fn crc_of(a: u64, b: u64) -> u64
     )
 }
 
-// A packet as two numbers: its first 64 bits, and its last 28.
+// A packet behind n leading bits, as two numbers: the first 64 bits, and the last 28 + n.
 pub struct Packed {
     pub low: u64,
     pub high: u64,
 }
 
-// pack gives the packet of pair q.
-pub fn pack(idx: &[u8], q: Pair) -> Packed
+// pack gives the packet of pair q behind the n bits lead. It asks for at most the half octet in which an odd packet begins.
+pub fn pack(idx: &[u8], q: Pair, lead: u64, n: usize) -> Packed
     requires { ⌜ (length (now idx) % frameIndices ≡ 0) × (q .0 < 2 ^ 20) ⌝ }
-    ensures bits { λ r. ⌜ field 64 (r .low) ++ field restBits (r .high) ≡ packetOf (came idx) (q .0) ⌝ }
-    ensures fits { λ r. ⌜ (r .low < 2 ^ 64) × (r .high < 2 ^ restBits) ⌝ }
+    requires { ⌜ (n ≤ halfBits) × (lead < 2 ^ n) ⌝ }
+    ensures bits { λ r. ⌜ field 64 (r .low) ++ field (restBits + n) (r .high) ≡ field n lead ++ packetOf (came idx) (q .0) ⌝ }
+    ensures fits { λ r. ⌜ (r .low < 2 ^ 64) × (r .high < 2 ^ (restBits + n)) ⌝ }
 {
     let a = frame_word(idx, q.first());
     let b = frame_word(idx, q.second());
     let c = crc_of(a, b);
     Packed {
-        low: a | (b << FrameLayout::BITS),
-        high: (b >> (WORD - FrameLayout::BITS)) | (c << (PacketLayout::DATA_BITS - WORD)),
+        low: lead | (a << n) | (b << (FrameLayout::BITS + n)),
+        high: (b >> (WORD - FrameLayout::BITS - n)) | (c << (PacketLayout::DATA_BITS - WORD + n)),
     }
 }
 
-// put_two stores the packets of pairs q and q + 1 from octet at on, by three words; nothing is read back.
+// put_two stores the packets of pairs q and q + 1 from octet at on, and reads nothing back. The second is packed behind the bits of the first
+// that share its octet, so that each store is a word or half of one as it stands: of two words joined in a store the compiler makes octets.
 fn put_two(idx: &[u8], q: Pair, out: &mut [u8], at: usize)
     requires { ⌜ (length (now idx) % frameIndices ≡ 0) × (q .0 + 1 < 2 ^ 20) ⌝ }
     requires { ⌜ at + twoPackets ≤ length (now out) ⌝ }
     ensures { λ _. ⌜ left out ≡ over (came out) at twoPackets (octets twoPackets (stream (came idx) (q .0) 2)) ⌝ }
 {
-    let a = pack(idx, q);
-    let b = pack(idx, Pair(q.0 + 1));
+    let a = pack(idx, q, 0, 0);
+    let b = pack(idx, Pair(q.0 + 1), a.high >> (REST - HALF), HALF);
     bits::store(out, at, a.low, FULL);
-    bits::store(out, at + FULL, a.high | (b.low << REST), FULL);
-    bits::store(
-        out,
-        at + 2 * FULL,
-        (b.low >> (WORD - REST)) | (b.high << REST),
-        TWO - 2 * FULL,
-    );
+    bits::store(out, at + FULL, a.high, TAIL);
+    bits::store(out, at + ODD, b.low, FULL);
+    bits::store(out, at + ODD + FULL, b.high, TAIL);
 }
 
 // put_stream stores a multiframe's stream, the packets of twelve pairs from pair q on, from octet at on; every other octet stays.

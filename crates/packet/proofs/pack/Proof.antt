@@ -1,4 +1,5 @@
--- `packet::pack` meets its contract: the first word is one frame and the front of the other, the second number what is left and the CRC.
+-- `packet::pack` meets its contract: the first word is the leading bits, one frame and the front of the other, the second number what is left
+-- and the CRC.
 -- Assumes nothing.
 use mathlib.Core.Path.{_≡_, ap, _∙_}
 use mathlib.Core.List.{_++_}
@@ -31,36 +32,54 @@ crc-of-requires c κs =
     let a = f .before .before .before .args in
     word-small (frameAt (now (a .idx)) (f .before .first .result .0)) (f .frame-word .result) (f .frame-word .ensures)
 
-shl-t8 : tie.Need-shl-t8
-shl-t8 c = search needs
+shl-t10 : tie.Need-shl-t10
+shl-t10 c = search needs
 
-sub-t10 : tie.Need-sub-t10
-sub-t10 c = search needs
+add-t12 : tie.Need-add-t12
+add-t12 c = search needs
 
-shr-t12 : tie.Need-shr-t12
-shr-t12 c = search needs
+shl-t14 : tie.Need-shl-t14
+shl-t14 c = search needs
 
-sub-t13 : tie.Need-sub-t13
-sub-t13 c = search needs
+sub-t16 : tie.Need-sub-t16
+sub-t16 c = search needs
 
-shl-t15 : tie.Need-shl-t15
-shl-t15 c = search needs
+sub-t17 : tie.Need-sub-t17
+sub-t17 c = search needs
+
+shr-t19 : tie.Need-shr-t19
+shr-t19 c = search needs
+
+sub-t20 : tie.Need-sub-t20
+sub-t20 c = search needs
+
+add-t21 : tie.Need-add-t21
+add-t21 c = search needs
+
+shl-t23 : tie.Need-shl-t23
+shl-t23 c = search needs
 
 returns : tie.Need-returns
 returns c =
     let g = c .before in
     let f = g .before .before in
-    let a = f .before .before .before .args in
+    let s = f .before .before .before in
+    let a = s .args in
     let idx = now (a .idx) in
     let q = a .q .0 in
-    let ea : f .frame-word .result ≡ value (frame widths (frameAt idx (firstFrame q))) =
+    let x = f .frame-word .result in
+    let y = g .frame-word2 .result in
+    let z = c .crc-of .result in
+    let hn = s .pre .1 .0 in
+    let hl = s .pre .1 .1 in
+    let ea : x ≡ value (frame widths (frameAt idx (firstFrame q))) =
     f .frame-word .ensures ∙ ap (λ (k : ℕ). value (frame widths (frameAt idx k))) (f .before .first .ensures) in
-    let eb : g .frame-word2 .result ≡ value (frame widths (frameAt idx (secondFrame q))) =
+    let eb : y ≡ value (frame widths (frameAt idx (secondFrame q))) =
     g .frame-word2 .ensures ∙ ap (λ (k : ℕ). value (frame widths (frameAt idx k))) (g .before .second .ensures) in (
-      pack-law idx q (f .frame-word .result) (g .frame-word2 .result) (c .crc-of .result) ea eb (c .crc-of .ensures),
+      pack-law idx q x y z (a .lead) (a .n) hn hl ea eb (c .crc-of .ensures),
       (
-        low-small (f .frame-word .result) (g .frame-word2 .result) (word-small (frameAt idx (firstFrame q)) (f .frame-word .result) ea),
-        high-small idx q (g .frame-word2 .result) (c .crc-of .result) (crc (field frameBits (f .frame-word .result) ++ field frameBits (g .frame-word2 .result))) eb (c .crc-of .ensures),
+        low-small idx q x y z (a .lead) (a .n) hn hl ea eb,
+        high-small idx q x y z (a .lead) (a .n) hn hl ea eb (crc (field frameBits x ++ field frameBits y)) (c .crc-of .ensures),
       ),
     )
 
@@ -73,9 +92,13 @@ pack-spec =
     second-requires
     frame-word-requires-2
     crc-of-requires
-    shl-t8
-    sub-t10
-    shr-t12
-    sub-t13
-    shl-t15
+    shl-t10
+    add-t12
+    shl-t14
+    sub-t16
+    sub-t17
+    shr-t19
+    sub-t20
+    add-t21
+    shl-t23
     returns)
