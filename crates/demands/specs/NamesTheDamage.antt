@@ -28,8 +28,11 @@ use Rattle.notes.specs.Laws.{length-notes, length-all, frames-at}
 use Rattle.bad_pairs.specs.BadPairs.{bad, badPairs}
 use Rattle.bad_pairs.specs.Laws.{Good, none-good}
 use Rattle.replacing.specs.Laws.{good-kept}
-use Rattle.reader.specs.Reading.{indexPart, reportPart, summary, Outcome, outcome, reading, receivedFrames, receivedNotes}
-use Rattle.reader.specs.ReadingLaws.{Fitting, length-index}
+use Rattle.deciding.specs.Deciding.{receivedNotes}
+use Rattle.report.specs.Report.{reportPart}
+use Rattle.reader.specs.Reading.{indexPart, summary, Outcome, outcome, reading, receivedFrames}
+use Rattle.deciding.specs.Laws.{Fitting}
+use Rattle.reader.specs.ReadingLaws.{length-index}
 use Rattle.reader.specs.declared.Summary.{Summary}
 use Rattle.reader.specs.declared.Answer.the-variants.{Read}
 use Rattle.image.specs.Made.{part-within}

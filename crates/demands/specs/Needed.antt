@@ -14,7 +14,8 @@ use lib.ListN.{length, getD, replicate, take, drop}
 use lib.Seq.{take-append-le}
 use Rattle.cutting.specs.Cutting.{cutting}
 use Rattle.replacing.specs.Speech.{speechOf, endOf}
-use Rattle.reader.specs.Reading.{indexPart, Outcome, receivedNotes}
+use Rattle.deciding.specs.Deciding.{receivedNotes}
+use Rattle.reader.specs.Reading.{indexPart, Outcome}
 use Rattle.reader.specs.ReadingLaws.{length-index}
 use Rattle.reader.specs.declared.Summary.{Summary}
 use Rattle.image.specs.Image.{image}

@@ -20,7 +20,7 @@ use Rattle.packet.specs.Packet.{apart, frameAt}
 use Rattle.packet.specs.Laws.{length-row, packetOf-back}
 use Rattle.consistency.specs.Consistency.{inconsistent}
 use Rattle.cutting.specs.Laws.{every-length}
-use Rattle.reader.specs.Reading.{receivedNotes}
+use Rattle.deciding.specs.Deciding.{receivedNotes}
 use Rattle.carrier.specs.Carrier.{received, pairCount}
 use Rattle.notes.specs.Notes.{pairFails, framesOf, pairInconsistent, pairNotes}
 use Rattle.notes.specs.Laws.{length-notes}

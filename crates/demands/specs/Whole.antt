@@ -24,9 +24,12 @@ use Rattle.settling.specs.declared.Settlement.the-variants as S
 use Rattle.settling.specs.Settling.{readings, settling, headerNote}
 use Rattle.carrier.specs.Carrier.{streamFrom, headerWord, streamPacket, wordAt, streamAt, inPlaces, received, pairCount}
 use Rattle.bad_pairs.specs.BadPairs.{badPairs}
-use Rattle.reader.specs.Reading.{indexPart, reportPart, summary, roomVerdict, settledVerdict, wholeVerdict, endVerdict, verdict, finished, outcome, reading, receivedNotes}
-use Rattle.reader.specs.ReadingLaws.{Usable, Fitting, Accepted, accepting, length-report, report-at}
-use Rattle.reader.specs.declared.Verdict.{Verdict}
+use Rattle.deciding.specs.Deciding.{roomVerdict, settledVerdict, wholeVerdict, receivedNotes}
+use Rattle.report.specs.Report.{reportPart, length-report, report-at}
+use Rattle.reader.specs.Reading.{indexPart, summary, endVerdict, verdict, finished, outcome, reading}
+use Rattle.deciding.specs.Laws.{Usable, Fitting}
+use Rattle.reader.specs.ReadingLaws.{Accepted, accepting}
+use Rattle.deciding.specs.declared.Verdict.{Verdict}
 use Rattle.refusals.specs.declared.Reading.the-variants.{Unsettled, AllBad}
 use Rattle.reader.specs.declared.Answer.the-variants.{Read, Refused}
 use Rattle.image.specs.Made.{syncIn, wordIn, packetIn, streamIn}

@@ -32,12 +32,14 @@ use Rattle.notes.specs.Laws.{length-notes, length-all, frames-at}
 use Rattle.bad_pairs.specs.BadPairs.{noteBy, notes}
 use Rattle.bad_pairs.specs.Laws.{badBefore, note-at, failed-is-1}
 use Rattle.replacing.specs.Speech.{speechOf, endOf}
-use Rattle.reader.specs.Reading.{indexPart, reportPart, summary, verdict, finished, Outcome, outcome, reading, receivedFrames, receivedNotes}
+use Rattle.deciding.specs.Deciding.{receivedNotes}
+use Rattle.report.specs.Report.{reportPart}
+use Rattle.reader.specs.Reading.{indexPart, summary, verdict, finished, Outcome, outcome, reading, receivedFrames}
 use Rattle.reader.specs.ReadingLaws.{Accepted, accepted}
 use Rattle.reader.specs.declared.Summary.{Summary}
 use Rattle.refusals.specs.declared.Reading.{Reading as Refusal}
-use Rattle.reader.specs.declared.Verdict.{Verdict}
-use Rattle.reader.specs.declared.Verdict.the-variants.{Refuse, Accept}
+use Rattle.deciding.specs.declared.Verdict.{Verdict}
+use Rattle.deciding.specs.declared.Verdict.the-variants.{Refuse, Accept}
 use Rattle.reader.specs.declared.Answer.{Answer}
 use Rattle.reader.specs.declared.Answer.the-variants.{Read, Refused}
 use Rattle.image.specs.Image.{image}

@@ -16,8 +16,10 @@ use Rattle.settings.specs.declared.Settings.{Settings}
 use Rattle.cutting.specs.Cutting.{cutting}
 use Rattle.carrier.specs.Carrier.{received, pairCount}
 use Rattle.notes.specs.Laws.{length-notes}
-use Rattle.reader.specs.Reading.{indexPart, reportPart, Outcome, outcome, reading, receivedNotes}
-use Rattle.reader.specs.ReadingLaws.{length-index, length-report}
+use Rattle.deciding.specs.Deciding.{receivedNotes}
+use Rattle.report.specs.Report.{reportPart, length-report}
+use Rattle.reader.specs.Reading.{indexPart, Outcome, outcome, reading}
+use Rattle.reader.specs.ReadingLaws.{length-index}
 use Rattle.reader.specs.declared.Summary.{Summary}
 use Rattle.reader.specs.declared.Answer.{Answer}
 use Rattle.reader.specs.declared.Answer.the-variants.{Read}

@@ -22,9 +22,9 @@ use Rattle.settling.specs.declared.Settlement.the-variants as S
 use Rattle.header.specs.Message.{rateOf, expOf}
 use Rattle.hunt.specs.Hunt.{multiframeBits, inRange, searched, passes, placesLeft}
 use Rattle.reader.specs.Reading as R
-use Rattle.reader.specs.Reading.{roomVerdict, settledVerdict, wholeVerdict}
-use Rattle.reader.specs.declared.Verdict.{Verdict}
-use Rattle.reader.specs.declared.Verdict.the-variants.{Refuse, Accept}
+use Rattle.deciding.specs.Deciding.{receivedNotes, roomVerdict, settledVerdict, wholeVerdict}
+use Rattle.deciding.specs.declared.Verdict.{Verdict}
+use Rattle.deciding.specs.declared.Verdict.the-variants.{Refuse, Accept}
 use Rattle.refusals.specs.declared.Reading.{Reading as OctetRefusal}
 use Rattle.refusals.specs.declared.Reading.the-variants as RR
 use Rattle.reader.specs.declared.Summary.{Summary}
@@ -121,7 +121,7 @@ module _ (s ps : List ℕ) (some : 0 < length ps) (few : length ps ≤ mostMulti
       by : (v : Verdict) → R.finished image tables index report rows v .answer ≡ RA.Read g → g .multiframes ≡ length ps
       by (Refuse q) f = let z : _≡_ {A = ℕ} 0 1 = cc in absurd (omega arith)
       by (Accept c) f =
-          let x = R.summary image rows (R.receivedNotes image rows tables) c in
+          let x = R.summary image rows (receivedNotes image rows tables) c in
           let z : x ≡ g = cc in
           sym (ap (λ (y : Summary). y .multiframes) z) ∙ every-length 0 (length ps)
 

@@ -41,8 +41,9 @@ use Rattle.settling.specs.Laws.{only-clean, only-mended}
 use Rattle.settling.specs.declared.Settlement.the-variants as S
 use Rattle.hunt.specs.Hunt.{syncBits, headerBits, multiframeBits, fewestMatches, inRange, sync, matches, passes, searched, placesLeft}
 use Rattle.hunt.specs.Laws.{searched-all, in-range}
+use Rattle.deciding.specs.Deciding.{roomVerdict, settledVerdict, wholeVerdict}
 use Rattle.reader.specs.Reading as R
-use Rattle.reader.specs.ReadingLaws.{Usable}
+use Rattle.deciding.specs.Laws.{Usable}
 use Rattle.reader.specs.declared.Answer.the-variants as RA
 use Rattle.refusals.specs.declared.Reading.the-variants.{Unsettled, IndexShort}
 use Rattle.gathering.specs.Gathering.{imageOf as foundImage, outsideOf}
@@ -150,7 +151,7 @@ module _ (s : List ℕ) (m : ℕ) (some : 0 < m) (few : m ≤ mostMultiframes) (
     (codebook-size : length (tables .codebook) ≡ codebookNumbers) (thresholds-size : length (tables .thresholds) ≡ thresholdNumbers) where
   refuses-18 : (c : ℕ) → settling (readings s (rowOf m)) ≡ S.Settled c → Usable c → length index < indexOctets * m
       → R.reading s tables index report ≡ R.outcome (RA.Refused (IndexShort (indexOctets * m))) index report
-  unfolding R.reading R.verdict R.wholeVerdict R.settledVerdict R.roomVerdict
+  unfolding R.reading R.verdict wholeVerdict settledVerdict roomVerdict
   refuses-18 c e u short =
       let k = every-length 0 m in
       let i : length index < indexOctets * length (rowOf m) = subst (λ (n : ℕ). length index < indexOctets * n) (sym k) short in

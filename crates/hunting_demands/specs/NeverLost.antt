@@ -23,7 +23,7 @@ use Rattle.header.specs.declared.Header.the-variants.{Codeword, Lost}
 use Rattle.cutting.specs.Cutting.{Cutting, cutting}
 use Rattle.cutting.specs.Laws.{every-length}
 use Rattle.settling.specs.Settling.{readings, headerNote}
-use Rattle.reader.specs.Reading.{receivedNotes}
+use Rattle.deciding.specs.Deciding.{receivedNotes}
 use Rattle.carrier.specs.Carrier.{received, pairCount}
 use Rattle.settling.specs.Laws.{note-flips}
 use Rattle.notes.specs.Laws.{length-notes}

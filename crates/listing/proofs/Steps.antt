@@ -10,11 +10,12 @@ use Rattle.consistency.specs.Tables.{Tables, zeroTables}
 use Rattle.layout.specs.Layout.{mostMultiframes, indexOctets, reportOctets}
 use Rattle.refusals.specs.declared.Reading.{Reading}
 use Rattle.cutting.specs.Cutting.{cutting}
-use Rattle.reader.specs.Reading.{Outcome, outcome, reading, finished, verdict, summary, receivedNotes}
+use Rattle.deciding.specs.Deciding.{receivedNotes}
+use Rattle.reader.specs.Reading.{Outcome, outcome, reading, finished, verdict, summary}
 use Rattle.reader.specs.ReadingLaws.{accepted}
 use Rattle.reader.specs.declared.Summary.{Summary}
-use Rattle.reader.specs.declared.Verdict.{Verdict}
-use Rattle.reader.specs.declared.Verdict.the-variants.{Refuse, Accept}
+use Rattle.deciding.specs.declared.Verdict.{Verdict}
+use Rattle.deciding.specs.declared.Verdict.the-variants.{Refuse, Accept}
 use Rattle.reader.specs.declared.Answer.{Answer}
 use Rattle.reader.specs.declared.Answer.the-variants.{Read, Refused}
 use Rattle.text.specs.Text.{Put}

@@ -8,7 +8,8 @@ use lib.ListN.{replicate, length-replicate}
 use Rattle.layout.specs.Layout.{mostMultiframes, indexOctets, reportOctets, codebookNumbers, thresholdNumbers}
 use Rattle.cutting.specs.Cutting.{walk}
 use Rattle.refusals.specs.declared.Reading.the-variants.{Empty}
-use Rattle.reader.specs.Reading.{Outcome, outcome, wholeVerdict}
+use Rattle.deciding.specs.Deciding.{wholeVerdict}
+use Rattle.reader.specs.Reading.{Outcome, outcome}
 use Rattle.reader.specs.Steps.{whole-reading}
 use Rattle.reader.specs.declared.Answer.the-variants.{Refused}
 use Rattle.lines.specs.Examples.{empty-refused}

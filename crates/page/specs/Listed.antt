@@ -41,9 +41,12 @@ use Rattle.notes.specs.Laws.{length-notes, no-failed-crc}
 use Rattle.bad_pairs.specs.BadPairs.{noteBy, notes, badPairs}
 use Rattle.replacing.specs.Replacing.{runStart, leading, sourceBy, source, replaced}
 use Rattle.replacing.specs.Speech.{lastNonzero, speechOf, endOf}
-use Rattle.reader.specs.Reading.{answerNumber, answerValues, summary, indexPart, reportPart, Outcome, outcome, finished, reading, receivedFrames, receivedNotes}
-use Rattle.reader.specs.ReadingLaws.{Usable, Fitting, Accepted, accepting}
-use Rattle.reader.specs.declared.Verdict.{Verdict}
+use Rattle.deciding.specs.Deciding.{receivedNotes}
+use Rattle.report.specs.Report.{reportPart}
+use Rattle.reader.specs.Reading.{answerNumber, answerValues, summary, indexPart, Outcome, outcome, finished, reading, receivedFrames}
+use Rattle.deciding.specs.Laws.{Usable, Fitting}
+use Rattle.reader.specs.ReadingLaws.{Accepted, accepting}
+use Rattle.deciding.specs.declared.Verdict.{Verdict}
 use Rattle.reader.specs.declared.Answer.the-variants.{Read}
 use Rattle.demands.specs.Examples as E
 use Rattle.demands.specs.Met.{zero-consistent}

@@ -39,8 +39,9 @@ use Rattle.settling.specs.declared.Settlement.{Settlement}
 use Rattle.settling.specs.declared.Settlement.the-variants as S
 use Rattle.notes.specs.Notes.{pairFails, pairNotes, pairInconsistent}
 use Rattle.bad_pairs.specs.BadPairs.{noteBy, notes, badPairs}
-use Rattle.reader.specs.Reading.{answerNumber, answerValues, roomVerdict, settledVerdict, wholeVerdict, Outcome, outcome, finished, reading, receivedNotes}
-use Rattle.reader.specs.ReadingLaws.{Usable}
+use Rattle.deciding.specs.Deciding.{roomVerdict, settledVerdict, wholeVerdict, receivedNotes}
+use Rattle.reader.specs.Reading.{answerNumber, answerValues, Outcome, outcome, finished, reading}
+use Rattle.deciding.specs.Laws.{Usable}
 use Rattle.reader.specs.Steps.{wrong-tables, not-cut, whole-reading}
 use Rattle.refusals.specs.Refusals.{readingNumber, readingPlace}
 use Rattle.refusals.specs.declared.Reading.{Reading as Refusal}

@@ -13,7 +13,8 @@ use Rattle.cutting.specs.declared.Piece.{Piece}
 use Rattle.cutting.specs.declared.Piece.the-variants.{End, Multiframe, Inverse, Unknown, CutShort, TooMany}
 use Rattle.cutting.specs.Cutting.{pieceOf, whole, refused, Cutting, prepend, step, walk, cutting}
 use Rattle.cutting.specs.Laws.{multiframe-met, inverse-met, Says, says, walk-step, Chunk, multiframe, inverse, octetsOf, placesOf, Proper}
-use Rattle.reader.specs.Reading.{wholeVerdict, endVerdict, verdict, Outcome, outcome, reading}
+use Rattle.deciding.specs.Deciding.{wholeVerdict}
+use Rattle.reader.specs.Reading.{endVerdict, verdict, Outcome, outcome, reading}
 use Rattle.reader.specs.ReadingLaws.{refused-keeps}
 use Rattle.refusals.specs.Refusals.{readingNumber, readingPlace}
 use Rattle.refusals.specs.declared.Reading.{Reading as Refusal}

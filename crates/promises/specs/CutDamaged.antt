@@ -24,7 +24,9 @@ use Rattle.bad_pairs.specs.Laws.{Good}
 use Rattle.replacing.specs.Replacing.{replaced}
 use Rattle.replacing.specs.Laws.{good-kept, Run, at-the-end, frame-replaced}
 use Rattle.replacing.specs.Speech.{endOf}
-use Rattle.reader.specs.Reading.{indexPart, reportPart, summary, Outcome, outcome, reading, receivedFrames, receivedNotes}
+use Rattle.deciding.specs.Deciding.{receivedNotes}
+use Rattle.report.specs.Report.{reportPart}
+use Rattle.reader.specs.Reading.{indexPart, summary, Outcome, outcome, reading, receivedFrames}
 use Rattle.reader.specs.declared.Summary.{Summary}
 use Rattle.reader.specs.declared.Answer.the-variants.{Read}
 use Rattle.image.specs.Made.{packetIn}

@@ -40,7 +40,9 @@ use Rattle.notes.specs.Laws.{length-notes, length-all, no-failed-crc}
 use Rattle.bad_pairs.specs.BadPairs.{badPairs}
 use Rattle.bad_pairs.specs.Laws.{Good}
 use Rattle.replacing.specs.Speech.{speechOf, endOf, place-stop}
-use Rattle.reader.specs.Reading.{indexPart, reportPart, summary, Outcome, outcome, reading, receivedFrames, receivedNotes}
+use Rattle.deciding.specs.Deciding.{receivedNotes}
+use Rattle.report.specs.Report.{reportPart}
+use Rattle.reader.specs.Reading.{indexPart, summary, Outcome, outcome, reading, receivedFrames}
 use Rattle.reader.specs.ReadingLaws.{Accepted}
 use Rattle.reader.specs.declared.Summary.{Summary}
 use Rattle.reader.specs.declared.Answer.the-variants.{Read, Refused}

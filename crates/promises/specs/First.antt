@@ -33,7 +33,9 @@ use Rattle.notes.specs.Notes.{pairFails, framesOf, pairNotes, pairInconsistent}
 use Rattle.notes.specs.Laws.{length-notes, length-all, frames-at}
 use Rattle.bad_pairs.specs.BadPairs.{noteBy, notes}
 use Rattle.bad_pairs.specs.Laws.{failed-is-1, consistent-is-good, badBefore, note-at, Good, none-good}
-use Rattle.reader.specs.Reading.{indexPart, reportPart, summary, outcome, reading, receivedFrames, receivedNotes}
+use Rattle.deciding.specs.Deciding.{receivedNotes}
+use Rattle.report.specs.Report.{reportPart}
+use Rattle.reader.specs.Reading.{indexPart, summary, outcome, reading, receivedFrames}
 use Rattle.reader.specs.declared.Answer.the-variants.{Read}
 use Rattle.image.specs.Made.{syncIn, wordIn, packetIn, part-within}
 use Rattle.image.specs.Laws.{length-image, image-sync}

@@ -45,8 +45,10 @@ use Rattle.notes.specs.Notes.{pairFails, framesOf, pairInconsistent, pairNotes}
 use Rattle.notes.specs.Laws.{length-notes}
 use Rattle.bad_pairs.specs.BadPairs.{noteBy, notes}
 use Rattle.bad_pairs.specs.Laws.{Good, none-good, badBefore, note-at, consistent-is-good}
-use Rattle.reader.specs.Reading.{indexPart, reportPart, summary, Outcome, outcome, reading, receivedNotes}
-use Rattle.reader.specs.ReadingLaws.{Usable}
+use Rattle.deciding.specs.Deciding.{receivedNotes}
+use Rattle.report.specs.Report.{reportPart}
+use Rattle.reader.specs.Reading.{indexPart, summary, Outcome, outcome, reading}
+use Rattle.deciding.specs.Laws.{Usable}
 use Rattle.reader.specs.declared.Answer.the-variants.{Read}
 use Rattle.image.specs.Made.{syncIn, wordIn, packetIn, made, framed, length-made, made-sync, made-word, made-packet}
 use Rattle.image.specs.Laws.{length-image, image-sync, image-packet}

@@ -14,7 +14,8 @@ use Rattle.consistency.specs.Tables.{Tables}
 use Rattle.frames.specs.Frames.{allZero, zeroFrame}
 use Rattle.cutting.specs.Laws.{every-length}
 use Rattle.replacing.specs.Speech.{lastNonzero, speechOf, endOf}
-use Rattle.reader.specs.Reading.{indexPart, summary, Outcome, outcome, reading, receivedNotes}
+use Rattle.deciding.specs.Deciding.{receivedNotes}
+use Rattle.reader.specs.Reading.{indexPart, summary, Outcome, outcome, reading}
 use Rattle.reader.specs.declared.Summary.{Summary}
 use Rattle.reader.specs.declared.Answer.the-variants.{Read}
 use Rattle.image.specs.Made.{packetIn}

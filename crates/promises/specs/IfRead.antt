@@ -20,7 +20,8 @@ use Rattle.settling.specs.declared.Settlement.the-variants.{Settled}
 use Rattle.notes.specs.Laws.{length-notes}
 use Rattle.bad_pairs.specs.BadPairs.{bad, badPairs}
 use Rattle.bad_pairs.specs.Laws.{few-bad, Good, some-good}
-use Rattle.reader.specs.Reading.{Outcome, outcome, reading, receivedNotes}
+use Rattle.deciding.specs.Deciding.{receivedNotes}
+use Rattle.reader.specs.Reading.{Outcome, outcome, reading}
 use Rattle.reader.specs.declared.Summary.{Summary}
 use Rattle.reader.specs.declared.Answer.the-variants.{Read}
 use Rattle.image.specs.Made.{syncIn}

@@ -36,7 +36,8 @@ use Rattle.settling.specs.Laws.{two-settle}
 use Rattle.carrier.specs.Carrier.{received, pairCount}
 use Rattle.settling.specs.declared.Settlement.the-variants.{Settled}
 use Rattle.notes.specs.Laws.{length-notes}
-use Rattle.reader.specs.Reading.{indexPart, reportPart, summary, Outcome, outcome, reading}
+use Rattle.report.specs.Report.{reportPart}
+use Rattle.reader.specs.Reading.{indexPart, summary, Outcome, outcome, reading}
 use Rattle.reader.specs.declared.Summary.{Summary}
 use Rattle.reader.specs.declared.Answer.the-variants.{Read}
 use Rattle.image.specs.Made.{Small, wordIn, packetIn, framed, made}

@@ -46,9 +46,11 @@ use Rattle.bad_pairs.specs.Laws.{Good, none-good}
 use Rattle.replacing.specs.Replacing.{frameBefore, frameAfter, source}
 use Rattle.replacing.specs.Laws.{Run, at-the-end, first-half, second-half, frame-replaced}
 use Rattle.replacing.specs.Speech.{lastNonzero, speechOf, endOf, place-le, zero-behind, nonzero-at, place-stop}
-use Rattle.reader.specs.Reading.{indexPart, summary, finished, Outcome, outcome, reading, receivedFrames, receivedNotes}
-use Rattle.reader.specs.ReadingLaws.{Fitting, accepting}
-use Rattle.reader.specs.declared.Verdict.{Verdict}
+use Rattle.deciding.specs.Deciding.{receivedNotes}
+use Rattle.reader.specs.Reading.{indexPart, summary, finished, Outcome, outcome, reading, receivedFrames}
+use Rattle.deciding.specs.Laws.{Fitting}
+use Rattle.reader.specs.ReadingLaws.{accepting}
+use Rattle.deciding.specs.declared.Verdict.{Verdict}
 use Rattle.reader.specs.declared.Summary.{Summary}
 use Rattle.refusals.specs.declared.Reading.the-variants.{Unsettled}
 use Rattle.reader.specs.declared.Answer.the-variants.{Read, Refused}

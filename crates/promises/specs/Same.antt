@@ -27,9 +27,11 @@ use Rattle.notes.specs.Notes.{pairFails, framesOf, allFrames, pairInconsistent,
 use Rattle.bad_pairs.specs.BadPairs.{notes, badPairs}
 use Rattle.replacing.specs.Replacing.{replaced}
 use Rattle.replacing.specs.Speech.{speechOf, endOf}
-use Rattle.reader.specs.Reading.{reportPart, settledVerdict, wholeVerdict, verdict, finished, Outcome, outcome, reading, receivedFrames, receivedNotes}
-use Rattle.reader.specs.declared.Verdict.{Verdict}
-use Rattle.reader.specs.declared.Verdict.the-variants.{Refuse, Accept}
+use Rattle.deciding.specs.Deciding.{settledVerdict, wholeVerdict, receivedNotes}
+use Rattle.report.specs.Report.{reportPart}
+use Rattle.reader.specs.Reading.{verdict, finished, Outcome, outcome, reading, receivedFrames}
+use Rattle.deciding.specs.declared.Verdict.{Verdict}
+use Rattle.deciding.specs.declared.Verdict.the-variants.{Refuse, Accept}
 use Rattle.reader.specs.declared.Answer.the-variants.{Read}
 use Rattle.refusals.specs.declared.Reading.the-variants.{WrongTables}
 use Rattle.image.specs.Made.{part-within}

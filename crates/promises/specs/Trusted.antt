@@ -30,7 +30,8 @@ use Rattle.cutting.specs.Laws.{every-length}
 use Rattle.settling.specs.Settling.{readings, headerNote}
 use Rattle.carrier.specs.Carrier.{received, pairCount}
 use Rattle.notes.specs.Laws.{length-notes}
-use Rattle.reader.specs.Reading.{Outcome, outcome, reading, receivedNotes}
+use Rattle.deciding.specs.Deciding.{receivedNotes}
+use Rattle.reader.specs.Reading.{Outcome, outcome, reading}
 use Rattle.reader.specs.declared.Summary.{Summary}
 use Rattle.reader.specs.declared.Answer.the-variants.{Read}
 use Rattle.image.specs.Made.{syncIn, wordIn, packetIn}

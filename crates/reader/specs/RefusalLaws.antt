@@ -24,12 +24,13 @@ use Rattle.settling.specs.declared.Settlement.{Settlement}
 use Rattle.settling.specs.declared.Settlement.the-variants as S
 use Rattle.carrier.specs.Carrier.{pairCount}
 use Rattle.bad_pairs.specs.BadPairs.{badPairs}
-use Rattle.reader.specs.Reading.{roomVerdict, settledVerdict, wholeVerdict, endVerdict, verdict, finished, reading, receivedNotes}
-use Rattle.reader.specs.ReadingLaws.{Usable}
+use Rattle.deciding.specs.Deciding.{roomVerdict, settledVerdict, wholeVerdict, receivedNotes}
+use Rattle.reader.specs.Reading.{endVerdict, verdict, finished, reading}
+use Rattle.deciding.specs.Laws.{Usable}
 use Rattle.reader.specs.declared.Summary.{Summary}
 use Rattle.reader.specs.declared.Answer.the-variants.{Read, Refused}
-use Rattle.reader.specs.declared.Verdict.{Verdict}
-use Rattle.reader.specs.declared.Verdict.the-variants.{Refuse, Accept}
+use Rattle.deciding.specs.declared.Verdict.{Verdict}
+use Rattle.deciding.specs.declared.Verdict.the-variants.{Refuse, Accept}
 
 module _ (octets : List ℕ) (tables : Tables) (index report : ℕ) where
   abbrev places : List ℕ

@@ -8,7 +8,7 @@ use lib.Seq.{take-at, length-take-le}
 use Rattle.bad_pairs.specs.Laws.{Good}
 use Rattle.carrier.specs.Carrier.{received, pairCount}
 use Rattle.notes.specs.Laws.{length-notes}
-use Rattle.reader.specs.Steps.{Kept}
+use Rattle.deciding.specs.Steps.{Kept}
 use Rattle.reader.proofs.Steps.{has-front, ready, finished-refused, finished-read}
 use borrow.Author.Needs.{needs}
 use Rattle.reader.proofs.read_found.Statement.{statement}

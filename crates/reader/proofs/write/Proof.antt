@@ -5,7 +5,8 @@ use mathlib.Core.List.{List}
 use native.Mathlib.Omega.{arith}
 use Rattle.lists.specs.Parts.{over}
 use Rattle.layout.specs.Layout.{reportOctets}
-use Rattle.reader.proofs.Steps.{stored-size, stored-mended, sections-are, index-is, summary-is}
+use Rattle.report.specs.Sections.{stored-size, stored-mended, sections-are}
+use Rattle.reader.proofs.Steps.{index-is, summary-is}
 use borrow.Author.Needs.{needs}
 use Rattle.reader.proofs.write.Statement.{statement}
 use Rattle.reader.proofs.write.Tie as tie

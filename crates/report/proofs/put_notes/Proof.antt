@@ -5,10 +5,10 @@ use native.Mathlib.Omega.{arith}
 use lib.ListN.{length, length-set}
 use Rattle.lists.specs.Parts.{part, over, over-none}
 use Rattle.layout.specs.Layout.{multiframePairs}
-use Rattle.reader.proofs.Steps.{note-on}
+use Rattle.report.proofs.Steps.{note-on}
 use borrow.Author.Needs.{needs}
-use Rattle.reader.proofs.put_notes.Statement.{statement}
-use Rattle.reader.proofs.put_notes.Tie as tie
+use Rattle.report.proofs.put_notes.Statement.{statement}
+use Rattle.report.proofs.put_notes.Tie as tie
 
 abbrev Inv-loop : tie.InvT-loop
 Inv-loop notes report₀ to from j₀ report j = (j ≤ multiframePairs) × (length report ≡ length report₀) × (report ≡ over report₀ to j (part from j notes))

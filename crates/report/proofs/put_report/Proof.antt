@@ -5,11 +5,11 @@ use native.Mathlib.Omega.{arith}
 use lib.ListN.{length}
 use Rattle.lists.specs.Parts.{over, over-none}
 use Rattle.layout.specs.Layout.{reportOctets}
-use Rattle.reader.specs.Steps.{sections}
-use Rattle.reader.proofs.Steps.{section-on}
+use Rattle.report.specs.Sections.{sections}
+use Rattle.report.proofs.Steps.{section-on}
 use borrow.Author.Needs.{needs}
-use Rattle.reader.proofs.put_report.Statement.{statement}
-use Rattle.reader.proofs.put_report.Tie as tie
+use Rattle.report.proofs.put_report.Statement.{statement}
+use Rattle.report.proofs.put_report.Tie as tie
 
 abbrev Inv-loop : tie.InvT-loop
 Inv-loop headers notes common report₀ k₀ report k = (k ≤ length headers) × (length report ≡ length report₀) × (report ≡ over report₀ 0 (reportOctets * k) (sections headers notes common k))

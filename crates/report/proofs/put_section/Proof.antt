@@ -2,10 +2,10 @@
 use mathlib.Core.Path.{_∙_}
 use native.Mathlib.Omega.{arith}
 use lib.ListN.{length-set}
-use Rattle.reader.proofs.Steps.{section-is}
+use Rattle.report.proofs.Steps.{section-is}
 use borrow.Author.Needs.{needs}
-use Rattle.reader.proofs.put_section.Statement.{statement}
-use Rattle.reader.proofs.put_section.Tie as tie
+use Rattle.report.proofs.put_section.Statement.{statement}
+use Rattle.report.proofs.put_section.Tie as tie
 
 mul-at : tie.Need-mul-at
 mul-at c = search needs

@@ -4,10 +4,10 @@ use mathlib.Core.Path.{sym, ap, _∙_}
 use borrow.Author.Tests.{eq-eqb, ne-eqb, lt-ltb, le-ltb}
 use Rattle.settings.specs.declared.Settings.{Settings}
 use Rattle.header.specs.Message.{rateOf, expOf}
-use Rattle.reader.specs.Steps.{earlyVerdict}
+use Rattle.deciding.specs.Steps.{earlyVerdict}
 use borrow.Author.Needs.{needs}
-use Rattle.reader.proofs.early.Statement.{statement}
-use Rattle.reader.proofs.early.Tie as tie
+use Rattle.deciding.proofs.early.Statement.{statement}
+use Rattle.deciding.proofs.early.Tie as tie
 
 fields-of-requires : tie.Need-fields-of-requires
 fields-of-requires c κs = search needs

@@ -5,10 +5,10 @@ use lib.ListN.{length}
 use Rattle.carrier.specs.Carrier.{received, pairCount}
 use Rattle.bad_pairs.specs.BadPairs.{badPairs}
 use Rattle.notes.specs.Laws.{length-notes}
-use Rattle.reader.proofs.Steps.{decided-empty, decided-unsettled, decided-settled, refused-early, all-bad, not-all-bad, all-stored}
+use Rattle.deciding.proofs.Steps.{decided-empty, decided-unsettled, decided-settled, refused-early, all-bad, not-all-bad, all-stored}
 use borrow.Author.Needs.{needs}
-use Rattle.reader.proofs.decide.Statement.{statement}
-use Rattle.reader.proofs.decide.Tie as tie
+use Rattle.deciding.proofs.decide.Statement.{statement}
+use Rattle.deciding.proofs.decide.Tie as tie
 use Rattle.consistency.specs.Tables.{tablesOf}
 
 returns : tie.Need-returns
