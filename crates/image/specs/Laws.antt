@@ -1,6 +1,6 @@
 -- The image's length, and what stands where in it.
 -- Assumes nothing.
-use mathlib.Core.Path.{_≡_, refl, sym, ap, ap₂, _∙_, subst}
+use mathlib.Core.Path.{_≡_, refl, sym, ap, _∙_, subst}
 use mathlib.Core.Bool.{Bool}
 use mathlib.Core.List.{List, _++_}
 use Prim.Native.Nat.{ℕ, zero, suc, _+_, _*_, _%_, _<_}
@@ -10,7 +10,6 @@ use Rattle.lists.specs.Parts.{part}
 use Rattle.settings.specs.declared.Settings.{Settings}
 use Rattle.layout.specs.Layout.{multiframePairs, multiframeOctets, headerOctets, streamOctets, multiframeOf, firstPair, sync}
 use Rattle.bits.specs.Bits.{field, octets}
-use Rattle.bits.specs.Laws.{length-octets}
 use Rattle.packet.specs.Packet.{stream, packetOf}
 use Rattle.packet.specs.Laws.{stream-part, length-stream}
 use Rattle.header_code.specs.Code.{codeword}
@@ -18,15 +17,12 @@ use Rattle.header_code.specs.Code.Distance.{codeword-lt}
 use Rattle.message.specs.Message.{message}
 use Rattle.message.specs.Message.Laws.{message-lt}
 use Rattle.image.specs.Image.{multiframe, image}
-use Rattle.image.specs.Made.{syncIn, headerIn, wordIn, streamIn, packetIn, framed, made, Small, made-part, made-sync, made-header, made-word, made-stream, made-packet, small-made}
+use Rattle.image.specs.Made.{syncIn, headerIn, wordIn, streamIn, packetIn, framed, made, Small, length-framed, made-part, made-sync, made-header, made-word, made-stream, made-packet, small-made}
 
 -- ---- its length
 pub length-multiframe : (settings : Settings) (idx : List ℕ) (k : ℕ) → length (multiframe settings idx k) ≡ multiframeOctets
 unfolding multiframe
-length-multiframe settings idx k =
-    ap (λ (n : ℕ). suc (suc n))
-    (length-append (octets headerOctets (field 32 (codeword (message settings (k + 1) 0)))) (octets streamOctets (stream idx (firstPair k) multiframePairs))
-    ∙ ap₂ _+_ (length-octets headerOctets (field 32 (codeword (message settings (k + 1) 0)))) (length-octets streamOctets (stream idx (firstPair k) multiframePairs)))
+length-multiframe settings idx k = length-framed _ _
 
 pub length-image : (settings : Settings) (idx : List ℕ) (m : ℕ) → length (image settings idx m) ≡ multiframeOctets * m
 unfolding image
