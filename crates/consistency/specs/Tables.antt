@@ -23,7 +23,7 @@ tablesOf codebook thresholds = record { codebook = codebook; thresholds = thresh
 abbrev pub RightTables : Tables → Type 0
 RightTables tables = (length (tables .codebook) ≡ codebookNumbers) × (length (tables .thresholds) ≡ thresholdNumbers)
 
--- the test for them, which both readers make first. The one place that says which tables are refused
+-- the same as a test, which both readers make first: `right-exactly` says that the two are one
 unfoldable pub tablesRight : Tables → Bool
 tablesRight tables = both (eqb (length (tables .codebook)) codebookNumbers) (eqb (length (tables .thresholds)) thresholdNumbers)
 

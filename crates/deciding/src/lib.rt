@@ -49,7 +49,7 @@ fn early(common: u16, m: usize, index: usize, report: usize) -> Verdict
     Verdict::Accept { common }
 }
 
-// decide gives 14 and 16 to 20, of octets that are cut up. Neither buffer of the caller is lent to it, only their lengths. An accepted
+// decide gives 14 and 16 to 20, of octets that are cut up. Neither the index nor the report buffer is lent to it, only their lengths. An accepted
 // reading has its headers and notes in headers and notes.
 pub fn decide(
     octets: &[u8],

@@ -1,4 +1,4 @@
--- The multiframes found (02, C-13): one after another, the bits outside them, and what they are put together on octets.
+-- The multiframes found (02, C-13): one after another, the bits outside them, and what they are, put together on octets.
 -- Assumes nothing.
 use Prim.Native.Nat.{ℕ, zero, suc, _+_, _-_, _*_}
 use mathlib.Core.Path.{_≡_}

@@ -70,7 +70,7 @@ module _ (u : Utterance) (s : List ℕ) (from at least : ℕ) (tables : Tables) 
   abbrev pub Premises : Type 0
   Premises = (p : Premise) → Holds p
 
-  module _ (c : Premises) where
+  module _ (inside : Holds Inside) (headers : Holds Headers) (streams : Holds Streams) where
     abbrev m : ℕ
     m = multiframesOf u
 
@@ -79,31 +79,32 @@ module _ (u : Utterance) (s : List ℕ) (from at least : ℕ) (tables : Tables) 
     got = foundImage s (row at m)
 
     flips-are : (k : ℕ) → k < m → headerFlips (imageOf u) got k ≡ receivedFlips u s at k
-    flips-are k h = ap (λ (w : ℕ). ones (bitXor w (wordIn (imageOf u) k))) (image-word s at m (c Inside) k h)
+    flips-are k h = ap (λ (w : ℕ). ones (bitXor w (wordIn (imageOf u) k))) (image-word s at m inside k h)
 
     packets-kept : (q : ℕ) → q < pairsOf u → packetIn got q ≡ packetIn (imageOf u) q
     packets-kept q h =
         let k : q / multiframePairs < m = omega arith in
-        ap (λ (l : List Bool). streamPacket l q) (image-stream s at m (c Inside) (q / multiframePairs) k ∙ c Streams (q / multiframePairs) k)
+        ap (λ (l : List Bool). streamPacket l q) (image-stream s at m inside (q / multiframePairs) k ∙ streams (q / multiframePairs) k)
 
     -- they are the image with damaged headers
     pub damage : Damage m (imageOf u) got
     damage = record {
-      size = image-size s at m (c Inside) ∙ sym (length-image (u .settings) (u .indices) m);
-      small = image-small s at m (c Inside);
-      syncs = λ k h. image-sync s at m (c Inside) k h ∙ sym (I.image-sync (u .settings) (u .indices) m k h);
-      headers = λ k h. subst (λ (n : ℕ). n ≤ 2) (sym (flips-are k h)) (c Headers k h);
+      size = image-size s at m inside ∙ sym (length-image (u .settings) (u .indices) m);
+      small = image-small s at m inside;
+      syncs = λ k h. image-sync s at m inside k h ∙ sym (I.image-sync (u .settings) (u .indices) m k h);
+      headers = λ k h. subst (λ (n : ℕ). n ≤ 2) (sym (flips-are k h)) (headers k h);
       packets = λ q h. inl (packets-kept q h);
     }
 
     -- and each passes the test
-    stands : (k : ℕ) → k < m → passes least (bits s) (placeInRow at k) ≡ true
-    stands k h =
-        passes-there least (bits s) (placeInRow at k) (c Syncs k h)
-        (ap reading (sym (image-word s at m (c Inside) k h)) ∙ header-read u got k h (damage .headers k h))
+    stands : Holds Syncs → (k : ℕ) → k < m → passes least (bits s) (placeInRow at k) ≡ true
+    stands syncs k h =
+        passes-there least (bits s) (placeInRow at k) (syncs k h)
+        (ap reading (sym (image-word s at m inside k h)) ∙ header-read u got k h (damage .headers k h))
 
-    pub in-a-row : InARow (bits s) from at least m
-    in-a-row = record { begins = c Begins; inside = c Inside; stand = stands; none-before = c NoneBefore; none-behind = c NoneBehind }
+    pub in-a-row : Holds Begins → Holds Syncs → Holds NoneBefore → Holds NoneBehind → InARow (bits s) from at least m
+    in-a-row begins syncs before behind =
+        record { begins = begins; inside = inside; stand = stands syncs; none-before = before; none-behind = behind }
 
   -- ---- the theorem
   -- what is read: the settings, count and frames written, the bits outside and the places tested, and these header notes
@@ -125,12 +126,12 @@ module _ (u : Utterance) (s : List ℕ) (from at least : ℕ) (tables : Tables) 
       let n = multiframesOf u in
       let g = foundImage s (row at n) in
       let few : n ≤ mostMultiframes = few-multiframes (u .settings) (u .indices) (is-accepted u .sizes) in
-      let headers : (2 ≤ n) ⊎ (headerFlips (imageOf u) g 0 ≡ 0) = ⊎-elim inl (λ e. inr (flips-are p 0 (omega arith) ∙ e)) (p Settled) in
+      let headers : (2 ≤ n) ⊎ (headerFlips (imageOf u) g 0 ≡ 0) = ⊎-elim inl (λ e. inr (flips-are (p Inside) (p Headers) (p Streams) 0 (omega arith) ∙ e)) (p Settled) in
       reads-in-a-row s from least tables index report (p Low) (at-most-all (syncAt (bits s) (placeInRow at 0)) least (p Syncs 0 (omega arith))) (p TablesAndRoom .codebook-size) (p TablesAndRoom .thresholds-size) at n
-      (in-a-row p) (omega arith) few
+      (in-a-row (p Inside) (p Headers) (p Streams) (p Begins) (p Syncs) (p NoneBefore) (p NoneBehind)) (omega arith) few
       ∙ ap (λ (o : R.Outcome). counted o (outsideOf (bits s) from n) (testedInRow (bits s) from at n))
-      (reads-mended u g (damage p) (packets-kept p) headers tables index report (p TablesAndRoom))
-      ∙ same-notes (headerFlips (imageOf u) g) (receivedFlips u s at) (flips-are p)
+      (reads-mended u g (damage (p Inside) (p Headers) (p Streams)) (packets-kept (p Inside) (p Headers) (p Streams)) headers tables index report (p TablesAndRoom))
+      ∙ same-notes (headerFlips (imageOf u) g) (receivedFlips u s at) (flips-are (p Inside) (p Headers) (p Streams))
 
 -- ---- an image that is only shifted: any bits in front of it and behind, and nothing damaged
 module _ (u : Utterance) (s : List ℕ) (from least : ℕ) (front behind : List Bool) where

@@ -13,7 +13,7 @@ ghost use Rattle.image.specs.Image.{multiframe, image};
 
 // put_multiframe stores multiframe k at its place; every other octet stays. It asks for whole frames, at most 255 multiframes and room, which
 // refusals 2, 3 and 6 have tested.
-pub fn put_multiframe(settings: Settings, indices: &[u8], k: Multiframe, out: &mut [u8])
+fn put_multiframe(settings: Settings, indices: &[u8], k: Multiframe, out: &mut [u8])
     requires { ⌜ (length (now indices) % frameIndices ≡ 0) × (k .0 < mostMultiframes) ⌝ }
     requires { ⌜ multiframeOctets * k .0 + multiframeOctets ≤ length (now out) ⌝ }
     ensures { λ _. ⌜ left out ≡ over (came out) (multiframeOctets * k .0) multiframeOctets (multiframe settings (came indices) (k .0)) ⌝ }

@@ -103,7 +103,8 @@ pub struct Packed {
     pub high: u64,
 }
 
-// pack gives the packet of pair q behind the n bits lead. It asks for at most the half octet in which an odd packet begins.
+// pack gives the packet of pair q behind the n bits lead. It asks for a lead that fits n bits, at most the half octet in which an odd packet
+// begins.
 pub fn pack(idx: &[u8], q: Pair, lead: u64, n: usize) -> Packed
     requires { ⌜ (length (now idx) % frameIndices ≡ 0) × (q .0 < 2 ^ 20) ⌝ }
     requires { ⌜ (n ≤ halfBits) × (lead < 2 ^ n) ⌝ }
