@@ -123,7 +123,7 @@ target/lib/x86_64/libdsr.a: target/staticlib/libdsr.a
 	@mkdir -p $(@D)
 	@cp $< $@
 
-target/compiled/aarch64/libdsr.a: target/staticlib/libdsr.a
+target/compiled/aarch64/libdsr.a: target/staticlib/libdsr.a tools/compile
 	@echo 'compiling dsr for aarch64'
 	@tools/compile dsr target/compiled >target/compiling-dsr.log 2>&1 || { tail -n 20 target/compiling-dsr.log; exit 1; }
 
@@ -147,7 +147,7 @@ target/bin/x86_64/dsrlist: target/bin/dsrlist
 	@mkdir -p $(@D)
 	@cp $< $@
 
-target/compiled/aarch64/dsrlist.o: target/bin/dsrlist
+target/compiled/aarch64/dsrlist.o: target/bin/dsrlist tools/compile
 	@echo 'compiling dsrlist for aarch64'
 	@tools/compile dsrlist target/compiled >target/compiling-dsrlist.log 2>&1 || { tail -n 20 target/compiling-dsrlist.log; exit 1; }
 
@@ -344,7 +344,7 @@ crctable: $(ARCHIVE)
 	$(TOOLS)objdump -h $< | grep -E '\.crctable[^ ]* +0*100 '
 	$(TOOLS)objdump -r $< | grep -m 1 -E 'R_(X86_64_PC32|AARCH64_ADR_PREL_PG_HI21) .*\.crctable'
 
-# What tools/compile made for x86-64 is what rt makes, octet for octet: for aarch64 it did nothing else but name another target.
+# What tools/compile made for x86-64 is what rt makes, octet for octet: by the same steps it named aarch64, and left -march out.
 twin: target/staticlib/libdsr.a target/compiled/aarch64/libdsr.a
 	cmp target/compiled/x86_64/libdsr.a $<
 
