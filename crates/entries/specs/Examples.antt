@@ -22,8 +22,11 @@ use Rattle.bad_pairs.specs.BadPairs.{noteBy}
 use Rattle.notes.specs.Notes.{pairFails, framesOf, allFrames}
 use Rattle.header.specs.Reading.{reading}
 use Rattle.header.specs.Reading.Examples as H
+use Rattle.consistency.specs.Tables.{zeroTables, tablesRight}
+use Rattle.hunt.specs.Hunt.{hunted, found, inRange, misses}
+use Rattle.hunting.specs.Hunting.{huntingReading}
 use Rattle.entries.specs.Entries.{headerRead, packed, packing, unpacked, unpacking, returning, givenOf, dsrWrite}
-use Rattle.entries.specs.Bits.{huntReturning, bitsGiven}
+use Rattle.entries.specs.Bits.{huntReturning, bitsGiven, dsrHunt, dsrReadBits}
 
 -- 16 kHz, noise robust, 2 multiframes, 30 frames of speech, 4 bad pairs, no end; 32 bits outside, 21 places tested
 abbrev pub talk : Outcome
@@ -149,3 +152,14 @@ whole = record {
   type-above-32-bits = refl;
   type-largest = refl;
 }
+
+-- ---- dsr_hunt and dsr_read_bits take the bit to begin at and then T: of no octets, from bit 5, T = 17 is 21 with place 17, and T = 16 is 22 with
+-- place 5. What came as 7, 8 and 90 stays
+pub record FromThenT : Type 0 where
+  pub hunt-17 : dsrHunt [] 5 17 7 8 ≡ record { number = 21; found = 7; tested = 0; place = 17 }
+  pub hunt-16 : dsrHunt [] 5 16 7 8 ≡ record { number = 22; found = 7; tested = 0; place = 5 }
+  pub read-17 : dsrReadBits [] 5 17 zeroTables [] [] (replicate 8 90) 8 ≡ record { number = 21; index = []; report = []; answer = replicate 8 90; place = 17 }
+
+pub from-then-T : FromThenT
+unfolding hunted found inRange misses huntingReading tablesRight returning fields
+from-then-T = record { hunt-17 = refl; hunt-16 = refl; read-17 = refl }
