@@ -10,6 +10,7 @@ use borrow.Author.Tests.{eq-eqb, ne-eqb}
 use Rattle.lists.specs.Tests.{when}
 use Rattle.lists.specs.Parts.{over}
 use Rattle.layout.specs.Layout.{indexOctets, reportOctets}
+use Rattle.choices.specs.declared.Choices.{Choices}
 use Rattle.consistency.specs.Tables.{Tables}
 use Rattle.message.specs.Message.{rateOf, expOf}
 use Rattle.settling.specs.Settling.{readings, settling}
@@ -81,24 +82,24 @@ module _ (m bad pairs index report c : ℕ) (v : Verdict) (ev : v ≡ earlyVerdi
     unfolding lastVerdict
     not-all-bad q = passed-early (Accept c) same-accept (rw (ne-eqb bad pairs (λ z. q (eb ∙ z ∙ sym en))))
 
-module _ (octets : List ℕ) (tables : Tables) (index report : ℕ) (places : List ℕ) where
+module _ (ch : Choices) (octets : List ℕ) (tables : Tables) (index report : ℕ) (places : List ℕ) where
   -- 14
-  pub decided-empty : length places ≡ 0 → Refuse (Empty (length octets)) ≡ wholeVerdict octets tables index report places
+  pub decided-empty : length places ≡ 0 → Refuse (Empty (length octets)) ≡ wholeVerdict ch octets tables index report places
   unfolding wholeVerdict
   decided-empty z = rw (eq-eqb (length places) 0 z)
 
   -- what the stored headers settle decides the rest
-  module _ (some : length places ≡ 0 → ⊥) (headers : List ℕ) (eh : headers ≡ packAll octets places (length places)) (s : Settlement) (es : s ≡ settling (openAll headers)) where
-    settles : settling (readings octets places) ≡ s
-    settles = sym (es ∙ ap (λ (l : List ℕ). settling (openAll l)) eh ∙ ap settling (stored-back octets places))
+  module _ (some : length places ≡ 0 → ⊥) (headers : List ℕ) (eh : headers ≡ packAll octets places (length places)) (s : Settlement) (es : s ≡ settling ch (openAll headers)) where
+    settles : settling ch (readings octets places) ≡ s
+    settles = sym (es ∙ ap (λ (l : List ℕ). settling ch (openAll l)) eh ∙ ap (settling ch) (stored-back octets places))
 
-    pub decided-unsettled : s ≡ S.Unsettled → Refuse Unsettled ≡ wholeVerdict octets tables index report places
+    pub decided-unsettled : s ≡ S.Unsettled → Refuse Unsettled ≡ wholeVerdict ch octets tables index report places
     unfolding wholeVerdict settledVerdict
     decided-unsettled e = rw (ne-eqb (length places) 0 some, settles, e)
 
     pub decided-settled : (c : ℕ) (v : Verdict) → s ≡ S.Settled c
         → v ≡ settledVerdict (length places) (badPairs (receivedNotes octets places tables)) (pairCount places) index report (S.Settled c)
-        → v ≡ wholeVerdict octets tables index report places
+        → v ≡ wholeVerdict ch octets tables index report places
     unfolding wholeVerdict
     decided-settled c v e ev = rw (ne-eqb (length places) 0 some, settles, e) ev
 

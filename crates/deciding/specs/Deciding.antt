@@ -1,5 +1,5 @@
--- What is decided of multiframes at places of the octets, before anything is written (01, "Reading"): 14 and 16 to 20, in 01's order. m is the
--- number of multiframes, c the settled common bits; index and report are the lengths of both buffers.
+-- What is decided of multiframes at places of the octets, before anything is written (01, "Reading"; 02, C-20): 14 and 16 to 20, in 01's order. m is the
+-- number of multiframes, c the settled common bits, ch what the caller chose; index and report are the lengths of both buffers.
 -- Assumes nothing.
 use Prim.Native.Nat.{ℕ, _*_}
 use mathlib.Core.List.{List}
@@ -7,6 +7,7 @@ use lib.ListN.{length}
 use lib.Dec.{ltb, eqb}
 use Rattle.lists.specs.Tests.{when}
 use Rattle.layout.specs.Layout.{indexOctets, reportOctets}
+use Rattle.choices.specs.declared.Choices.{Choices}
 use Rattle.consistency.specs.Tables.{Tables}
 use Rattle.refusals.specs.declared.Reading.the-variants.{Empty, Unsettled, Unfit, IndexShort, ReportShort, AllBad}
 use Rattle.message.specs.Message.{rateOf, expOf}
@@ -36,10 +37,10 @@ settledVerdict m bad pairs index report S.Unsettled = Refuse Unsettled
 settledVerdict m bad pairs index report (S.Settled c) =
     when (eqb (rateOf c) 2) (Refuse Unfit) (when (eqb (expOf c) 0) (roomVerdict m bad pairs index report c) (Refuse Unfit))
 
-module _ (octets : List ℕ) (tables : Tables) (index report : ℕ) where
+module _ (ch : Choices) (octets : List ℕ) (tables : Tables) (index report : ℕ) where
   -- 14: no multiframe
   unfoldable pub wholeVerdict : List ℕ → Verdict
   wholeVerdict places =
       when (eqb (length places) 0) (Refuse (Empty (length octets)))
       (settledVerdict (length places) (badPairs (receivedNotes octets places tables)) (pairCount places) index report
-      (settling (readings octets places)))
+      (settling ch (readings octets places)))

@@ -8,6 +8,7 @@ use lib.Dec.{ltb, eqb}
 use borrow.Author.Tests.{ltb-false, eqb-true, eqb-false}
 use Rattle.lists.specs.Tests.{by-test}
 use Rattle.layout.specs.Layout.{indexOctets, reportOctets}
+use Rattle.choices.specs.declared.Choices.{Choices}
 use Rattle.consistency.specs.Tables.{Tables}
 use Rattle.message.specs.Message.{rateOf, expOf}
 use Rattle.settling.specs.Settling.{readings, settling}
@@ -71,25 +72,25 @@ settled-says m bad pairs index report (S.Settled c) =
     lift (Refuse r) u h = tt
     lift (Accept d) u h = record { settles = ap S.Settled (sym (h .0)); usable = subst Usable (sym (h .0)) u; roomy = h .1 }
 
-module _ (octets : List ℕ) (tables : Tables) (index report : ℕ) where
+module _ (ch : Choices) (octets : List ℕ) (tables : Tables) (index report : ℕ) where
   -- what is said of octets that are cut up at places
   abbrev pub WholeSays : List ℕ → Verdict → Type 0
   WholeSays ps (Refuse r) = Unit
   WholeSays ps (Accept c) =
-      (length ps ≡ 0 → ⊥) × Fitting (length ps) (badPairs (receivedNotes octets ps tables)) (pairCount ps) index report (settling (readings octets ps)) c
+      (length ps ≡ 0 → ⊥) × Fitting (length ps) (badPairs (receivedNotes octets ps tables)) (pairCount ps) index report (settling ch (readings octets ps)) c
 
-  pub whole-says : (ps : List ℕ) → WholeSays ps (wholeVerdict octets tables index report ps)
+  pub whole-says : (ps : List ℕ) → WholeSays ps (wholeVerdict ch octets tables index report ps)
   unfolding wholeVerdict
   whole-says ps =
       by-test (WholeSays ps) (eqb (length ps) 0) (λ h. tt) (λ h.
-      lift (settledVerdict (length ps) (badPairs (receivedNotes octets ps tables)) (pairCount ps) index report (settling (readings octets ps))) (eqb-false (length ps) 0 h)
-      (settled-says (length ps) (badPairs (receivedNotes octets ps tables)) (pairCount ps) index report (settling (readings octets ps))))
+      lift (settledVerdict (length ps) (badPairs (receivedNotes octets ps tables)) (pairCount ps) index report (settling ch (readings octets ps))) (eqb-false (length ps) 0 h)
+      (settled-says (length ps) (badPairs (receivedNotes octets ps tables)) (pairCount ps) index report (settling ch (readings octets ps))))
     where
       lift : (v : Verdict) → (length ps ≡ 0 → ⊥)
-          → SettledSays (length ps) (badPairs (receivedNotes octets ps tables)) (pairCount ps) index report (settling (readings octets ps)) v → WholeSays ps v
+          → SettledSays (length ps) (badPairs (receivedNotes octets ps tables)) (pairCount ps) index report (settling ch (readings octets ps)) v → WholeSays ps v
       lift (Refuse r) n h = tt
       lift (Accept c) n h = (n, h)
 
-  pub whole-accepted : (ps : List ℕ) (c : ℕ) → wholeVerdict octets tables index report ps ≡ Accept c
-      → (length ps ≡ 0 → ⊥) × Fitting (length ps) (badPairs (receivedNotes octets ps tables)) (pairCount ps) index report (settling (readings octets ps)) c
+  pub whole-accepted : (ps : List ℕ) (c : ℕ) → wholeVerdict ch octets tables index report ps ≡ Accept c
+      → (length ps ≡ 0 → ⊥) × Fitting (length ps) (badPairs (receivedNotes octets ps tables)) (pairCount ps) index report (settling ch (readings octets ps)) c
   whole-accepted ps c e = rw e at (whole-says ps)

@@ -1,4 +1,5 @@
 // What is decided of octets that are cut up, before anything is written: 14 and 16 to 20, or that they are read.
+use choices::Choices;
 use layout::ReadingLayout;
 use refusals::Reading;
 use settling::Settlement;
@@ -49,11 +50,12 @@ fn early(common: u16, m: usize, index: usize, report: usize) -> Verdict
     Verdict::Accept { common }
 }
 
-// decide gives 14 and 16 to 20, of octets that are cut up. Neither the index nor the report buffer is lent to it, only their lengths. An accepted
-// reading has its headers and notes in headers and notes.
+// decide gives 14 and 16 to 20, of octets that are cut up, by what the caller chose. Neither the index nor the report buffer is lent to it,
+// only their lengths. An accepted reading has its headers and notes in headers and notes.
 pub fn decide(
     octets: &[u8],
     places: &[usize],
+    choices: Choices,
     codebook: &[i32],
     thresholds: &[i32],
     index: usize,
@@ -64,7 +66,7 @@ pub fn decide(
     requires { ⌜ Placed (now octets) (now places) × (length (now notes) ≡ pairCount (now places)) × (length (now places) ≤ mostMultiframes)
         × (length (now headers) ≡ length (now places)) ⌝ }
     requires { ⌜ RightTables (tablesOf (now codebook) (now thresholds)) ⌝ }
-    ensures answer { λ r. ⌜ r ≡ wholeVerdict (came octets) (tablesIn codebook thresholds) index report (came places) ⌝ }
+    ensures answer { λ r. ⌜ r ≡ wholeVerdict choices (came octets) (tablesIn codebook thresholds) index report (came places) ⌝ }
     ensures headers { λ r. ⌜ Kept (packAll (came octets) (came places) (length (came places))) (left headers) r ⌝ }
     ensures notes { λ r. ⌜ Kept (receivedNotes (came octets) (came places) (tablesIn codebook thresholds)) (left notes) r ⌝ }
 {
@@ -74,7 +76,7 @@ pub fn decide(
         });
     }
     settling::read_headers(octets, places, headers);
-    let Settlement::Settled { common } = settling::settle(headers) else {
+    let Settlement::Settled { common } = settling::settle(headers, choices) else {
         return Verdict::Refuse(Reading::Unsettled);
     };
     if let Verdict::Refuse(r) = early(common, places.len(), index, report) {

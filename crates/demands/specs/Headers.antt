@@ -1,8 +1,9 @@
 -- The headers of a damaged image as the reader takes them: up to two flips are mended and counted, three lose a header, and two that are
--- read, or an only one that is untouched, settle the settings sent. Whatever happened to the pairs.
+-- read settle the settings sent; where the caller asks for the old rule (02, C-20), an only one that is untouched does too. Whatever happened to
+-- the pairs.
 -- Assumes nothing.
 use mathlib.Core.Path.{_≡_, sym, ap, _∙_, subst}
-use mathlib.Core.Bool.{true}
+use mathlib.Core.Bool.{true, false}
 use mathlib.Core.List.{List, [], _∷_}
 use mathlib.Core.Logic.{_⊎_, inl, inr}
 use Prim.Native.Nat.{ℕ, _+_, _%_, _≤_, _<_}
@@ -11,9 +12,12 @@ use native.Mathlib.Omega.{arith}
 use lib.Dec.{leb}
 use lib.ListN.{length, getD, List·getD-eq-default}
 use borrow.Author.Tests.{eq-eqb, le-leb, lt-leb}
+use Rattle.choices.specs.declared.Choices.{Choices}
 use Rattle.lists.specs.Tests.{when, true-false}
 use Rattle.lists.specs.Rows.{each, length-each, each-at, same-each}
 use Rattle.settings.specs.declared.Settings.{Settings}
+use Rattle.cutting.specs.Laws.{every-length}
+use Rattle.choices.specs.Choices.{oneSettles}
 use Rattle.header_code.specs.Code.{flipsTo}
 use Rattle.message.specs.Message.{message, rateOf, countOf, expOf, commonBits, settingsOf}
 use Rattle.message.specs.Message.Laws.{count-back, exp-back, common-exp, common-message, settings-back, common-settings}
@@ -23,7 +27,7 @@ use Rattle.header.specs.declared.Decoded.{Decoded}
 use Rattle.header.specs.declared.Header.{Header}
 use Rattle.header.specs.declared.Header.the-variants.{Codeword, Lost}
 use Rattle.settling.specs.Settling.{among, readings, settling, headerNote}
-use Rattle.settling.specs.Laws.{Has, Earlier, First, settled-first, has-read, read-has, settled-same, two-settle, note-lost, only-clean, only-mended, only-lost}
+use Rattle.settling.specs.Laws.{Has, Earlier, First, settled-first, has-read, read-has, settled-same, two-settle, note-lost, length-readings, Enough, settled-enough, one-default, only-clean, only-mended, only-lost}
 use Rattle.settling.specs.declared.Settlement.the-variants.{Settled, Unsettled}
 use Rattle.image.specs.Made.{wordIn}
 use Rattle.writer.specs.Utterance.{Utterance, multiframesOf, imageOf, settings-right}
@@ -73,21 +77,31 @@ pub record TwoReadable (u : Utterance) (s : List ℕ) : Type 0 where
   pub few-of-one : headerFlips (imageOf u) s one ≤ 2
   pub few-of-two : headerFlips (imageOf u) s two ≤ 2
 
--- what settles the settings: two such headers, or an only header that is untouched
-abbrev pub Settling : Utterance → List ℕ → Type 0
-Settling u s = TwoReadable u s ⊎ ((multiframesOf u ≡ 1) × (headerFlips (imageOf u) s 0 ≡ 0))
+-- what settles the settings: two such headers; or, where the caller asks for the old rule, an only header that is untouched
+abbrev pub Settling : Choices → Utterance → List ℕ → Type 0
+Settling ch u s = TwoReadable u s ⊎ ((oneSettles ch ≡ true) × ((multiframesOf u ≡ 1) × (headerFlips (imageOf u) s 0 ≡ 0)))
 
--- where no header has more than two flips, two multiframes are enough
-pub enough : (u : Utterance) (s : List ℕ) → Damage (multiframesOf u) (imageOf u) s → (2 ≤ multiframesOf u) ⊎ (headerFlips (imageOf u) s 0 ≡ 0) → Settling u s
-enough u s d x = by (decLt (multiframesOf u) 2) x
+-- what demand 3 asks of m headers, the first of which came with so many flips: "two multiframes or more, or an untouched only header", the
+-- latter only where the caller asks for the old rule: "under the new default [..] demand 3 need[s] two multiframes or more" (02, C-20)
+abbrev pub CanSettle : Choices → ℕ → ℕ → Type 0
+CanSettle ch m flips = (2 ≤ m) ⊎ ((oneSettles ch ≡ true) × (flips ≡ 0))
+
+-- headers that are enough and of which the first is untouched can settle
+pub can-settle : (ch : Choices) (m flips : ℕ) → Enough ch m → flips ≡ 0 → CanSettle ch m flips
+can-settle ch m flips (inl two) z = inl two
+can-settle ch m flips (inr asked) z = inr (asked, z)
+
+-- where no header has more than two flips, that is enough
+pub enough : (ch : Choices) (u : Utterance) (s : List ℕ) → Damage (multiframesOf u) (imageOf u) s → CanSettle ch (multiframesOf u) (headerFlips (imageOf u) s 0) → Settling ch u s
+enough ch u s d x = by (decLt (multiframesOf u) 2) x
   where
-    two : 2 ≤ multiframesOf u → Settling u s
+    two : 2 ≤ multiframesOf u → Settling ch u s
     two h = inl (record { one = 0; two = 1; order = omega arith; within = omega arith; few-of-one = d .headers 0 (omega arith); few-of-two = d .headers 1 (omega arith) })
 
-    by : Dec (multiframesOf u < 2) → (2 ≤ multiframesOf u) ⊎ (headerFlips (imageOf u) s 0 ≡ 0) → Settling u s
+    by : Dec (multiframesOf u < 2) → CanSettle ch (multiframesOf u) (headerFlips (imageOf u) s 0) → Settling ch u s
     by (no n) y = two (omega arith)
     by (yes l) (inl h) = two h
-    by (yes l) (inr z) = inr (omega arith, z)
+    by (yes l) (inr z) = inr (z .0, (omega arith, z .1))
 
 -- a header of at most three flips is read as it was sent, or is lost
 module _ (u : Utterance) (s : List ℕ) (k : ℕ) (h : k < multiframesOf u) (most : headerFlips (imageOf u) s k ≤ 3) where
@@ -132,8 +146,8 @@ module _ (u : Utterance) (s : List ℕ) (j : ℕ) (others : (k : ℕ) → k < mu
           (sym (ap (λ (l : List Header). getD l k Lost) (readings-are s (multiframesOf u)) ∙ each-at (λ k. H.reading (wordIn s k)) (multiframesOf u) k Lost h) ∙ r .1 .0)
 
   -- so of two headers or more nothing else is settled
-  pub settles-nothing-else : (d : ℕ) → 2 ≤ multiframesOf u → settling (readings s (rowOf (multiframesOf u))) ≡ Settled d → d ≡ sentCommon u
-  settles-nothing-else d two = settled-same hs (sentCommon u) j others-sent d (omega (arith, length-hs))
+  pub settles-nothing-else : (ch : Choices) (d : ℕ) → 2 ≤ multiframesOf u → settling ch (readings s (rowOf (multiframesOf u))) ≡ Settled d → d ≡ sentCommon u
+  settles-nothing-else ch d two = settled-same hs (sentCommon u) j others-sent ch d (omega (arith, length-hs))
 
 -- all headers have at most three flips
 module _ (u : Utterance) (s : List ℕ) (most : (k : ℕ) → k < multiframesOf u → headerFlips (imageOf u) s k ≤ 3) where
@@ -160,21 +174,21 @@ module _ (u : Utterance) (s : List ℕ) (most : (k : ℕ) → k < multiframesOf 
       (read-has (readings s (rowOf m)) k (H.decodedAs (wordIn s k) (sentMessage u k))
       (header-is k h ∙ heard-read (wordIn s k) (sentMessage u k) (omega (arith, header-near u s k h))))
 
-  -- two readable headers settle the common bits sent, and so does an only one that is untouched
-  pub settles : Settling u s → settling (readings s (rowOf m)) ≡ Settled (sentCommon u)
-  settles (inl t) =
+  -- two readable headers settle the common bits sent, and so does an only one that is untouched where the caller asks for it
+  pub settles : (ch : Choices) → Settling ch u s → settling ch (readings s (rowOf m)) ≡ Settled (sentCommon u)
+  settles ch (inl t) =
       let l = t .order in
       let w = t .within in
-      two-settle (readings s (rowOf m)) (sentCommon u) m (others-sent u s m (λ k h n. most k h)) (t .one) (t .two) l (has-sent (t .one) (omega arith) (t .few-of-one)) (has-sent (t .two) w (t .few-of-two))
-  settles (inr x) =
-      let z : flipsTo (wordIn s 0) (sentMessage u 0) ≡ 0 = header-near u s 0 (omega (arith, x .0)) ∙ x .1 in
-      ap settling headers-read ∙ ap (λ (n : ℕ). settling (each heardAt n)) (x .0)
-      ∙ ap (λ (h : Header). settling (h ∷ [])) (heard-read (wordIn s 0) (sentMessage u 0) (omega arith))
-      ∙ only-clean (H.decodedAs (wordIn s 0) (sentMessage u 0)) z ∙ ap Settled (common-sent u 0)
+      two-settle (readings s (rowOf m)) (sentCommon u) m (others-sent u s m (λ k h n. most k h)) ch (t .one) (t .two) l (has-sent (t .one) (omega arith) (t .few-of-one)) (has-sent (t .two) w (t .few-of-two))
+  settles ch (inr x) =
+      let z : flipsTo (wordIn s 0) (sentMessage u 0) ≡ 0 = header-near u s 0 (omega (arith, x .1 .0)) ∙ x .1 .1 in
+      ap (settling ch) headers-read ∙ ap (λ (n : ℕ). settling ch (each heardAt n)) (x .1 .0)
+      ∙ ap (λ (h : Header). settling ch (h ∷ [])) (heard-read (wordIn s 0) (sentMessage u 0) (omega arith))
+      ∙ only-clean ch (H.decodedAs (wordIn s 0) (sentMessage u 0)) (x .0) z ∙ ap Settled (common-sent u 0)
 
   -- and nothing else settles anything: of two headers or more two are readable
-  pub settled-readable : (c : ℕ) → 2 ≤ multiframesOf u → settling (readings s (rowOf (multiframesOf u))) ≡ Settled c → TwoReadable u s
-  settled-readable c two e = by (f .agrees .with)
+  pub settled-readable : (ch : Choices) (c : ℕ) → 2 ≤ multiframesOf u → settling ch (readings s (rowOf (multiframesOf u))) ≡ Settled c → TwoReadable u s
+  settled-readable ch c two e = by (f .agrees .with)
     where
       hs : List Header
       hs = readings s (rowOf (multiframesOf u))
@@ -183,7 +197,7 @@ module _ (u : Utterance) (s : List ℕ) (most : (k : ℕ) → k < multiframesOf 
       long = ap length headers-read ∙ length-each heardAt m
 
       f : First [] (readings s (rowOf (multiframesOf u))) c
-      f = settled-first (readings s (rowOf (multiframesOf u))) c (omega (arith, long)) e
+      f = settled-first ch (readings s (rowOf (multiframesOf u))) c (omega (arith, long)) e
 
       -- a header that is read is one of them, and has at most two flips
       inside : (k : ℕ) → Has (readings s (rowOf (multiframesOf u))) k c → (k < multiframesOf u) × (headerFlips (imageOf u) s k ≤ 2)
@@ -210,15 +224,15 @@ module _ (u : Utterance) (s : List ℕ) (most : (k : ℕ) → k < multiframesOf 
       }
 
   -- an only header that is touched settles nothing
-  pub touched-unsettles : m ≡ 1 → (flips 0 ≡ 0 → ⊥) → settling (readings s (rowOf m)) ≡ Unsettled
-  touched-unsettles one n =
+  pub touched-unsettles : (ch : Choices) → m ≡ 1 → (flips 0 ≡ 0 → ⊥) → settling ch (readings s (rowOf m)) ≡ Unsettled
+  touched-unsettles ch one n =
       let e = header-near u s 0 (omega (arith, one)) in
-      ap settling headers-read ∙ ap (λ (i : ℕ). settling (each heardAt i)) one
+      ap (settling ch) headers-read ∙ ap (λ (i : ℕ). settling ch (each heardAt i)) one
       ∙ elim (decLt 2 (flips 0)) [
-        | yes y ↦ ap (λ (h : Header). settling (h ∷ [])) (heard-lost (wordIn s 0) (sentMessage u 0) (omega arith)) ∙ only-lost
+        | yes y ↦ ap (λ (h : Header). settling ch (h ∷ [])) (heard-lost (wordIn s 0) (sentMessage u 0) (omega arith)) ∙ only-lost ch
         | no y ↦
-            ap (λ (h : Header). settling (h ∷ [])) (heard-read (wordIn s 0) (sentMessage u 0) (omega arith))
-            ∙ only-mended (H.decodedAs (wordIn s 0) (sentMessage u 0)) (λ z. n (sym e ∙ z))
+            ap (λ (h : Header). settling ch (h ∷ [])) (heard-read (wordIn s 0) (sentMessage u 0) (omega arith))
+            ∙ only-mended ch (H.decodedAs (wordIn s 0) (sentMessage u 0)) (λ z. n (sym e ∙ z))
       ]
 
   -- each header note is the number of flips there: three are lost, and that is note 3
@@ -232,3 +246,13 @@ module _ (u : Utterance) (s : List ℕ) (most : (k : ℕ) → k < multiframesOf 
             ap (headerNote (sentCommon u) k) (heard-lost (wordIn s k) (sentMessage u k) (omega arith)) ∙ note-lost (sentCommon u) k ∙ omega arith
         | no y ↦ ap (headerNote (sentCommon u) k) (heard-read (wordIn s k) (sentMessage u k) (omega arith)) ∙ note-of-read u k (wordIn s k) ∙ e
       ]
+
+-- an only header settles nothing by default, whatever it is (02, C-20)
+pub default-unsettles : (ch : Choices) (u : Utterance) (s : List ℕ) → oneSettles ch ≡ false → multiframesOf u ≡ 1 → settling ch (readings s (rowOf (multiframesOf u))) ≡ Unsettled
+default-unsettles ch u s o one =
+    one-default ch (readings s (rowOf (multiframesOf u))) o (length-readings s (rowOf (multiframesOf u)) ∙ every-length 0 (multiframesOf u) ∙ one)
+
+-- so what is settled at all had enough headers
+pub sent-enough : (ch : Choices) (u : Utterance) (s : List ℕ) (c : ℕ) → settling ch (readings s (rowOf (multiframesOf u))) ≡ Settled c → Enough ch (multiframesOf u)
+sent-enough ch u s c e =
+    subst (Enough ch) (length-readings s (rowOf (multiframesOf u)) ∙ every-length 0 (multiframesOf u)) (settled-enough ch (readings s (rowOf (multiframesOf u))) c e)

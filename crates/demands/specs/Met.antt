@@ -17,6 +17,7 @@ use Rattle.polynomials.specs.Light.{ones-in}
 use Rattle.lists.specs.Tests.{true-false}
 use Rattle.lists.specs.Parts.{part, over}
 use Rattle.layout.specs.Layout.{frameIndices, packetBits, multiframePairs, streamOctets, indexOctets, reportOctets, codebookNumbers, thresholdNumbers, firstPair}
+use Rattle.choices.specs.declared.Choices.{Choices}
 use Rattle.consistency.specs.Tables.{zeroTables}
 use Rattle.settings.specs.Settings.{settings}
 use Rattle.frames.specs.Frames.{zeroFrame}
@@ -33,6 +34,7 @@ use Rattle.header.specs.Reading.Laws.{flips-of}
 use Rattle.reader.specs.Reading.{Outcome, reading}
 use Rattle.image.specs.Made.{Small, made, made-packet}
 use Rattle.image.specs.Laws.{length-image, image-small, image-packet}
+use Rattle.settling.specs.Laws.{Enough}
 use Rattle.writer.specs.Writing.{verdict, roomAnswer, firstFrom, frameCount, needed, writing}
 use Rattle.writer.specs.Writing as W
 use Rattle.writer.specs.Utterance.{Utterance, multiframesOf, imageOf, whole-frames, writes}
@@ -84,13 +86,13 @@ module _ (f g : List ℕ) where
   unfolding inconsistent
   zero-consistent = rw (no-flags frameIndices)
 
--- ---- READS BACK: every utterance meets its premises
-pub reads-back-met : (u : Utterance)
-    → R.Premises u zeroTables (replicate (needed (u .indices)) 0) (indexFor (multiframesOf u)) (reportFor (multiframesOf u))
-reads-back-met u = record { output-room = le-of-eq (sym (length-replicate (needed (u .indices)) 0)); lent = lent-zeros (multiframesOf u) }
+-- ---- READS BACK: every utterance of two multiframes or more meets its premises, and by the old rule every utterance
+pub reads-back-met : (ch : Choices) (u : Utterance) → Enough ch (multiframesOf u)
+    → R.Premises ch u zeroTables (replicate (needed (u .indices)) 0) (indexFor (multiframesOf u)) (reportFor (multiframesOf u))
+reads-back-met ch u sent = record { headers = sent; output-room = le-of-eq (sym (length-replicate (needed (u .indices)) 0)); lent = lent-zeros (multiframesOf u) }
 
--- ---- WRITES AGAIN: every written image meets its premises
-module _ (u : Utterance) where
+-- ---- WRITES AGAIN: every written image that is read meets its premises
+module _ (ch : Choices) (u : Utterance) (sent : Enough ch (multiframesOf u)) where
   abbrev m : ℕ
   m = multiframesOf u
 
@@ -98,13 +100,13 @@ module _ (u : Utterance) where
   output = replicate (needed (u .indices)) 0
 
   abbrev image-read : Outcome
-  image-read = reading (imageOf u) zeroTables (indexFor m) (reportFor m)
+  image-read = reading ch (imageOf u) zeroTables (indexFor m) (reportFor m)
 
   index-is : image-read .index ≡ over (indexFor m) 0 (indexOctets * m) (padded u)
-  index-is = ap (λ (o : Outcome). o .index) (reads-image u zeroTables (indexFor m) (reportFor m) (lent-zeros m))
+  index-is = ap (λ (o : Outcome). o .index) (reads-image ch u sent zeroTables (indexFor m) (reportFor m) (lent-zeros m))
 
   report-is : image-read .report ≡ over (reportFor m) 0 (reportOctets * m) (replicate (reportOctets * m) 0)
-  report-is = ap (λ (o : Outcome). o .report) (reads-image u zeroTables (indexFor m) (reportFor m) (lent-zeros m))
+  report-is = ap (λ (o : Outcome). o .report) (reads-image ch u sent zeroTables (indexFor m) (reportFor m) (lent-zeros m))
 
   -- the first n frames of the index buffer are those that were written
   frames-are : take (frameIndices * frameCount (u .indices)) (image-read .index) ≡ u .indices
@@ -114,10 +116,10 @@ module _ (u : Utterance) where
       ap (take (frameIndices * frameCount (u .indices))) (index-is ∙ append-assoc (u .indices) z r)
       ∙ take-at (u .indices) (z ++ r) (frameIndices * frameCount (u .indices)) (whole-frames u)
 
-  pub writes-again-met : A.Premises (imageOf u) zeroTables (indexFor m) (reportFor m) output (spoken u)
+  pub writes-again-met : A.Premises ch (imageOf u) zeroTables (indexFor m) (reportFor m) output (spoken u)
   writes-again-met = record {
     small = image-small (u .settings) (u .indices) m;
-    succeeds = ap (λ (o : Outcome). o .answer) (reads-image u zeroTables (indexFor m) (reportFor m) (lent-zeros m));
+    succeeds = ap (λ (o : Outcome). o .answer) (reads-image ch u sent zeroTables (indexFor m) (reportFor m) (lent-zeros m));
     notes-0 = λ i h.
         ap (λ (l : List ℕ). getD l i 0) report-is
         ∙ front-at (reportFor m) (replicate (reportOctets * m) 0) (reportOctets * m) i (subst (λ (k : ℕ). i < k) (sym (length-replicate (reportOctets * m) 0)) h) ∙ no-more (reportOctets * m) i;
@@ -220,8 +222,8 @@ module _ (u : Utterance) where
       (λ r. true-false (sym (r .0) ∙ zero-consistent (frameAt (u .indices) 4) (frameAt (u .indices) 5))) b
 
   -- ---- NAMES THE DAMAGE: every utterance of two multiframes or more meets its premises
-  pub names-met : 2 ≤ multiframesOf u → N.Premises u hurtImage zeroTables (indexFor (multiframesOf u)) (reportFor (multiframesOf u))
-  names-met two = record { damage = hurts; headers = inl two; pair = 2; within = omega arith; not-bad = third-good; lent = lent-zeros (multiframesOf u) }
+  pub names-met : (ch : Choices) → 2 ≤ multiframesOf u → N.Premises ch u hurtImage zeroTables (indexFor (multiframesOf u)) (reportFor (multiframesOf u))
+  names-met ch two = record { damage = hurts; headers = inl two; pair = 2; within = omega arith; not-bad = third-good; lent = lent-zeros (multiframesOf u) }
 
 -- ---- and there is one: 24 frames of ones, which take two multiframes
 pub small-ones : (n : ℕ) → Small (replicate n 1)
@@ -248,5 +250,5 @@ pub frames-24 : frameCount (says24 .indices) ≡ 24
 unfolding says24
 frames-24 = refl
 
-pub names-says24 : N.Premises says24 (hurtImage says24) zeroTables (indexFor (multiframesOf says24)) (reportFor (multiframesOf says24))
-names-says24 = names-met says24 (le-of-eq (sym two-multiframes))
+pub names-says24 : (ch : Choices) → N.Premises ch says24 (hurtImage says24) zeroTables (indexFor (multiframesOf says24)) (reportFor (multiframesOf says24))
+names-says24 ch = names-met says24 ch (le-of-eq (sym two-multiframes))

@@ -1,5 +1,5 @@
--- NAMES THE DAMAGE (demand 3). "For every accepted utterance and every such damage, with two multiframes or more, or an only header that is
--- untouched, and one pair not bad, with 01's tables and room: the reader succeeds, gives the settings sent and m; the note of every damaged pair
+-- NAMES THE DAMAGE (demand 3). "For every accepted utterance and every such damage, with two multiframes or more, or (where the caller asks for
+-- the old rule, 02, C-20) an only header that is untouched, and one pair not bad, with 01's tables and room: the reader succeeds, gives the settings sent and m; the note of every damaged pair
 -- is 1; a pair that is not damaged has a note other than 0 exactly if 01's consistency rule makes it bad; each header note is the number of bits
 -- flipped there; and each frame of the pairs with note 0 stands at its place in the index buffer as it was written, zeros where it was padding."
 -- More is true, and is said here: note 1 is of the damaged pairs alone, an undamaged pair that the rule makes bad has note 2, and `bad` is the
@@ -7,7 +7,7 @@
 -- Assumes nothing.
 use mathlib.Core.Path.{_≡_, sym, ap, _∙_, subst}
 use mathlib.Core.List.{List, _++_}
-use mathlib.Core.Logic.{_⊎_, _↔_}
+use mathlib.Core.Logic.{_↔_}
 use Prim.Native.Nat.{ℕ, _+_, _*_, _/_, _≤_, _<_}
 use native.Mathlib.Decide.{ℕ-discrete}
 use native.Mathlib.Omega.{arith}
@@ -18,6 +18,7 @@ use borrow.Author.Tests.{eqb-true}
 use Rattle.lists.specs.Tests.{true-false, not-false}
 use Rattle.lists.specs.Parts.{part, over, part-right}
 use Rattle.layout.specs.Layout.{frameIndices, multiframeFrames, multiframeOctets, indexOctets, reportOctets, pairOf, firstFrame, secondFrame}
+use Rattle.choices.specs.declared.Choices.{Choices}
 use Rattle.consistency.specs.Tables.{Tables}
 use Rattle.packet.specs.Packet.{frameAt}
 use Rattle.packet.specs.Laws.{length-row, row-inside, row-past}
@@ -42,7 +43,7 @@ use Rattle.writer.specs.Laws.{few-multiframes}
 use Rattle.writer.specs.Utterance.{Utterance, multiframesOf, pairsOf, imageOf, is-accepted, rate-not-2, whole-frames}
 use Rattle.demands.specs.Damage.{DamageUpTo, Damage, loosened, Touched, headerFlips}
 use Rattle.demands.specs.Whole.{rowOf, Lent, reads-as, headerNoteIn, pairNoteIn, header-note-is, pair-note-is, front-part}
-use Rattle.demands.specs.Headers.{Settling, enough, settles, note-of-header, sentCommon, settings-sent, rate-sent, exp-sent}
+use Rattle.demands.specs.Headers.{Settling, CanSettle, enough, settles, note-of-header, sentCommon, settings-sent, rate-sent, exp-sent}
 use Rattle.demands.specs.Received.{BadPair, ByRule, Tells, is-so, not-so, Count, tells-rule, tells-bad, touched-note, note-one, note-two, bad-counted, frames-kept}
 
 -- what a success answer and both buffers have to say of a damaged image s
@@ -67,12 +68,12 @@ pub record Names (u : Utterance) (s : List ℕ) (tables : Tables) (given : Summa
   pub padding : (k : ℕ) → frameCount (u .indices) ≤ k → k < multiframeFrames * multiframesOf u → pairNoteIn report (pairOf k) ≡ 0
       → part (frameIndices * k) frameIndices index ≡ replicate frameIndices 0
 
-module _ (u : Utterance) (s : List ℕ) (tables : Tables) (index report : List ℕ) where
+module _ (ch : Choices) (u : Utterance) (s : List ℕ) (tables : Tables) (index report : List ℕ) where
   pub record Premises : Type 0 where
     -- "every such damage"
     pub damage : Damage (multiframesOf u) (imageOf u) s
-    -- "with two multiframes or more, or an only header that is untouched"
-    pub headers : (2 ≤ multiframesOf u) ⊎ (headerFlips (imageOf u) s 0 ≡ 0)
+    -- "with two multiframes or more, or an only header that is untouched" where the caller asks for the old rule (02, C-20)
+    pub headers : CanSettle ch (multiframesOf u) (headerFlips (imageOf u) s 0)
     -- "and one pair not bad"
     pub pair : ℕ
     pub within : pair < pairsOf u
@@ -80,10 +81,10 @@ module _ (u : Utterance) (s : List ℕ) (tables : Tables) (index report : List �
     -- "with 01's tables and room"
     pub lent : Lent (multiframesOf u) tables index report
 
-  -- the same with up to three flips in a header: two headers have at most two, or an only header is untouched
+  -- the same with up to three flips in a header: two headers have at most two, or an only header is untouched and the caller asks for it
   pub record Wider : Type 0 where
     pub damage : DamageUpTo 3 (multiframesOf u) (imageOf u) s
-    pub headers : Settling u s
+    pub headers : Settling ch u s
     pub pair : ℕ
     pub within : pair < pairsOf u
     pub not-bad : BadPair u s tables pair → ⊥
@@ -92,7 +93,7 @@ module _ (u : Utterance) (s : List ℕ) (tables : Tables) (index report : List �
   pub wider : Premises → Wider
   wider p = record {
     damage = loosened (lit< tt) (p .damage);
-    headers = enough u s (p .damage) (p .headers);
+    headers = enough ch u s (p .damage) (p .headers);
     pair = p .pair;
     within = p .within;
     not-bad = p .not-bad;
@@ -100,7 +101,7 @@ module _ (u : Utterance) (s : List ℕ) (tables : Tables) (index report : List �
   }
 
   abbrev pub result : Outcome
-  result = reading s tables index report
+  result = reading ch s tables index report
 
   pub record Named : Type 0 where
     -- "the reader succeeds"
@@ -137,9 +138,9 @@ module _ (u : Utterance) (s : List ℕ) (tables : Tables) (index report : List �
               good = eqb-true (getD ns (p .pair) 0) 0 (not-false (eqb (getD ns (p .pair) 0) 0) e);
             }
 
-    fits-in : Fitting (length (rowOf m)) (badPairs ns) (pairCount (rowOf m)) (length index) (length report) (settling (readings s (rowOf m))) (sentCommon u)
+    fits-in : Fitting (length (rowOf m)) (badPairs ns) (pairCount (rowOf m)) (length index) (length report) (settling ch (readings s (rowOf m))) (sentCommon u)
     fits-in = record {
-      settles = settles u s (d .headers) (p .headers);
+      settles = settles u s (d .headers) ch (p .headers);
       usable = record { rate = λ e. rate-not-2 u (sym (rate-sent u) ∙ e); exp = exp-sent u };
       roomy = record {
         index-room = subst (λ (n : ℕ). indexOctets * n ≤ length index) (sym rows) (p .lent .index-room);
@@ -156,7 +157,7 @@ module _ (u : Utterance) (s : List ℕ) (tables : Tables) (index report : List �
         (over report 0 (reportOctets * length (rowOf m)) (reportPart s (rowOf m) ns (sentCommon u)))
     read-is =
         reads-as s m (few-multiframes (u .settings) (u .indices) (is-accepted u .sizes)) size
-        (λ k h. d .syncs k h ∙ image-sync (u .settings) (u .indices) m k h) tables index report (sentCommon u) (omega arith) (p .lent) fits-in
+        (λ k h. d .syncs k h ∙ image-sync (u .settings) (u .indices) m k h) ch tables index report (sentCommon u) (omega arith) (p .lent) fits-in
 
     -- the report's octets are the notes
     pub pair-note : (q : ℕ) → q < pairsOf u → pairNoteIn (result .report) q ≡ getD (receivedNotes s (rowOf (multiframesOf u)) tables) q 0
@@ -241,10 +242,10 @@ module _ (u : Utterance) (s : List ℕ) (tables : Tables) (index report : List �
       };
     }
 
-pub names-wider : (u : Utterance) (s : List ℕ) (tables : Tables) (index report : List ℕ)
-    → Wider u s tables index report → Named u s tables index report
-names-wider = proof
+pub names-wider : (ch : Choices) (u : Utterance) (s : List ℕ) (tables : Tables) (index report : List ℕ)
+    → Wider ch u s tables index report → Named ch u s tables index report
+names-wider ch = proof ch
 
-pub names-the-damage : (u : Utterance) (s : List ℕ) (tables : Tables) (index report : List ℕ)
-    → Premises u s tables index report → Named u s tables index report
-names-the-damage u s tables index report p = names-wider u s tables index report (wider u s tables index report p)
+pub names-the-damage : (ch : Choices) (u : Utterance) (s : List ℕ) (tables : Tables) (index report : List ℕ)
+    → Premises ch u s tables index report → Named ch u s tables index report
+names-the-damage ch u s tables index report p = names-wider ch u s tables index report (wider ch u s tables index report p)

@@ -1,10 +1,10 @@
--- Why premises are there: what happens instead where a single header was mended, where every pair is bad, where two flips are 15 apart, where a
+-- Why premises are there: what happens instead of one multiframe by default (02, C-20), where a single header was mended, where every pair is bad, where two flips are 15 apart, where a
 -- header has three flips, and where an image has no end or an inverse sync. Sizes, tables and room are refusals by definition and stand in `page`.
 -- Assumes nothing.
 use mathlib.Core.Path.{_≡_, refl, sym, ap, ap₂, _∙_, subst}
 use mathlib.Core.Bool.{Bool, true, false, xor}
 use mathlib.Core.List.{List, [], _∷_, _++_}
-use mathlib.Core.Logic.{_⊎_, inl, inr}
+use mathlib.Core.Logic.{inl, inr}
 use Prim.Native.Nat.{ℕ, zero, suc, _+_, _*_, _/_, _%_, _^_, _≤_, _<_}
 use native.Mathlib.Omega.{arith}
 use lib.Bits.{bitXor, xor-lt, xor-self}
@@ -30,6 +30,8 @@ use Rattle.polynomials.specs.Xor.{xor-swap}
 use Rattle.lists.specs.Tests.{true-false}
 use Rattle.lists.specs.Rows.{each, joined, length-joined, joined-part}
 use Rattle.layout.specs.Layout.{frameIndices, multiframeFrames, indexOctets, packetBits, multiframePairs, multiframeOctets, mostMultiframes, streamOctets, firstPair, multiframeOf, sync}
+use Rattle.choices.specs.Choices.{oneSettles, byDefault, oneHeaderSettles}
+use Rattle.choices.specs.declared.Choices.{Choices}
 use Rattle.consistency.specs.Tables.{Tables, zeroTables}
 use Rattle.settings.specs.declared.Settings.{Settings}
 use Rattle.settings.specs.Settings.{settings}
@@ -58,15 +60,15 @@ use Rattle.writer.specs.Laws.{few-multiframes}
 use Rattle.writer.specs.Utterance.{Utterance, multiframesOf, pairsOf, imageOf, is-accepted, rate-not-2}
 use Rattle.writer.specs.declared.Answer.the-variants.{Written}
 use Rattle.demands.specs.Damage.{Damage, loosened, headerFlips, sentMessage, header-near, differs}
-use Rattle.demands.specs.Damages.{damage-made}
+use Rattle.demands.specs.Damages.{damage-made, unharmed}
 use Rattle.demands.specs.Instances.{lone, small-lone, says1, past-packet}
 use Rattle.demands.specs.Met.{indexFor, reportFor, lent-zeros, hurtWord, hurtStream, hurtImage, hurts}
 use Rattle.demands.specs.Whole.{rowOf, Lent, refuses-16, refuses-20}
-use Rattle.demands.specs.Headers.{enough, settles, touched-unsettles, sentCommon, rate-sent, exp-sent}
+use Rattle.demands.specs.Headers.{CanSettle, enough, settles, touched-unsettles, default-unsettles, sentCommon, rate-sent, exp-sent}
 use Rattle.demands.specs.Received.{BadPair, Tells, is-so, not-so, tells-bad}
 
 -- ---- A SINGLE MENDED HEADER UNSETTLES: of one multiframe, a header that is touched at all is refusal 16, and both buffers stay
-module _ (u : Utterance) (s : List ℕ) (d : Damage (multiframesOf u) (imageOf u) s) (tables : Tables) (index report : List ℕ)
+module _ (ch : Choices) (u : Utterance) (s : List ℕ) (d : Damage (multiframesOf u) (imageOf u) s) (tables : Tables) (index report : List ℕ)
     (lent : Lent (multiframesOf u) tables index report) where
   abbrev m : ℕ
   m = multiframesOf u
@@ -80,9 +82,13 @@ module _ (u : Utterance) (s : List ℕ) (d : Damage (multiframesOf u) (imageOf u
   syncs : (k : ℕ) → k < m → syncIn s k ≡ sync
   syncs k h = d .syncs k h ∙ image-sync (u .settings) (u .indices) m k h
 
-  pub mended-unsettles : m ≡ 1 → (headerFlips (imageOf u) s 0 ≡ 0 → ⊥) → reading s tables index report ≡ outcome (Refused Unsettled) index report
+  pub mended-unsettles : m ≡ 1 → (headerFlips (imageOf u) s 0 ≡ 0 → ⊥) → reading ch s tables index report ≡ outcome (Refused Unsettled) index report
   mended-unsettles one touched =
-      refuses-16 s m few size syncs tables index report (omega arith) lent (touched-unsettles u s (loosened (lit< tt) d .headers) one touched)
+      refuses-16 ch s m few size syncs tables index report (omega arith) lent (touched-unsettles u s (loosened (lit< tt) d .headers) ch one touched)
+
+  -- ---- BY DEFAULT ONE MULTIFRAME UNSETTLES (02, C-20): touched or not it is refusal 16, and both buffers stay
+  pub default-unsettled : oneSettles ch ≡ false → m ≡ 1 → reading ch s tables index report ≡ outcome (Refused Unsettled) index report
+  default-unsettled default one = refuses-16 ch s m few size syncs tables index report (omega arith) lent (default-unsettles ch u s default one)
 
   -- ---- ALL PAIRS BAD REFUSES: refusal 20, and both buffers stay
   all-counted : (l : List ℕ) → ((k : ℕ) → k < length l → bad (getD l k 0) ≡ true) → badPairs l ≡ length l
@@ -90,12 +96,12 @@ module _ (u : Utterance) (s : List ℕ) (d : Damage (multiframesOf u) (imageOf u
   all-counted (x ∷ l) h =
       rw (ne-eqb x 0 (λ e. true-false (sym (h 0 (omega arith)) ∙ ap bad e))) (ap suc (all-counted l (λ k j. h (suc k) (omega arith))))
 
-  pub all-bad-refuses : (2 ≤ m) ⊎ (headerFlips (imageOf u) s 0 ≡ 0) → ((q : ℕ) → q < pairsOf u → BadPair u s tables q)
-      → reading s tables index report ≡ outcome (Refused AllBad) index report
+  pub all-bad-refuses : CanSettle ch m (headerFlips (imageOf u) s 0) → ((q : ℕ) → q < pairsOf u → BadPair u s tables q)
+      → reading ch s tables index report ≡ outcome (Refused AllBad) index report
   all-bad-refuses heads every =
       let ns = receivedNotes s (rowOf m) tables in
       let ln : length ns ≡ pairCount (rowOf m) = length-notes (received s (rowOf m)) (pairCount (rowOf m)) tables in
-      refuses-20 s m few size syncs tables index report (omega arith) lent (sentCommon u) (settles u s (loosened (lit< tt) d .headers) (enough u s d heads))
+      refuses-20 ch s m few size syncs tables index report (omega arith) lent (sentCommon u) (settles u s (loosened (lit< tt) d .headers) ch (enough ch u s d heads))
       (record { rate = λ e. rate-not-2 u (sym (rate-sent u) ∙ e); exp = exp-sent u })
       (all-counted ns (λ k h. note k (omega (arith, ln, every-length 0 m))) ∙ ln)
     where
@@ -284,10 +290,14 @@ mended-1 =
     sym (header-near says1 (hurtImage says1) 0 (lit< tt))
     ∙ ap (λ (x : ℕ). flipsTo x (sentMessage says1 0)) (made-word (hurtWord says1) (hurtStream says1) 1 0 (lit< tt) l) ∙ flips-of (sentMessage says1 0) 3 ∙ e
 
-pub unsettled-1 : reading (hurtImage says1) zeroTables (indexFor 1) (reportFor 1) ≡ outcome (Refused Unsettled) (indexFor 1) (reportFor 1)
-unsettled-1 =
-    mended-unsettles says1 (hurtImage says1) (hurts says1) zeroTables (indexFor 1) (reportFor 1) (lent-zeros 1) refl
+pub unsettled-1 : (ch : Choices) → reading ch (hurtImage says1) zeroTables (indexFor 1) (reportFor 1) ≡ outcome (Refused Unsettled) (indexFor 1) (reportFor 1)
+unsettled-1 ch =
+    mended-unsettles ch says1 (hurtImage says1) (hurts says1) zeroTables (indexFor 1) (reportFor 1) (lent-zeros 1) refl
     (λ e. let z : _≡_ {A = ℕ} 2 0 = sym mended-1 ∙ e in omega arith)
+
+-- AND THE IMAGE OF ONE MULTIFRAME as it was written, by default: demand 2's reading back and demand 3 need two multiframes there
+pub default-1 : reading byDefault (imageOf says1) zeroTables (indexFor 1) (reportFor 1) ≡ outcome (Refused Unsettled) (indexFor 1) (reportFor 1)
+default-1 = default-unsettled byDefault says1 (imageOf says1) (unharmed says1) zeroTables (indexFor 1) (reportFor 1) (lent-zeros 1) refl refl
 
 untouched-1 : headerFlips (imageOf says1) (allHurt says1) 0 ≡ 0
 untouched-1 =
@@ -295,18 +305,18 @@ untouched-1 =
     ∙ ap (λ (x : ℕ). flipsTo x (sentMessage says1 0))
     (made-word (sentWord says1) (allHit says1) 1 0 (lit< tt) (codeword-lt (sentMessage says1 0) (message-lt (settings 0 0) 1 0))) ∙ none-wrong says1 0
 
-pub all-bad-1 : reading (allHurt says1) zeroTables (indexFor 1) (reportFor 1) ≡ outcome (Refused AllBad) (indexFor 1) (reportFor 1)
+pub all-bad-1 : reading oneHeaderSettles (allHurt says1) zeroTables (indexFor 1) (reportFor 1) ≡ outcome (Refused AllBad) (indexFor 1) (reportFor 1)
 all-bad-1 =
-    all-bad-refuses says1 (allHurt says1) (all-hurts says1) zeroTables (indexFor 1) (reportFor 1) (lent-zeros 1) (inr untouched-1)
+    all-bad-refuses oneHeaderSettles says1 (allHurt says1) (all-hurts says1) zeroTables (indexFor 1) (reportFor 1) (lent-zeros 1) (inr (refl, untouched-1))
     (all-bad says1 zeroTables)
 
 -- ---- WRITES AGAIN NEEDS AN END AND NO INVERSE SYNC: of what was read and is accepted, the writer writes as many multiframes as were read if the
 -- end is 1, so whatever stood between them is gone, and one more if it is 0
-module _ (s : List ℕ) (tables : Tables) (index report output : List ℕ) (given : Summary)
-    (succeeds : A.result s tables index report output given .answer ≡ Read given) (octets : ℕ)
-    (accepts : A.again s tables index report output given .answer ≡ Written octets) where
-  w : A.WasRead s tables index report output given
-  w = A.was-read s tables index report output given succeeds
+module _ (ch : Choices) (s : List ℕ) (tables : Tables) (index report output : List ℕ) (given : Summary)
+    (succeeds : A.result ch s tables index report output given .answer ≡ Read given) (octets : ℕ)
+    (accepts : A.again ch s tables index report output given .answer ≡ Written octets) where
+  w : A.WasRead ch s tables index report output given
+  w = A.was-read ch s tables index report output given succeeds
 
   abbrev places : List ℕ
   places = cutting s .places
@@ -329,7 +339,7 @@ module _ (s : List ℕ) (tables : Tables) (index report output : List ℕ) (give
   end-is : given .end ≡ endOf (length places) all
   end-is = ap (λ (g : Summary). g .end) (w .given-is)
 
-  frames-are : take (frameIndices * given .speech) (A.result s tables index report output given .index) ≡ spoken all (length places) some read-size
+  frames-are : take (frameIndices * given .speech) (A.result ch s tables index report output given .index) ≡ spoken all (length places) some read-size
   frames-are =
       let n = speechOf (length places) all in
       ap₂ (λ (k : ℕ) (o : Outcome). take (frameIndices * k) (o .index)) (ap (λ (g : Summary). g .speech) (w .given-is)) (w .result-is)

@@ -1,12 +1,12 @@
--- READS BACK (demand 2). "For every accepted utterance, with 01's tables (any codebook of 1,280 and any 14 thresholds) and room: reading the
--- written image succeeds with the same settings, m, speech equal to n, no bad pair, end 1, all notes 0, and the index buffer holds the frames as
+-- READS BACK (demand 2). "For every accepted utterance, with 01's tables (any codebook of 1,280 and any 14 thresholds) and room": if it has two
+-- multiframes or more, or the caller asks for the old rule (02, C-20), "reading the written image succeeds with the same settings, m, speech equal to n, no bad pair, end 1, all notes 0, and the index buffer holds the frames as
 -- written and zeros after them." Octets beyond both parts stay. The same holds where only headers were damaged and still settle the
 -- settings, but for their notes.
 -- Assumes nothing.
 use mathlib.Core.Path.{_≡_, refl, sym, ap, ap₂, _∙_, subst}
 use mathlib.Core.Bool.{Bool, true, false}
 use mathlib.Core.List.{List, [], _∷_, _++_}
-use mathlib.Core.Logic.{_⊎_, inr, ⊎-elim}
+use mathlib.Core.Logic.{_⊎_, ⊎-elim}
 use Prim.Native.Nat.{ℕ, zero, suc, _+_, _-_, _*_, _/_, _%_, _≤_, _<_}
 use native.Mathlib.Nat.{mul-zero, mul-suc}
 use native.Mathlib.Decide.{ℕ-discrete, decLt}
@@ -21,6 +21,7 @@ use Rattle.lists.specs.Tests.{true-false, not-false}
 use Rattle.lists.specs.Parts.{part, over, length-part}
 use Rattle.lists.specs.Rows.{joined, same-joined}
 use Rattle.layout.specs.Layout.{frameIndices, multiframeFrames, multiframePairs, indexOctets, reportOctets, firstPair}
+use Rattle.choices.specs.declared.Choices.{Choices}
 use Rattle.consistency.specs.Tables.{Tables}
 use Rattle.settings.specs.declared.Settings.{Settings}
 use Rattle.frames.specs.Frames.{allZero, zeroFrame, all-zero-at, Nonzero}
@@ -30,6 +31,7 @@ use Rattle.cutting.specs.Laws.{every-length}
 use Rattle.message.specs.Message.{settingsOf}
 use Rattle.header.specs.declared.Header.the-variants.{Lost}
 use Rattle.settling.specs.Settling.{readings, headerNote}
+use Rattle.settling.specs.Laws.{Enough}
 use Rattle.carrier.specs.Carrier.{received, pairCount}
 use Rattle.notes.specs.Laws.{length-notes, length-all}
 use Rattle.bad_pairs.specs.BadPairs.{bad, badPairs}
@@ -49,7 +51,7 @@ use Rattle.writer.specs.Utterance.{last-speaks, Utterance, multiframesOf, pairs
 use Rattle.demands.specs.Damage.{DamageUpTo, Damage, loosened, headerFlips}
 use Rattle.demands.specs.Damages.{unharmed}
 use Rattle.demands.specs.Whole.{rowOf, Lent, nothing-replaced}
-use Rattle.demands.specs.Headers.{Settling, enough, sentCommon, note-of-header, settings-sent}
+use Rattle.demands.specs.Headers.{Settling, CanSettle, can-settle, enough, sentCommon, note-of-header, settings-sent}
 use Rattle.demands.specs.Received.{BadBefore, BadPair, Tells, is-so, not-so, tells-bad}
 use Rattle.demands.specs.NamesTheDamage as N
 
@@ -168,8 +170,8 @@ module _ (u : Utterance) where
   end-is-1 = rw (zero-past (multiframeFrames * m - 1) (omega arith) (omega arith))
 
 -- ---- the image as the reader takes it, with no pair damaged: so none is bad, whatever the tables
-module _ (u : Utterance) (s : List ℕ) (d : DamageUpTo 3 (multiframesOf u) (imageOf u) s) (untouched : (q : ℕ) → q < pairsOf u → packetIn s q ≡ packetIn (imageOf u) q)
-    (headers : Settling u s) (tables : Tables) (index report : List ℕ) (lent : Lent (multiframesOf u) tables index report) where
+module _ (ch : Choices) (u : Utterance) (s : List ℕ) (d : DamageUpTo 3 (multiframesOf u) (imageOf u) s) (untouched : (q : ℕ) → q < pairsOf u → packetIn s q ≡ packetIn (imageOf u) q)
+    (headers : Settling ch u s) (tables : Tables) (index report : List ℕ) (lent : Lent (multiframesOf u) tables index report) where
   abbrev places : List ℕ
   places = rowOf (multiframesOf u)
 
@@ -187,7 +189,7 @@ module _ (u : Utterance) (s : List ℕ) (d : DamageUpTo 3 (multiframesOf u) (ima
   unfolding BadBefore
   never-bad q h = never-before (suc q) (omega arith)
 
-  premises : N.Wider u s tables index report
+  premises : N.Wider ch u s tables index report
   premises = record { damage = d; headers = headers; pair = 0; within = omega arith; not-bad = never-bad 0 (omega arith); lent = lent }
 
   rows : length places ≡ multiframesOf u
@@ -231,7 +233,7 @@ module _ (u : Utterance) (s : List ℕ) (d : DamageUpTo 3 (multiframesOf u) (ima
   frame-is : (k : ℕ) → k < multiframeFrames * multiframesOf u → part (frameIndices * k) frameIndices (receivedFrames s places) ≡ frameAt (u .indices) k
   frame-is k h =
       let all = receivedFrames s places in
-      let b = N.frame-in-pair u s tables index report premises (k / 2) (omega arith) (pair-notes (k / 2) (omega (arith, notes-size, rows))) in
+      let b = N.frame-in-pair ch u s tables index report premises (k / 2) (omega arith) (pair-notes (k / 2) (omega (arith, notes-size, rows))) in
       elim (ℕ-discrete (2 * (k / 2)) k) [
         | yes e ↦ subst (λ (j : ℕ). part (frameIndices * j) frameIndices all ≡ frameAt (u .indices) j) e (b .0)
         | no x ↦ let e : 2 * (k / 2) + 1 ≡ k = omega arith in subst (λ (j : ℕ). part (frameIndices * j) frameIndices all ≡ frameAt (u .indices) j) e (b .1)
@@ -265,20 +267,20 @@ module _ (u : Utterance) (s : List ℕ) (d : DamageUpTo 3 (multiframesOf u) (ima
       p
 
   -- HEADERS HURT: with no pair damaged and the settings settled, headers of at most three flips cost nothing but their notes
-  pub reads-undamaged : reading s tables index report
+  pub reads-undamaged : reading ch s tables index report
       ≡ outcome (Read (spoken u)) (over index 0 (indexOctets * multiframesOf u) (padded u)) (over report 0 (reportOctets * multiframesOf u) (mendedReport u s))
   reads-undamaged =
-      N.read-is u s tables index report premises
+      N.read-is ch u s tables index report premises
       ∙ ap₂ (λ (a : Summary) (i : List ℕ). outcome (Read a) i (over report 0 (reportOctets * length places) (reportPart s places ns (sentCommon u)))) answer-is
       (ap₂ (λ (k : ℕ) (l : List ℕ). over index 0 (indexOctets * k) l) rows index-is)
       ∙ ap (outcome (Read (spoken u)) (over index 0 (indexOctets * multiframesOf u) (padded u))) (ap₂ (λ (k : ℕ) (l : List ℕ). over report 0 (reportOctets * k) l) rows report-is)
 
--- so where no header has more than two flips, two multiframes or an untouched only header are enough
-pub reads-mended : (u : Utterance) (s : List ℕ) → Damage (multiframesOf u) (imageOf u) s → ((q : ℕ) → q < pairsOf u → packetIn s q ≡ packetIn (imageOf u) q)
-    → (2 ≤ multiframesOf u) ⊎ (headerFlips (imageOf u) s 0 ≡ 0) → (tables : Tables) (index report : List ℕ) → Lent (multiframesOf u) tables index report
-    → reading s tables index report
+-- so where no header has more than two flips, two multiframes are enough, or an untouched only header where the caller asks for the old rule
+pub reads-mended : (ch : Choices) (u : Utterance) (s : List ℕ) → Damage (multiframesOf u) (imageOf u) s → ((q : ℕ) → q < pairsOf u → packetIn s q ≡ packetIn (imageOf u) q)
+    → CanSettle ch (multiframesOf u) (headerFlips (imageOf u) s 0) → (tables : Tables) (index report : List ℕ) → Lent (multiframesOf u) tables index report
+    → reading ch s tables index report
     ≡ outcome (Read (spoken u)) (over index 0 (indexOctets * multiframesOf u) (padded u)) (over report 0 (reportOctets * multiframesOf u) (mendedReport u s))
-reads-mended u s d untouched headers = reads-undamaged u s (loosened (lit< tt) d) untouched (enough u s d headers)
+reads-mended ch u s d untouched headers = reads-undamaged ch u s (loosened (lit< tt) d) untouched (enough ch u s d headers)
 
 -- ---- the image itself: nothing was mended, so its report is zeros
 no-flips : (s : List ℕ) (k : ℕ) → headerFlips s s k ≡ 0
@@ -289,16 +291,18 @@ report-clean u =
     same-joined (λ k. headerFlips (imageOf u) (imageOf u) k ∷ replicate multiframePairs 0) (λ k. replicate reportOctets 0) (multiframesOf u)
     (λ k h. ap (λ (x : ℕ). x ∷ replicate multiframePairs 0) (no-flips (imageOf u) k)) ∙ zero-rows reportOctets (multiframesOf u)
 
-pub reads-image : (u : Utterance) (tables : Tables) (index report : List ℕ) → Lent (multiframesOf u) tables index report
-    → reading (imageOf u) tables index report
+pub reads-image : (ch : Choices) (u : Utterance) → Enough ch (multiframesOf u) → (tables : Tables) (index report : List ℕ) → Lent (multiframesOf u) tables index report
+    → reading ch (imageOf u) tables index report
     ≡ outcome (Read (spoken u)) (over index 0 (indexOctets * multiframesOf u) (padded u)) (over report 0 (reportOctets * multiframesOf u) (replicate (reportOctets * multiframesOf u) 0))
-reads-image u tables index report lent =
-    reads-mended u (imageOf u) (unharmed u) (λ q h. refl) (inr (no-flips (imageOf u) 0)) tables index report lent
+reads-image ch u sent tables index report lent =
+    reads-mended ch u (imageOf u) (unharmed u) (λ q h. refl) (can-settle ch (multiframesOf u) _ sent (no-flips (imageOf u) 0)) tables index report lent
     ∙ ap (λ (r : List ℕ). outcome (Read (spoken u)) (over index 0 (indexOctets * multiframesOf u) (padded u)) (over report 0 (reportOctets * multiframesOf u) r)) (report-clean u)
 
 -- ---- the theorem, over what the writer leaves in an output
-module _ (u : Utterance) (tables : Tables) (output index report : List ℕ) where
+module _ (ch : Choices) (u : Utterance) (tables : Tables) (output index report : List ℕ) where
   pub record Premises : Type 0 where
+    -- "Under the new default demand 2's reading back [..] need[s] two multiframes or more" (02, C-20)
+    pub headers : Enough ch (multiframesOf u)
     -- "with 01's tables and room"
     pub output-room : needed (u .indices) ≤ length output
     pub lent : Lent (multiframesOf u) tables index report
@@ -308,7 +312,7 @@ module _ (u : Utterance) (tables : Tables) (output index report : List ℕ) wher
 
   -- "reading the written image"
   abbrev pub result : Outcome
-  result = reading (take (needed (u .indices)) (written .output)) tables index report
+  result = reading ch (take (needed (u .indices)) (written .output)) tables index report
 
   pub record Back : Type 0 where
     pub accepted : written .answer ≡ Written (needed (u .indices))
@@ -328,7 +332,7 @@ module _ (u : Utterance) (tables : Tables) (output index report : List ℕ) wher
   back : Premises → Back
   back p =
       let e : result ≡ outcome (Read (spoken u)) (over index 0 (indexOctets * multiframesOf u) (padded u)) (over report 0 (reportOctets * multiframesOf u) (replicate (reportOctets * multiframesOf u) 0)) =
-      ap (λ (i : List ℕ). reading i tables index report) (image-back (p .output-room)) ∙ reads-image u tables index report (p .lent) in
+      ap (λ (i : List ℕ). reading ch i tables index report) (image-back (p .output-room)) ∙ reads-image ch u (p .headers) tables index report (p .lent) in
       record {
         accepted = ap (λ (o : W.Outcome). o .answer) (writes u output (p .output-room));
         succeeds = ap (λ (o : Outcome). o .answer) e;
@@ -336,6 +340,6 @@ module _ (u : Utterance) (tables : Tables) (output index report : List ℕ) wher
         frames = ap (λ (o : Outcome). o .index) e;
       }
 
-pub reads-back : (u : Utterance) (tables : Tables) (output index report : List ℕ) → Premises u tables output index report
-    → Back u tables output index report
-reads-back = back
+pub reads-back : (ch : Choices) (u : Utterance) (tables : Tables) (output index report : List ℕ) → Premises ch u tables output index report
+    → Back ch u tables output index report
+reads-back ch = back ch

@@ -13,6 +13,7 @@ use lib.Seq.{ext-getD, getD-take, getD-drop}
 use Rattle.lists.specs.Parts.{part, over, part-left}
 use Rattle.lists.specs.Rows.{each, same-each}
 use Rattle.layout.specs.Layout.{frameIndices, multiframePairs, multiframeOctets, mostMultiframes, indexOctets, reportOctets, codebookNumbers, thresholdNumbers, pairOf, multiframeOf, firstPair, sync}
+use Rattle.choices.specs.declared.Choices.{Choices}
 use Rattle.consistency.specs.Tables.{Tables, right-passes}
 use Rattle.bits.specs.Bits.{bits}
 use Rattle.cutting.specs.Cutting.{Cutting, whole, cutting}
@@ -78,27 +79,27 @@ module _ (s : List ℕ) (m : ℕ) (few : m ≤ mostMultiframes) (size : length s
       (ap (λ (i : ℕ). getD s i 0) z ∙ in-sync k 0 h (omega arith), in-sync k 1 h (omega arith)))
 
   -- and read
-  pub reads-as : (tables : Tables) (index report : List ℕ) (c : ℕ) → 0 < m → Lent m tables index report
-      → Fitting (length (rowOf m)) (badPairs (receivedNotes s (rowOf m) tables)) (pairCount (rowOf m)) (length index) (length report) (settling (readings s (rowOf m))) c
-      → reading s tables index report
+  pub reads-as : (ch : Choices) (tables : Tables) (index report : List ℕ) (c : ℕ) → 0 < m → Lent m tables index report
+      → Fitting (length (rowOf m)) (badPairs (receivedNotes s (rowOf m) tables)) (pairCount (rowOf m)) (length index) (length report) (settling ch (readings s (rowOf m))) c
+      → reading ch s tables index report
       ≡ outcome (Read (summary s (rowOf m) (receivedNotes s (rowOf m) tables) c))
       (over index 0 (indexOctets * length (rowOf m)) (indexPart s (rowOf m) (receivedNotes s (rowOf m) tables)))
       (over report 0 (reportOctets * length (rowOf m)) (reportPart s (rowOf m) (receivedNotes s (rowOf m) tables) c))
   unfolding reading
-  reads-as tables index report c some lent fit =
+  reads-as ch tables index report c some lent fit =
       let pl : cutting s .places ≡ rowOf m = ap (λ (w : Cutting). w .places) cut-is in
-      let a : Accepted s tables (length index) (length report) c =
+      let a : Accepted ch s tables (length index) (length report) c =
       record {
         codebook-size = lent .codebook-size;
         thresholds-size = lent .thresholds-size;
         uncut = ap (λ (w : Cutting). w .ending) cut-is;
         some = λ e. omega (arith, ap length pl, every-length 0 m);
         fitting = subst
-            (λ (ps : List ℕ). Fitting (length ps) (badPairs (receivedNotes s ps tables)) (pairCount ps) (length index) (length report) (settling (readings s ps)) c)
+            (λ (ps : List ℕ). Fitting (length ps) (badPairs (receivedNotes s ps tables)) (pairCount ps) (length index) (length report) (settling ch (readings s ps)) c)
             (sym pl) fit;
       } in
       ap₂ (λ (ps : List ℕ) (v : Verdict). finished s tables index report ps v) pl
-      (accepting s tables (length index) (length report) c a)
+      (accepting ch s tables (length index) (length report) c a)
 
 -- ---- the report: 13 octets a multiframe, its header note and then its twelve pair notes
 abbrev pub headerNoteIn : List ℕ → ℕ → ℕ
@@ -146,25 +147,25 @@ nothing-replaced ns l good size =
     replaced-at ns l t (omega (arith, lr)) ∙ ap (λ (k : ℕ). getD l (frameIndices * k + t % frameIndices) 0) e ∙ ap (λ (k : ℕ). getD l k 0) z)
 
 -- ---- refusals that damage can bring: 16 and 20
-module _ (s : List ℕ) (m : ℕ) (few : m ≤ mostMultiframes) (size : length s ≡ multiframeOctets * m) (syncs : (k : ℕ) → k < m → syncIn s k ≡ sync)
+module _ (ch : Choices) (s : List ℕ) (m : ℕ) (few : m ≤ mostMultiframes) (size : length s ≡ multiframeOctets * m) (syncs : (k : ℕ) → k < m → syncIn s k ≡ sync)
     (tables : Tables) (index report : List ℕ) (some : 0 < m) (lent : Lent m tables index report) where
   -- past 11 to 15 the settings decide
-  settled-next : verdict s tables (length index) (length report)
-      ≡ settledVerdict (length (rowOf m)) (badPairs (receivedNotes s (rowOf m) tables)) (pairCount (rowOf m)) (length index) (length report) (settling (readings s (rowOf m)))
+  settled-next : verdict ch s tables (length index) (length report)
+      ≡ settledVerdict (length (rowOf m)) (badPairs (receivedNotes s (rowOf m) tables)) (pairCount (rowOf m)) (length index) (length report) (settling ch (readings s (rowOf m)))
   unfolding verdict wholeVerdict
   settled-next =
       rw (right-passes tables (lent .codebook-size, lent .thresholds-size))
       (subst
-      (λ (w : Cutting). endVerdict s tables (length index) (length report) (w .places) (w .ending)
-      ≡ settledVerdict (length (rowOf m)) (badPairs (receivedNotes s (rowOf m) tables)) (pairCount (rowOf m)) (length index) (length report) (settling (readings s (rowOf m))))
+      (λ (w : Cutting). endVerdict ch s tables (length index) (length report) (w .places) (w .ending)
+      ≡ settledVerdict (length (rowOf m)) (badPairs (receivedNotes s (rowOf m) tables)) (pairCount (rowOf m)) (length index) (length report) (settling ch (readings s (rowOf m))))
       (sym (cut-is s m few size syncs)) (rw (ne-eqb (length (rowOf m)) 0 (λ e. omega (arith, every-length 0 m)))))
 
-  pub refuses-16 : settling (readings s (rowOf m)) ≡ S.Unsettled → reading s tables index report ≡ outcome (Refused Unsettled) index report
+  pub refuses-16 : settling ch (readings s (rowOf m)) ≡ S.Unsettled → reading ch s tables index report ≡ outcome (Refused Unsettled) index report
   unfolding reading settledVerdict
   refuses-16 e = rw (settled-next, e)
 
-  pub refuses-20 : (c : ℕ) → settling (readings s (rowOf m)) ≡ S.Settled c → Usable c → badPairs (receivedNotes s (rowOf m) tables) ≡ pairCount (rowOf m)
-      → reading s tables index report ≡ outcome (Refused AllBad) index report
+  pub refuses-20 : (c : ℕ) → settling ch (readings s (rowOf m)) ≡ S.Settled c → Usable c → badPairs (receivedNotes s (rowOf m) tables) ≡ pairCount (rowOf m)
+      → reading ch s tables index report ≡ outcome (Refused AllBad) index report
   unfolding reading settledVerdict roomVerdict
   refuses-20 c e u b =
       let k = every-length 0 m in

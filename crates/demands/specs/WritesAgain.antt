@@ -3,7 +3,7 @@
 -- Assumes nothing.
 use mathlib.Core.Path.{_≡_, refl, sym, ap, ap₂, _∙_}
 use mathlib.Core.Bool.{Bool, true, false}
-use mathlib.Core.List.{List, [], _∷_}
+use mathlib.Core.List.{List}
 use Prim.Native.Nat.{ℕ, zero, suc, _+_, _*_, _/_, _%_, _≤_, _<_}
 use native.Mathlib.Omega.{arith}
 use lib.ListN.{length, take, drop, getD}
@@ -12,6 +12,7 @@ use Rattle.lists.specs.Tests.{not-false}
 use Rattle.lists.specs.Parts.{over, length-part}
 use Rattle.lists.specs.Rows.{each, length-each, each-at}
 use Rattle.layout.specs.Layout.{widths, frameIndices, dataBits, packetBits, multiframeFrames, multiframePairs, streamOctets, multiframeOctets, indexOctets, reportOctets, sync, syncFirst, syncSecond}
+use Rattle.choices.specs.declared.Choices.{Choices}
 use Rattle.consistency.specs.Tables.{Tables}
 use Rattle.bits.specs.Bits.{bits}
 use Rattle.bits.specs.Laws.{length-bits}
@@ -51,9 +52,9 @@ use Rattle.writer.specs.Utterance.{success}
 use Rattle.demands.specs.Whole.{rowOf, readings-are, packet-at, headerNoteIn, pairNoteIn, header-note-is, pair-note-is, nothing-replaced}
 use Rattle.demands.specs.Noteless.{clean-header, is-image, spoken, multiframes-spoken, speech-lt, packet-spoken}
 
-module _ (s : List ℕ) (tables : Tables) (index report output : List ℕ) (given : Summary) where
+module _ (ch : Choices) (s : List ℕ) (tables : Tables) (index report output : List ℕ) (given : Summary) where
   abbrev pub result : Outcome
-  result = reading s tables index report
+  result = reading ch s tables index report
 
   -- "the settings and the first `speech` frames of the index buffer", written
   abbrev pub again : W.Outcome
@@ -89,7 +90,7 @@ module _ (s : List ℕ) (tables : Tables) (index report output : List ℕ) (give
 
   pub record WasRead : Type 0 where
     pub common : ℕ
-    pub reader-accepts : Accepted s tables (length index) (length report) common
+    pub reader-accepts : Accepted ch s tables (length index) (length report) common
     pub result-is : result
         ≡ outcome (Read (summary s places ns common)) (over index 0 (indexOctets * length places) (indexPart s places ns))
         (over report 0 (reportOctets * length places) (reportPart s places ns common))
@@ -102,9 +103,9 @@ module _ (s : List ℕ) (tables : Tables) (index report output : List ℕ) (give
 
   pub was-read : result .answer ≡ Read given → WasRead
   unfolding reading answered
-  was-read e = by (verdict s tables (length index) (length report)) refl e
+  was-read e = by (verdict ch s tables (length index) (length report)) refl e
     where
-      by : (v : Verdict) → verdict s tables (length index) (length report) ≡ v → finished s tables index report places v .answer ≡ Read given → WasRead
+      by : (v : Verdict) → verdict ch s tables (length index) (length report) ≡ v → finished s tables index report places v .answer ≡ Read given → WasRead
       by (Refuse r) f e = absurd (refused r e)
         where
           refused : (r : Refusal) → Refused r ≡ Read given → ⊥
@@ -112,7 +113,7 @@ module _ (s : List ℕ) (tables : Tables) (index report output : List ℕ) (give
       by (Accept c) f e =
           record {
             common = c;
-            reader-accepts = accepted s tables (length index) (length report) c f;
+            reader-accepts = accepted ch s tables (length index) (length report) c f;
             result-is = ap (finished s tables index report places) f;
             given-is = sym (ap (answered given) e);
           }
@@ -268,7 +269,7 @@ module _ (s : List ℕ) (tables : Tables) (index report output : List ℕ) (give
               ∙ ap₂ (λ (j : ℕ) (l : List ℕ). over output 0 j l) n (ap (image (settingsOf c) idx) k ∙ octets-are);
         }
 
-pub writes-again : (s : List ℕ) (tables : Tables) (index report output : List ℕ) (given : Summary)
-    (p : Premises s tables index report output given) → Again s tables index report output given p
-writes-again s tables index report output given p =
-    proof s tables index report output given p (was-read s tables index report output given (p .succeeds))
+pub writes-again : (ch : Choices) (s : List ℕ) (tables : Tables) (index report output : List ℕ) (given : Summary)
+    (p : Premises ch s tables index report output given) → Again ch s tables index report output given p
+writes-again ch s tables index report output given p =
+    proof ch s tables index report output given p (was-read ch s tables index report output given (p .succeeds))

@@ -1,5 +1,6 @@
 // The entries for C and Rust: numbers and slices only, and nothing is asked of the caller. All but the encoder of headers answer 0 if they
 // are done, and else the number of a refusal. What each gives is defined in the crate entries; c/dsr.h says the same in C.
+use choices::Asked;
 use header::Header;
 use hunt::Hunted;
 use layout::MultiframeLayout;
@@ -11,6 +12,7 @@ use settings::Settings;
 use writer::Found;
 ghost use mathlib.Core.Path.{_≡_};
 ghost use Rattle.lists.specs.Lent.{came, left};
+ghost use Rattle.choices.specs.Choices.{asked};
 ghost use Rattle.consistency.specs.Lent.{tablesIn};
 ghost use Rattle.header_code.specs.Code.{codeword};
 ghost use Rattle.header.specs.Reading.{reading};
@@ -113,11 +115,13 @@ pub extern "C" fn dsr_write(
 }
 
 // dsr_read answers 0 and puts six numbers (rate, type, multiframes, speech, bad, end) into answer, and place stays; or 01's number, and puts
-// the refusal's place into place, and all other lent memory stays. Room for fewer than six numbers is refused with 99 (house), and then all
-// lent memory stays.
+// the refusal's place into place, and all other lent memory stays. By default (choices 0) an only multiframe is refused with 16; choices 1 asks
+// for the old rule, by which one header alone settles (02, C-20). Room for fewer than six numbers is refused with 99 and then any other number
+// of choices with 96 (house), and all lent memory stays.
 #[no_mangle]
 pub extern "C" fn dsr_read(
     octets: &[u8],
+    choices: u64,
     codebook: &[i32],
     thresholds: &[i32],
     index: &mut [u8],
@@ -126,12 +130,15 @@ pub extern "C" fn dsr_read(
     place: &mut u64,
 ) -> u32
     ensures { λ r. ⌜ returned r (left index) (left report) (left answer) (left place)
-        ≡ dsrRead (came octets) (tablesIn codebook thresholds) (came index) (came report) (came answer) (came place) ⌝ }
+        ≡ dsrRead (came octets) (asked choices) (tablesIn codebook thresholds) (came index) (came report) (came answer) (came place) ⌝ }
 {
     if answer.len() < ANSWER {
         return refusals::NO_ROOM;
     }
-    match reader::read(octets, codebook, thresholds, index, report) {
+    let Asked::For(chosen) = choices::asked_by(choices) else {
+        return refusals::NO_SUCH_CHOICE;
+    };
+    match reader::read(octets, chosen, codebook, thresholds, index, report) {
         Answer::Read(s) => {
             entries::put_summary(s, answer);
             refusals::SUCCESS
@@ -174,13 +181,15 @@ pub extern "C" fn dsr_hunt(
 }
 
 // dsr_read_bits is dsr_read for bits with no octet boundary: it answers 0 and puts eight numbers (dsr_read's six, bits outside, places
-// tested) into answer, and place stays; or the refusal's number, and puts its place into place, and all other lent memory stays. Room for
-// fewer than eight numbers is refused with 99, and then all lent memory stays.
+// tested) into answer, and place stays; or the refusal's number, and puts its place into place, and all other lent memory stays. Choices are
+// those of dsr_read. Room for fewer than eight numbers is refused with 99 and then a number that names no choice with 96, and all lent memory
+// stays.
 #[no_mangle]
 pub extern "C" fn dsr_read_bits(
     octets: &[u8],
     from: u64,
     least: u64,
+    choices: u64,
     codebook: &[i32],
     thresholds: &[i32],
     index: &mut [u8],
@@ -189,15 +198,19 @@ pub extern "C" fn dsr_read_bits(
     place: &mut u64,
 ) -> u32
     ensures { λ r. ⌜ returned r (left index) (left report) (left answer) (left place)
-        ≡ dsrReadBits (came octets) from least (tablesIn codebook thresholds) (came index) (came report) (came answer) (came place) ⌝ }
+        ≡ dsrReadBits (came octets) from least (asked choices) (tablesIn codebook thresholds) (came index) (came report) (came answer) (came place) ⌝ }
 {
     if answer.len() < COUNTED {
         return refusals::NO_ROOM;
     }
+    let Asked::For(chosen) = choices::asked_by(choices) else {
+        return refusals::NO_SUCH_CHOICE;
+    };
     match hunting::read(
         octets,
         from as usize,
         least as usize,
+        chosen,
         codebook,
         thresholds,
         index,

@@ -5,6 +5,8 @@ use mathlib.Core.Path.{_≡_, refl}
 use mathlib.Core.List.{List, [], _∷_}
 use Prim.Native.Nat.{ℕ}
 use lib.ListN.{replicate}
+use Rattle.choices.specs.declared.Choices.{Choices}
+use Rattle.choices.specs.declared.Asked.the-variants.{For}
 use Rattle.settings.specs.Settings.{settings}
 use Rattle.frames.specs.Frames.{zeroFrame}
 use Rattle.reader.specs.Reading.{Outcome, outcome, reading, verdict}
@@ -23,7 +25,7 @@ talk = outcome (Read (record { settings = settings 3 1; multiframes = 2; speech 
 abbrev pub seven : List ℕ
 seven = 90 ∷ 91 ∷ 92 ∷ 93 ∷ 94 ∷ 95 ∷ 96 ∷ []
 
-pub record Table : Type 0 where
+pub record Table (ch : Choices) : Type 0 where
   -- rate, type, multiframes, speech, bad, end; a seventh number stays
   pub six-numbers : returning 6 seven 8 (5 ∷ []) (6 ∷ []) (givenOf talk) ≡ record { number = 0; index = 1 ∷ []; report = 2 ∷ []; answer = 3 ∷ 1 ∷ 2 ∷ 30 ∷ 4 ∷ 0 ∷ 96 ∷ []; place = 8 }
   -- a refusal has a place of its own, and leaves the answer and both buffers
@@ -36,7 +38,7 @@ pub record Table : Type 0 where
   -- no room for six numbers: 99 comes before all, and all stays
   pub five-numbers : returning 6 (replicate 5 90) 8 (5 ∷ []) (6 ∷ []) (givenOf talk) ≡ record { number = 99; index = 5 ∷ []; report = 6 ∷ []; answer = replicate 5 90; place = 8 }
   -- dsr_read itself: no tables are 11
-  pub no-tables : dsrRead (0x87 ∷ []) (tablesOf [] []) (5 ∷ []) (6 ∷ []) seven 8
+  pub no-tables : dsrRead (0x87 ∷ []) (For ch) (tablesOf [] []) (5 ∷ []) (6 ∷ []) seven 8
       ≡ record { number = 11; index = 5 ∷ []; report = 6 ∷ []; answer = seven; place = 0 }
   -- dsr_write: rate before type, the number returned, the place lent, the output as it came
   pub rate-2 : dsrWrite 2 0 [] (7 ∷ []) ≡ record { number = 1; output = 7 ∷ []; place = 0 }
@@ -46,9 +48,9 @@ pub record Table : Type 0 where
   pub eight-octets : dsrWrite 0 0 (replicate 8 1) (7 ∷ []) ≡ record { number = 2; output = 7 ∷ []; place = 8 }
   pub wide-index : dsrWrite 0 0 (64 ∷ 0 ∷ 0 ∷ 0 ∷ 0 ∷ 0 ∷ 0 ∷ []) (7 ∷ []) ≡ record { number = 4; output = 7 ∷ []; place = 1 }
 
-pub table : Table
+pub table : (ch : Choices) → Table ch
 unfolding returning reading verdict tablesRight writing W.verdict roomAnswer firstFrom zeroFrame
-table = record {
+table ch = record {
   six-numbers = refl;
   refused-13 = refl;
   refused-18 = refl;

@@ -8,6 +8,8 @@ use native.Mathlib.Omega.{arith}
 use lib.ListN.{length, take, drop, getD, replicate, length-replicate, List·getD-eq-default}
 use Rattle.lists.specs.Parts.{over}
 use Rattle.layout.specs.Layout.{frameIndices, multiframeOctets, indexOctets, reportOctets}
+use Rattle.choices.specs.declared.Choices.{Choices}
+use Rattle.choices.specs.declared.Asked.the-variants.{For}
 use Rattle.consistency.specs.Tables.{Tables}
 use Rattle.image.specs.Made.{Small}
 use Rattle.writer.specs.Writing.{frameCount, multiframesFor}
@@ -16,6 +18,7 @@ use Rattle.writer.specs.Utterance.{Utterance, whole-frames}
 use Rattle.reader.specs.Reading.{Outcome, reading}
 use Rattle.reader.specs.declared.Summary.{Summary}
 use Rattle.reader.specs.declared.Answer.the-variants.{Read}
+use Rattle.settling.specs.Laws.{Enough}
 use Rattle.entries.specs.Entries.{answerNumbers, summaryNumbers, Returned, returned, WriteReturned, dsrWrite, dsrRead}
 use Rattle.demands.specs.Whole.{Lent, front-at}
 use Rattle.demands.specs.ReadsBack.{spoken, padded, no-more, length-padded, padded-at}
@@ -25,18 +28,20 @@ use Rattle.dsr_demands.specs.Called.{Call, called, took, place-is, outpu
 use Rattle.dsr_demands.specs.Calls.{beyond, write-zero, read-success, read-zero}
 
 -- ---- READS BACK
-module _ (rate kind : ℕ) (indices out : List ℕ) (tables : Tables) (index report answer : List ℕ) (place : ℕ) where
+module _ (ch : Choices) (rate kind : ℕ) (indices out : List ℕ) (tables : Tables) (index report answer : List ℕ) (place : ℕ) where
   abbrev pub wrote : WriteReturned
   wrote = dsrWrite rate kind indices out
 
   -- the octets written are read
   abbrev pub back : Returned
-  back = dsrRead (take (wrote .place) (wrote .output)) tables index report answer place
+  back = dsrRead (take (wrote .place) (wrote .output)) (For ch) tables index report answer place
 
   pub record BackPremises : Type 0 where
     -- what a caller lends are octets
     pub small : Small indices
     pub written : wrote .number ≡ 0
+    -- two multiframes or more, or the old rule is asked for (02, C-20)
+    pub headers : Enough ch (multiframesFor (frameCount indices))
     -- 01's tables and room, and room for six numbers
     pub lent : Lent (multiframesFor (frameCount indices)) tables index report
     pub numbers : answerNumbers ≤ length answer
@@ -69,15 +74,15 @@ module _ (rate kind : ℕ) (indices out : List ℕ) (tables : Tables) (index rep
     abbrev m : ℕ
     m = multiframesFor (frameCount indices)
 
-    b : R.Back u tables out index report
-    b = R.reads-back u tables out index report (record { output-room = took rate kind indices out call .room; lent = p .lent })
+    b : R.Back ch u tables out index report
+    b = R.reads-back ch u tables out index report (record { headers = p .headers; output-room = took rate kind indices out call .room; lent = p .lent })
 
     -- reading the octets written
     abbrev o : Outcome
-    o = reading (take n (wrote .output)) tables index report
+    o = reading ch (take n (wrote .output)) tables index report
 
-    o-is : R.result u tables out index report ≡ o
-    o-is = ap (λ (k : ℕ). reading (take k (wrote .output)) tables index report) (sym (place-is rate kind indices out call))
+    o-is : R.result ch u tables out index report ≡ o
+    o-is = ap (λ (k : ℕ). reading ch (take k (wrote .output)) tables index report) (sym (place-is rate kind indices out call))
 
     back-is : back ≡ returned 0 (o .index) (o .report) (over answer 0 answerNumbers (summaryNumbers (spoken u))) place
     back-is = read-success answer place index report o (p .numbers) (spoken u) (ap (λ (x : Outcome). x .answer) (sym o-is) ∙ b .succeeds)
@@ -110,14 +115,14 @@ module _ (rate kind : ℕ) (indices out : List ℕ) (tables : Tables) (index rep
           ∙ beyond report (replicate (reportOctets * m) 0) (reportOctets * m) (p .lent .report-room) (length-replicate (reportOctets * m) 0);
     }
 
-pub c-reads-back : (rate kind : ℕ) (indices out : List ℕ) (tables : Tables) (index report answer : List ℕ) (place : ℕ)
-    → BackPremises rate kind indices out tables index report answer place → ReadBack rate kind indices out tables index report answer place
-c-reads-back = proof
+pub c-reads-back : (ch : Choices) (rate kind : ℕ) (indices out : List ℕ) (tables : Tables) (index report answer : List ℕ) (place : ℕ)
+    → BackPremises ch rate kind indices out tables index report answer place → ReadBack ch rate kind indices out tables index report answer place
+c-reads-back ch = proof ch
 
 -- ---- WRITES AGAIN
-module _ (s : List ℕ) (tables : Tables) (index report answer : List ℕ) (place : ℕ) (output : List ℕ) where
+module _ (ch : Choices) (s : List ℕ) (tables : Tables) (index report answer : List ℕ) (place : ℕ) (output : List ℕ) where
   abbrev pub got : Returned
-  got = dsrRead s tables index report answer place
+  got = dsrRead s (For ch) tables index report answer place
 
   -- the settings and the first `speech` frames of the index buffer, written
   abbrev pub again : WriteReturned
@@ -137,24 +142,24 @@ module _ (s : List ℕ) (tables : Tables) (index report answer : List ℕ) (plac
     pub same-octets : again .output ≡ over output 0 (length s) s
 
   module _ (p : AgainPremises) where
-    z : (answerNumbers ≤ length answer) × ((g : Summary) × (reading s tables index report .answer ≡ Read g))
-    z = read-zero answer place index report (reading s tables index report) (p .number)
+    z : (answerNumbers ≤ length answer) × ((g : Summary) × (reading ch s tables index report .answer ≡ Read g))
+    z = read-zero answer place index report (reading ch s tables index report) (p .number)
 
     abbrev g : Summary
     g = z .1 .0
 
-    got-is : got ≡ returned 0 (reading s tables index report .index) (reading s tables index report .report) (over answer 0 answerNumbers (summaryNumbers g)) place
-    got-is = read-success answer place index report (reading s tables index report) (z .0) g (z .1 .1)
+    got-is : got ≡ returned 0 (reading ch s tables index report .index) (reading ch s tables index report .report) (over answer 0 answerNumbers (summaryNumbers g)) place
+    got-is = read-success answer place index report (reading ch s tables index report) (z .0) g (z .1 .1)
 
     at : (k : ℕ) → getD (got .answer) k 0 ≡ getD (over answer 0 answerNumbers (summaryNumbers g)) k 0
     at k = ap (λ (x : Returned). getD (x .answer) k 0) got-is
 
-    again-is : again ≡ dsrWrite (g .settings .rate) (g .settings .kind) (take (frameIndices * g .speech) (reading s tables index report .index)) output
+    again-is : again ≡ dsrWrite (g .settings .rate) (g .settings .kind) (take (frameIndices * g .speech) (reading ch s tables index report .index)) output
     again-is =
         ap₂ (λ (a b : ℕ). dsrWrite a b (take (frameIndices * getD (got .answer) 3 0) (got .index)) output) (at 0) (at 1)
         ∙ ap₂ (λ (n : ℕ) (l : List ℕ). dsrWrite (g .settings .rate) (g .settings .kind) (take (frameIndices * n) l) output) (at 3) (ap (λ (x : Returned). x .index) got-is)
 
-    premises : A.Premises s tables index report output g
+    premises : A.Premises ch s tables index report output g
     premises = record {
       small = p .small;
       succeeds = z .1 .1;
@@ -162,14 +167,14 @@ module _ (s : List ℕ) (tables : Tables) (index report answer : List ℕ) (plac
           ap (λ (x : Returned). getD (x .report) i 0) (sym got-is) ∙ p .notes-0 i (subst (λ (n : ℕ). i < reportOctets * n) (sym (at 2)) h);
       ended = sym (at 5) ∙ p .ended;
       no-inverses = p .no-inverses ∙ ap (λ (n : ℕ). multiframeOctets * n) (at 2);
-      octets = dsrWrite (g .settings .rate) (g .settings .kind) (take (frameIndices * g .speech) (reading s tables index report .index)) output .place;
+      octets = dsrWrite (g .settings .rate) (g .settings .kind) (take (frameIndices * g .speech) (reading ch s tables index report .index)) output .place;
       accepts =
-          write-zero (g .settings .rate) (g .settings .kind) (take (frameIndices * g .speech) (reading s tables index report .index)) output
+          write-zero (g .settings .rate) (g .settings .kind) (take (frameIndices * g .speech) (reading ch s tables index report .index)) output
           (ap (λ (w : WriteReturned). w .number) (sym again-is) ∙ p .accepts);
     }
 
-    a : A.Again s tables index report output g premises
-    a = A.writes-again s tables index report output g premises
+    a : A.Again ch s tables index report output g premises
+    a = A.writes-again ch s tables index report output g premises
 
     written-again : WrittenAgain
     unfolding premises
@@ -178,6 +183,6 @@ module _ (s : List ℕ) (tables : Tables) (index report answer : List ℕ) (plac
       same-octets = ap (λ (w : WriteReturned). w .output) again-is ∙ a .same-octets;
     }
 
-pub c-writes-again : (s : List ℕ) (tables : Tables) (index report answer : List ℕ) (place : ℕ) (output : List ℕ)
-    → AgainPremises s tables index report answer place output → WrittenAgain s tables index report answer place output
-c-writes-again = written-again
+pub c-writes-again : (ch : Choices) (s : List ℕ) (tables : Tables) (index report answer : List ℕ) (place : ℕ) (output : List ℕ)
+    → AgainPremises ch s tables index report answer place output → WrittenAgain ch s tables index report answer place output
+c-writes-again ch = written-again ch

@@ -9,6 +9,8 @@ use native.Mathlib.Omega.{arith}
 use lib.Dec.{ltb}
 use lib.ListN.{length, drop}
 use borrow.Author.Tests.{le-ltb, lt-ltb, ltb-false}
+use Rattle.choices.specs.declared.Choices.{Choices}
+use Rattle.choices.specs.declared.Asked.the-variants.{For}
 use Rattle.lists.specs.Tests.{when}
 use Rattle.lists.specs.Parts.{over, drop-over}
 use Rattle.consistency.specs.Tables.{Tables}
@@ -121,38 +123,38 @@ module _ (a : List ℕ) (p : ℕ) (i r : List ℕ) (o : R.Outcome) where
       by (Refused x) q e = absurd (reading-no-success x e)
 
 -- a refusal of the reader leaves both buffers
-refusal-stays : (octets : List ℕ) (tables : Tables) (index report : List ℕ) (x : Refusal) → reading octets tables index report .answer ≡ Refused x
-    → (reading octets tables index report .index ≡ index) × (reading octets tables index report .report ≡ report)
-refusal-stays octets tables index report x e =
-    let k = refusal-keeps octets tables index report x e in
+refusal-stays : (ch : Choices) (octets : List ℕ) (tables : Tables) (index report : List ℕ) (x : Refusal) → reading ch octets tables index report .answer ≡ Refused x
+    → (reading ch octets tables index report .index ≡ index) × (reading ch octets tables index report .report ≡ report)
+refusal-stays ch octets tables index report x e =
+    let k = refusal-keeps ch octets tables index report x e in
     (ap (λ (o : R.Outcome). o .index) k, ap (λ (o : R.Outcome). o .report) k)
 
 -- any other number leaves both buffers and the answer as they came
-pub read-keeps : (octets : List ℕ) (tables : Tables) (index report answer : List ℕ) (place : ℕ)
-    → (dsrRead octets tables index report answer place .number ≡ 0 → ⊥)
-    → (dsrRead octets tables index report answer place .index ≡ index)
-    × ((dsrRead octets tables index report answer place .report ≡ report) × (dsrRead octets tables index report answer place .answer ≡ answer))
-read-keeps octets tables index report answer place =
-    told-keeps answerNumbers answer place index report (givenOf (reading octets tables index report)) (λ n q.
-    by (reading octets tables index report .answer) refl)
+pub read-keeps : (ch : Choices) (octets : List ℕ) (tables : Tables) (index report answer : List ℕ) (place : ℕ)
+    → (dsrRead octets (For ch) tables index report answer place .number ≡ 0 → ⊥)
+    → (dsrRead octets (For ch) tables index report answer place .index ≡ index)
+    × ((dsrRead octets (For ch) tables index report answer place .report ≡ report) × (dsrRead octets (For ch) tables index report answer place .answer ≡ answer))
+read-keeps ch octets tables index report answer place =
+    told-keeps answerNumbers answer place index report (givenOf (reading ch octets tables index report)) (λ n q.
+    by (reading ch octets tables index report .answer) refl)
   where
-    by : (x : Answer) {n q : ℕ} → reading octets tables index report .answer ≡ x → toldOf x ≡ refusal n q
-        → (reading octets tables index report .index ≡ index) × (reading octets tables index report .report ≡ report)
+    by : (x : Answer) {n q : ℕ} → reading ch octets tables index report .answer ≡ x → toldOf x ≡ refusal n q
+        → (reading ch octets tables index report .index ≡ index) × (reading ch octets tables index report .report ≡ report)
     by (Read g) z e = absurd (no-refusal e)
-    by (Refused y) z e = refusal-stays octets tables index report y z
+    by (Refused y) z e = refusal-stays ch octets tables index report y z
 
 -- a refusal gives 01's number and its place, and all else stays; with no room for six numbers it is 99, and all stays
-pub read-refused : (octets : List ℕ) (tables : Tables) (index report answer : List ℕ) (place : ℕ) (x : Refusal) → answerNumbers ≤ length answer
-    → reading octets tables index report .answer ≡ Refused x
-    → dsrRead octets tables index report answer place ≡ returned (readingNumber x) index report answer (readingPlace x)
-read-refused octets tables index report answer place x room e =
-    told-refused answerNumbers answer place index report (givenOf (reading octets tables index report)) room (readingNumber x) (readingPlace x)
-    (ap givenOf (refusal-keeps octets tables index report x e))
+pub read-refused : (ch : Choices) (octets : List ℕ) (tables : Tables) (index report answer : List ℕ) (place : ℕ) (x : Refusal) → answerNumbers ≤ length answer
+    → reading ch octets tables index report .answer ≡ Refused x
+    → dsrRead octets (For ch) tables index report answer place ≡ returned (readingNumber x) index report answer (readingPlace x)
+read-refused ch octets tables index report answer place x room e =
+    told-refused answerNumbers answer place index report (givenOf (reading ch octets tables index report)) room (readingNumber x) (readingPlace x)
+    (ap givenOf (refusal-keeps ch octets tables index report x e))
 
-pub read-no-room : (octets : List ℕ) (tables : Tables) (index report answer : List ℕ) (place : ℕ) → length answer < answerNumbers
-    → dsrRead octets tables index report answer place ≡ returned noRoom index report answer place
-read-no-room octets tables index report answer place =
-    told-no-room answerNumbers answer place index report (givenOf (reading octets tables index report))
+pub read-no-room : (ch : Choices) (octets : List ℕ) (tables : Tables) (index report answer : List ℕ) (place : ℕ) → length answer < answerNumbers
+    → dsrRead octets (For ch) tables index report answer place ≡ returned noRoom index report answer place
+read-no-room ch octets tables index report answer place =
+    told-no-room answerNumbers answer place index report (givenOf (reading ch octets tables index report))
 
 -- ---- dsr_read_bits
 module _ (a : List ℕ) (p : ℕ) (i r : List ℕ) (o : G.Outcome) where
@@ -168,12 +170,12 @@ module _ (a : List ℕ) (p : ℕ) (i r : List ℕ) (o : G.Outcome) where
       by (GW.Refused x) q e = absurd (hunting-no-success x e)
 
 -- a refusal of the hunting reader leaves both buffers
-module _ (s : List ℕ) (from least : ℕ) (tables : Tables) (index report : List ℕ) where
+module _ (ch : Choices) (s : List ℕ) (from least : ℕ) (tables : Tables) (index report : List ℕ) where
   abbrev found : G.Outcome
-  found = huntingReading s from least tables index report
+  found = huntingReading ch s from least tables index report
 
   bits-stay : (x : GR.Hunting) → found .answer ≡ GW.Refused x → (found .index ≡ index) × (found .report ≡ report)
-  bits-stay x e = by (F.fate s from least tables index report)
+  bits-stay x e = by (F.fate ch s from least tables index report)
     where
       kept : (y : GR.Hunting) → found ≡ G.outcome (GW.Refused y) index report → (found .index ≡ index) × (found .report ≡ report)
       kept y q = (ap (λ (o : G.Outcome). o .index) q, ap (λ (o : G.Outcome). o .report) q)
@@ -189,17 +191,17 @@ module _ (s : List ℕ) (from least : ℕ) (tables : Tables) (index report : Lis
           from-answer (Refused y) z =
               (ap (λ (w : G.Outcome). w .index) q ∙ stays y z .0, ap (λ (w : G.Outcome). w .report) q ∙ stays y z .1)
 
-      by : F.Fate s from least tables index report → (found .index ≡ index) × (found .report ≡ report)
+      by : F.Fate ch s from least tables index report → (found .index ≡ index) × (found .report ≡ report)
       by (F.wrongTables w q) = kept _ q
       by (F.range t w q) = kept _ q
       by (F.nowhere t r n q) = kept _ q
       by (F.many p t r x b q) = kept _ q
-      by (F.read t r n w q) = counted-stays _ _ _ (refusal-stays _ tables index report) q
+      by (F.read t r n w q) = counted-stays _ _ _ (refusal-stays ch _ tables index report) q
 
   -- any other number than 0 leaves both buffers and the answer as they came
-  pub bits-kept : (answer : List ℕ) (place : ℕ) → (dsrReadBits s from least tables index report answer place .number ≡ 0 → ⊥)
-      → (dsrReadBits s from least tables index report answer place .index ≡ index)
-      × ((dsrReadBits s from least tables index report answer place .report ≡ report) × (dsrReadBits s from least tables index report answer place .answer ≡ answer))
+  pub bits-kept : (answer : List ℕ) (place : ℕ) → (dsrReadBits s from least (For ch) tables index report answer place .number ≡ 0 → ⊥)
+      → (dsrReadBits s from least (For ch) tables index report answer place .index ≡ index)
+      × ((dsrReadBits s from least (For ch) tables index report answer place .report ≡ report) × (dsrReadBits s from least (For ch) tables index report answer place .answer ≡ answer))
   bits-kept answer place = told-keeps countedNumbers answer place index report (bitsGiven found) (λ n q. by (found .answer) refl)
     where
       by : (x : GA.Answer) {n q : ℕ} → found .answer ≡ x → bitsTold x ≡ refusal n q → (found .index ≡ index) × (found .report ≡ report)
@@ -208,12 +210,12 @@ module _ (s : List ℕ) (from least : ℕ) (tables : Tables) (index report : Lis
 
   -- a refusal gives its number and its place, and all else stays; with no room for eight numbers it is 99, and all stays
   pub bits-refused : (answer : List ℕ) (place : ℕ) (x : GR.Hunting) → countedNumbers ≤ length answer → found .answer ≡ GW.Refused x
-      → dsrReadBits s from least tables index report answer place ≡ returned (huntingNumber x) index report answer (huntingPlace x)
+      → dsrReadBits s from least (For ch) tables index report answer place ≡ returned (huntingNumber x) index report answer (huntingPlace x)
   bits-refused answer place x room e =
       let k = bits-stay x e in
       told-refused countedNumbers answer place index report (bitsGiven found) room (huntingNumber x) (huntingPlace x)
       (ap (λ (y : GA.Answer). given (bitsTold y) (found .index) (found .report)) e ∙ ap₂ (given (bitsTold (GW.Refused x))) (k .0) (k .1))
 
   pub bits-no-room : (answer : List ℕ) (place : ℕ) → length answer < countedNumbers
-      → dsrReadBits s from least tables index report answer place ≡ returned noRoom index report answer place
+      → dsrReadBits s from least (For ch) tables index report answer place ≡ returned noRoom index report answer place
   bits-no-room answer place = told-no-room countedNumbers answer place index report (bitsGiven found)

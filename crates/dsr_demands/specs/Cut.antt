@@ -7,6 +7,8 @@ use native.Mathlib.Omega.{arith}
 use lib.ListN.{length, take, getD}
 use Rattle.lists.specs.Parts.{over}
 use Rattle.layout.specs.Layout.{multiframePairs, multiframeFrames, multiframeOctets, mostMultiframes, reportOctets, inverseFirst, inverseSecond}
+use Rattle.choices.specs.declared.Choices.{Choices}
+use Rattle.choices.specs.declared.Asked.the-variants.{For}
 use Rattle.consistency.specs.Tables.{Tables, RightTables}
 use Rattle.cutting.specs.Cutting.{cutting, whole}
 use Rattle.refusals.specs.Refusals.{readingNumber, readingPlace}
@@ -30,18 +32,18 @@ refused-is a q i r o n p h x =
     told-refused answerNumbers a q i r (givenOf o) h (readingNumber (x .refusal)) (readingPlace (x .refusal)) (ap givenOf (x .is-refused))
     ∙ ap₂ (λ (m k : ℕ). returned m i r a k) (x .number-is) (x .place-is)
 
-module _ (tables : Tables) (index report answer : List ℕ) (place : ℕ) where
+module _ (ch : Choices) (tables : Tables) (index report answer : List ℕ) (place : ℕ) where
   abbrev c : List ℕ → Returned
-  c s = dsrRead s tables index report answer place
+  c s = dsrRead s (For ch) tables index report answer place
 
   -- INVERSE SYNCS CHANGE NOTHING: one of them between octets that are each cut to their end
   pub c-one-inverse : (a b : List ℕ) → cutting a .ending ≡ whole → cutting b .ending ≡ whole → 0 < found a + found b → found a + found b ≤ mostMultiframes
       → c (a ++ (inverseFirst ∷ inverseSecond ∷ b)) ≡ c (a ++ b)
-  c-one-inverse a b ca cb some few = ap (λ (o : Outcome). returning answerNumbers answer place index report (givenOf o)) (one-inverse a b ca cb some few tables index report)
+  c-one-inverse a b ca cb some few = ap (λ (o : Outcome). returning answerNumbers answer place index report (givenOf o)) (one-inverse ch a b ca cb some few tables index report)
 
   -- and any number of them, before, between and behind the multiframes of a damaged image
   pub c-spaced : (u : Utterance) (s : List ℕ) → Damage (multiframesOf u) (imageOf u) s → (g : ℕ → ℕ) → c (spaced g s (multiframesOf u)) ≡ c s
-  c-spaced u s d g = ap (λ (o : Outcome). returning answerNumbers answer place index report (givenOf o)) (spaced-image u s d g tables index report)
+  c-spaced u s d g = ap (λ (o : Outcome). returning answerNumbers answer place index report (givenOf o)) (spaced-image ch u s d g tables index report)
 
   -- A CUT BETWEEN MULTIFRAMES TELLS: of the first k of an image, if dsr_read answers 0, the settings are those sent, all frames are speech, no pair is bad
   -- and end is 0
@@ -49,9 +51,9 @@ module _ (tables : Tables) (index report answer : List ℕ) (place : ℕ) where
       → c (take (multiframeOctets * k) (imageOf u)) .answer ≡ over answer 0 answerNumbers (u .settings .rate ∷ u .settings .kind ∷ k ∷ multiframeFrames * k ∷ 0 ∷ 0 ∷ [])
   c-cut-off u k less zero =
       let s = take (multiframeOctets * k) (imageOf u) in
-      let z = read-zero answer place index report (reading s tables index report) zero in
-      let g = cut-off-answer u k less tables index report (z .1 .0) (z .1 .1) in
-      ap (λ (x : Returned). x .answer) (got-is s tables index report answer place (z .0) (z .1 .0) (z .1 .1))
+      let z = read-zero answer place index report (reading ch s tables index report) zero in
+      let g = cut-off-answer ch u k less tables index report (z .1 .0) (z .1 .1) in
+      ap (λ (x : Returned). x .answer) (got-is ch s tables index report answer place (z .0) (z .1 .0) (z .1 .1))
       ∙ ap (λ (x : Summary). over answer 0 answerNumbers (x .settings .rate ∷ x .settings .kind ∷ x .multiframes ∷ x .speech ∷ x .bad ∷ x .end ∷ [])) g
 
   -- of a damaged one, if the last pair that came has no note
@@ -60,11 +62,11 @@ module _ (tables : Tables) (index report answer : List ℕ) (place : ℕ) where
       → getD (c (take (multiframeOctets * k) s) .answer) 5 0 ≡ 0
   c-cut-off-damaged u s d k some less zero note =
       let t = take (multiframeOctets * k) s in
-      let z = read-zero answer place index report (reading t tables index report) zero in
-      let q = got-is t tables index report answer place (z .0) (z .1 .0) (z .1 .1) in
+      let z = read-zero answer place index report (reading ch t tables index report) zero in
+      let q = got-is ch t tables index report answer place (z .0) (z .1 .0) (z .1 .1) in
       let p : reportOctets * ((multiframePairs * k - 1) / multiframePairs) + 1 + (multiframePairs * k - 1) % multiframePairs ≡ reportOctets * (k - 1) + 1 + 11 = omega arith in
-      at t tables index report answer place (z .0) (z .1 .0) (z .1 .1) 5
-      ∙ cut-off-told-damaged u s d k less tables index report (z .1 .0) (z .1 .1)
+      at ch t tables index report answer place (z .0) (z .1 .0) (z .1 .1) 5
+      ∙ cut-off-told-damaged ch u s d k less tables index report (z .1 .0) (z .1 .1)
       (ap (λ (x : Returned). pairNoteIn (x .report) (multiframePairs * k - 1)) (sym q) ∙ ap (λ (i : ℕ). getD (c t .report) i 0) p ∙ note)
 
   -- A CUT INSIDE A MULTIFRAME IS 13, with the place of that multiframe, and both buffers and the answer as they came
@@ -72,5 +74,5 @@ module _ (tables : Tables) (index report answer : List ℕ) (place : ℕ) where
       → RightTables tables → answerNumbers ≤ length answer
       → c (take (multiframeOctets * k + j) s) ≡ returned 13 index report answer (multiframeOctets * k)
   c-cut-inside u s d k j less some few sized room =
-      refused-is answer place index report (reading (take (multiframeOctets * k + j) s) tables index report) 13 (multiframeOctets * k) room
-      (cut-inside-damaged u s d k j less some few tables index report sized)
+      refused-is answer place index report (reading ch (take (multiframeOctets * k + j) s) tables index report) 13 (multiframeOctets * k) room
+      (cut-inside-damaged ch u s d k j less some few tables index report sized)

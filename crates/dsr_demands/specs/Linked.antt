@@ -7,6 +7,8 @@ use mathlib.Core.Logic.{_⊎_, ⊎-elim, inl, inr}
 use Prim.Native.Nat.{ℕ, _*_, _≤_, _<_}
 use lib.ListN.{length, getD}
 use Rattle.layout.specs.Layout.{reportOctets}
+use Rattle.choices.specs.declared.Choices.{Choices}
+use Rattle.choices.specs.declared.Asked.the-variants.{For}
 use Rattle.consistency.specs.Tables.{Tables}
 use Rattle.image.specs.Made.{syncIn}
 use Rattle.writer.specs.Utterance.{Utterance, imageOf}
@@ -22,24 +24,24 @@ module _ (rate kind : ℕ) (indices out : List ℕ) (call : Call rate kind indic
   abbrev u : Utterance
   u = called rate kind indices out call
 
-  abbrev c : Returned
-  c = dsrRead s tables index report answer place
+  abbrev c : (ch : Choices) → Returned
+  c ch = dsrRead s (For ch) tables index report answer place
 
   e : octetsOf rate kind indices out ≡ imageOf (called rate kind indices out call)
   e = octets-are rate kind indices out call
 
   -- NAMES THE DAMAGE: at most three flips in each header, demand 3's damage to packets, and dsr_read answers 0
-  pub c-link-names : DamageUpTo 3 (countOf indices) (octetsOf rate kind indices out) s → c .number ≡ 0
-      → Tells (called rate kind indices out call) s tables (c .number) (c .answer) (c .index) (c .report)
-  c-link-names d = c-names-if-read u s tables index report answer place (subst (λ (l : List ℕ). DamageUpTo 3 (countOf indices) l s) e d)
+  pub c-link-names : (ch : Choices) → DamageUpTo 3 (countOf indices) (octetsOf rate kind indices out) s → c ch .number ≡ 0
+      → Tells (called rate kind indices out call) s tables (c ch .number) (c ch .answer) (c ch .index) (c ch .report)
+  c-link-names ch d = c-names-if-read ch u s tables index report answer place (subst (λ (l : List ℕ). DamageUpTo 3 (countOf indices) l s) e d)
 
   -- A LIST WITHOUT A WARNING: any damage to headers but for one, which has at most five flips, demand 3's damage to packets; dsr_read answers 0, and
   -- every note is 0. Then the octets are those written, and all of it is heard
-  pub c-link-trusted : DamageUpTo headerBits (countOf indices) (octetsOf rate kind indices out) s → (k : ℕ) → k < countOf indices
-      → headerFlips (octetsOf rate kind indices out) s k ≤ 5 → c .number ≡ 0 → ((i : ℕ) → i < reportOctets * getD (c .answer) 2 0 → getD (c .report) i 0 ≡ 0)
-      → (s ≡ octetsOf rate kind indices out) × HearsAll (called rate kind indices out call) s tables index report answer place
-  c-link-trusted d k h five zero clean =
-      let t = c-trusted u s tables index report answer place
+  pub c-link-trusted : (ch : Choices) → DamageUpTo headerBits (countOf indices) (octetsOf rate kind indices out) s → (k : ℕ) → k < countOf indices
+      → headerFlips (octetsOf rate kind indices out) s k ≤ 5 → c ch .number ≡ 0 → ((i : ℕ) → i < reportOctets * getD (c ch .answer) 2 0 → getD (c ch .report) i 0 ≡ 0)
+      → (s ≡ octetsOf rate kind indices out) × HearsAll ch (called rate kind indices out call) s tables index report answer place
+  c-link-trusted ch d k h five zero clean =
+      let t = c-trusted ch u s tables index report answer place
       (record {
         damage = subst (λ (l : List ℕ). DamageUpTo headerBits (countOf indices) l s) e d;
         header = k;
@@ -56,10 +58,10 @@ module _ (rate kind : ℕ) (indices out : List ℕ) (call : Call rate kind indic
     pub headers : ((but : ℕ) × ((2 ≤ countOf indices) × ((k : ℕ) → k < countOf indices → (k ≡ but → ⊥) → headerFlips (octetsOf rate kind indices out) s k ≤ 3)))
         ⊎ ((countOf indices ≡ 1) × (headerFlips (octetsOf rate kind indices out) s 0 ≤ 5))
 
-  pub c-link-never-misled : Spared → c .number ≡ 0
-      → (getD (c .answer) 0 0 ≡ rate) × ((getD (c .answer) 1 0 ≡ kind) × (getD (c .answer) 2 0 ≡ countOf indices))
-  c-link-never-misled p =
-      c-never-misled u s tables index report answer place
+  pub c-link-never-misled : (ch : Choices) → Spared → c ch .number ≡ 0
+      → (getD (c ch .answer) 0 0 ≡ rate) × ((getD (c ch .answer) 1 0 ≡ kind) × (getD (c ch .answer) 2 0 ≡ countOf indices))
+  c-link-never-misled ch p =
+      c-never-misled ch u s tables index report answer place
       (record {
         size = p .size ∙ ap length e;
         syncs = λ k h. p .syncs k h ∙ ap (λ (l : List ℕ). syncIn l k) e;

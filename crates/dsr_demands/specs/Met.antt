@@ -10,13 +10,16 @@ use lib.ListN.{take, drop, getD, replicate, length-replicate}
 use lib.Seq.{take-at}
 use Rattle.lists.specs.Parts.{over}
 use Rattle.layout.specs.Layout.{frameIndices, multiframeOctets, reportOctets}
+use Rattle.choices.specs.declared.Choices.{Choices}
+use Rattle.choices.specs.declared.Asked.the-variants.{For}
 use Rattle.hunt.specs.Hunt.{fewestMatches}
-use Rattle.reader.specs.Reading.{Outcome, reading}
+use Rattle.reader.specs.Reading.{reading}
 use Rattle.writer.specs.Writing as W
 use Rattle.image.specs.Laws.{length-image}
 use Rattle.writer.specs.Writing.{needed, writing}
 use Rattle.writer.specs.declared.Answer.the-variants.{Written}
 use Rattle.writer.specs.Utterance.{Utterance, multiframesOf, imageOf, writes}
+use Rattle.settling.specs.Laws.{Enough}
 use Rattle.entries.specs.Entries.{answerNumbers, summaryNumbers, Returned, returned, dsrWrite, dsrRead}
 use Rattle.entries.specs.Bits.{dsrReadBits}
 use Rattle.demands.specs.Damage.{DamageUpTo, headerBits, loosened, headerFlips}
@@ -50,20 +53,20 @@ module _ (u : Utterance) where
   pub call-met : Call (u .settings .rate) (u .settings .kind) (u .indices) roomFor
   call-met = record { small = u .small; written = ap (λ (o : W.Outcome). W.numberOf (o .answer)) wrote-is }
 
-  -- READS BACK: every utterance
-  pub back-met : BackPremises (u .settings .rate) (u .settings .kind) (u .indices) roomFor zeroTables (indexFor (multiframesOf u)) (reportFor (multiframesOf u)) six 0
-  back-met = record { small = u .small; written = call-met .written; lent = lent-zeros (multiframesOf u); numbers = lit≤ tt }
+  -- READS BACK: every utterance of two multiframes or more, and every utterance if the old rule is asked for
+  pub back-met : (ch : Choices) → Enough ch (multiframesOf u) → BackPremises ch (u .settings .rate) (u .settings .kind) (u .indices) roomFor zeroTables (indexFor (multiframesOf u)) (reportFor (multiframesOf u)) six 0
+  back-met ch sent = record { small = u .small; written = call-met .written; headers = sent; lent = lent-zeros (multiframesOf u); numbers = lit≤ tt }
 
-  -- WRITES AGAIN: every image
-  pub again-met : AgainPremises (imageOf u) zeroTables (indexFor (multiframesOf u)) (reportFor (multiframesOf u)) six 0 roomFor
-  again-met =
-      let a = writes-again-met u in
+  -- WRITES AGAIN: every image that is read
+  pub again-met : (ch : Choices) → Enough ch (multiframesOf u) → AgainPremises ch (imageOf u) zeroTables (indexFor (multiframesOf u)) (reportFor (multiframesOf u)) six 0 roomFor
+  again-met ch sent =
+      let a = writes-again-met ch u sent in
       let i = indexFor (multiframesOf u) in
       let r = reportFor (multiframesOf u) in
-      let o = reading (imageOf u) zeroTables i r in
-      let e : dsrRead (imageOf u) zeroTables i r six 0 ≡ returned 0 (o .index) (o .report) (over six 0 answerNumbers (summaryNumbers (spoken u))) 0 =
+      let o = reading ch (imageOf u) zeroTables i r in
+      let e : dsrRead (imageOf u) (For ch) zeroTables i r six 0 ≡ returned 0 (o .index) (o .report) (over six 0 answerNumbers (summaryNumbers (spoken u))) 0 =
       read-success six 0 i r o (lit≤ tt) (spoken u) (a .succeeds) in
-      let f : (k : ℕ) → getD (dsrRead (imageOf u) zeroTables i r six 0 .answer) k 0 ≡ getD (over six 0 answerNumbers (summaryNumbers (spoken u))) k 0 =
+      let f : (k : ℕ) → getD (dsrRead (imageOf u) (For ch) zeroTables i r six 0 .answer) k 0 ≡ getD (over six 0 answerNumbers (summaryNumbers (spoken u))) k 0 =
       λ k. ap (λ (x : Returned). getD (x .answer) k 0) e in
       record {
         small = a .small;
@@ -72,7 +75,7 @@ module _ (u : Utterance) where
         ended = f 5;
         no-inverses = a .no-inverses ∙ ap (λ (n : ℕ). multiframeOctets * n) (sym (f 2));
         accepts =
-            ap₂ (λ (x y : ℕ). dsrWrite x y (take (frameIndices * getD (dsrRead (imageOf u) zeroTables i r six 0 .answer) 3 0) (dsrRead (imageOf u) zeroTables i r six 0 .index)) roomFor .number) (f 0) (f 1)
+            ap₂ (λ (x y : ℕ). dsrWrite x y (take (frameIndices * getD (dsrRead (imageOf u) (For ch) zeroTables i r six 0 .answer) 3 0) (dsrRead (imageOf u) (For ch) zeroTables i r six 0 .index)) roomFor .number) (f 0) (f 1)
             ∙ ap₂ (λ (n : ℕ) (l : List ℕ). dsrWrite (u .settings .rate) (u .settings .kind) (take (frameIndices * n) l) roomFor .number) (f 3) (ap (λ (x : Returned). x .index) e)
             ∙ ap W.numberOf (a .accepts);
       }
@@ -83,22 +86,22 @@ module _ (u : Utterance) where
       ∙ take-at (imageOf u) (drop (0 + needed (u .indices)) roomFor) (needed (u .indices)) (length-image (u .settings) (u .indices) (multiframesOf u))
 
 -- NAMES THE DAMAGE: two multiframes with two flips in each header, a burst and two flips at distance 14 in packets of each, at dsr_read
-pub named-24 : Tells says24 (hurtImage says24) zeroTables
-    (dsrRead (hurtImage says24) zeroTables (indexFor (multiframesOf says24)) (reportFor (multiframesOf says24)) six 0 .number)
-    (dsrRead (hurtImage says24) zeroTables (indexFor (multiframesOf says24)) (reportFor (multiframesOf says24)) six 0 .answer)
-    (dsrRead (hurtImage says24) zeroTables (indexFor (multiframesOf says24)) (reportFor (multiframesOf says24)) six 0 .index)
-    (dsrRead (hurtImage says24) zeroTables (indexFor (multiframesOf says24)) (reportFor (multiframesOf says24)) six 0 .report)
-named-24 = c-names-the-damage says24 (hurtImage says24) zeroTables (indexFor (multiframesOf says24)) (reportFor (multiframesOf says24)) six 0 names-says24 (lit≤ tt) .0
+pub named-24 : (ch : Choices) → Tells says24 (hurtImage says24) zeroTables
+    (dsrRead (hurtImage says24) (For ch) zeroTables (indexFor (multiframesOf says24)) (reportFor (multiframesOf says24)) six 0 .number)
+    (dsrRead (hurtImage says24) (For ch) zeroTables (indexFor (multiframesOf says24)) (reportFor (multiframesOf says24)) six 0 .answer)
+    (dsrRead (hurtImage says24) (For ch) zeroTables (indexFor (multiframesOf says24)) (reportFor (multiframesOf says24)) six 0 .index)
+    (dsrRead (hurtImage says24) (For ch) zeroTables (indexFor (multiframesOf says24)) (reportFor (multiframesOf says24)) six 0 .report)
+named-24 ch = c-names-the-damage ch says24 (hurtImage says24) zeroTables (indexFor (multiframesOf says24)) (reportFor (multiframesOf says24)) six 0 (names-says24 ch) (lit≤ tt) .0
 
 -- and at dsr_read_bits, at bit 3, with four flips in each sync besides
-pub aired-24 : Tells says24 (together says24 (aired says24) 3) zeroTables
-    (dsrReadBits (aired says24) 0 fewestMatches zeroTables (indexFor (multiframesOf says24)) (reportFor (multiframesOf says24)) eight 0 .number)
-    (dsrReadBits (aired says24) 0 fewestMatches zeroTables (indexFor (multiframesOf says24)) (reportFor (multiframesOf says24)) eight 0 .answer)
-    (dsrReadBits (aired says24) 0 fewestMatches zeroTables (indexFor (multiframesOf says24)) (reportFor (multiframesOf says24)) eight 0 .index)
-    (dsrReadBits (aired says24) 0 fewestMatches zeroTables (indexFor (multiframesOf says24)) (reportFor (multiframesOf says24)) eight 0 .report)
-aired-24 =
-    c-names-on-air says24 (aired says24) 0 3 fewestMatches zeroTables (indexFor (multiframesOf says24)) (reportFor (multiframesOf says24)) eight 0 (aired-on-air says24)
-    names-aired-24 (lit≤ tt) .0
+pub aired-24 : (ch : Choices) → Tells says24 (together says24 (aired says24) 3) zeroTables
+    (dsrReadBits (aired says24) 0 fewestMatches (For ch) zeroTables (indexFor (multiframesOf says24)) (reportFor (multiframesOf says24)) eight 0 .number)
+    (dsrReadBits (aired says24) 0 fewestMatches (For ch) zeroTables (indexFor (multiframesOf says24)) (reportFor (multiframesOf says24)) eight 0 .answer)
+    (dsrReadBits (aired says24) 0 fewestMatches (For ch) zeroTables (indexFor (multiframesOf says24)) (reportFor (multiframesOf says24)) eight 0 .index)
+    (dsrReadBits (aired says24) 0 fewestMatches (For ch) zeroTables (indexFor (multiframesOf says24)) (reportFor (multiframesOf says24)) eight 0 .report)
+aired-24 ch =
+    c-names-on-air says24 (aired says24) 0 3 fewestMatches zeroTables (indexFor (multiframesOf says24)) (reportFor (multiframesOf says24)) eight 0 ch (aired-on-air says24)
+    (names-aired-24 ch) (lit≤ tt) .0
 
 -- TOLD APART: two calls with different frames, and octets that both outputs can be damaged into
 pub meet-met : Meet 0 0 (says1 .indices) (roomFor says1) 0 0 (says2 .indices) (roomFor says2) hurt1

@@ -11,6 +11,8 @@ use lib.Seq.{getD-take, getD-drop}
 use Rattle.lists.specs.Parts.{part, over}
 use Rattle.lists.specs.Rows.{length-joined, joined-part}
 use Rattle.layout.specs.Layout.{frameIndices, pairFrames, multiframePairs, multiframeFrames, indexOctets, reportOctets}
+use Rattle.choices.specs.declared.Choices.{Choices}
+use Rattle.choices.specs.declared.Asked.the-variants.{For}
 use Rattle.consistency.specs.Tables.{Tables}
 use Rattle.settings.specs.declared.Settings.{Settings}
 use Rattle.cutting.specs.Cutting.{cutting}
@@ -98,30 +100,30 @@ module _ (u : Utterance) (s : List ℕ) (tables : Tables) (g : Summary) (answer 
   }
 
 -- octets beyond both parts of a reading are as they came
-pub beyond-both : (s : List ℕ) (tables : Tables) (index report : List ℕ) (g : Summary) → reading s tables index report .answer ≡ Read g
-    → (drop (indexOctets * g .multiframes) (reading s tables index report .index) ≡ drop (indexOctets * g .multiframes) index)
-    × (drop (reportOctets * g .multiframes) (reading s tables index report .report) ≡ drop (reportOctets * g .multiframes) report)
-beyond-both s tables index report g e =
-    let w = A.was-read s tables index report [] g e in
+pub beyond-both : (ch : Choices) (s : List ℕ) (tables : Tables) (index report : List ℕ) (g : Summary) → reading ch s tables index report .answer ≡ Read g
+    → (drop (indexOctets * g .multiframes) (reading ch s tables index report .index) ≡ drop (indexOctets * g .multiframes) index)
+    × (drop (reportOctets * g .multiframes) (reading ch s tables index report .report) ≡ drop (reportOctets * g .multiframes) report)
+beyond-both ch s tables index report g e =
+    let w = A.was-read ch s tables index report [] g e in
     let places = cutting s .places in
     let ns = receivedNotes s places tables in
     let count : length places ≡ g .multiframes = sym (ap (λ (x : Summary). x .multiframes) (w .given-is)) in
     let size = length-notes (received s places) (pairCount places) tables in (
-      subst (λ (n : ℕ). drop (indexOctets * n) (reading s tables index report .index) ≡ drop (indexOctets * n) index) count
+      subst (λ (n : ℕ). drop (indexOctets * n) (reading ch s tables index report .index) ≡ drop (indexOctets * n) index) count
           (ap (λ (x : Outcome). drop (indexOctets * length places) (x .index)) (w .result-is)
           ∙ beyond index (indexPart s places ns) (indexOctets * length places) (w .reader-accepts .fitting .roomy .index-room) (length-index s places ns size)),
-      subst (λ (n : ℕ). drop (reportOctets * n) (reading s tables index report .report) ≡ drop (reportOctets * n) report) count
+      subst (λ (n : ℕ). drop (reportOctets * n) (reading ch s tables index report .report) ≡ drop (reportOctets * n) report) count
           (ap (λ (x : Outcome). drop (reportOctets * length places) (x .report)) (w .result-is)
           ∙ beyond report (reportPart s places ns (w .common)) (reportOctets * length places) (w .reader-accepts .fitting .roomy .report-room) (length-report s places ns (w .common) size)),
     )
 
 -- ---- dsr_read
-module _ (s : List ℕ) (tables : Tables) (index report answer : List ℕ) (place : ℕ) where
+module _ (ch : Choices) (s : List ℕ) (tables : Tables) (index report answer : List ℕ) (place : ℕ) where
   abbrev pub got : Returned
-  got = dsrRead s tables index report answer place
+  got = dsrRead s (For ch) tables index report answer place
 
   abbrev o : Outcome
-  o = reading s tables index report
+  o = reading ch s tables index report
 
   -- octets beyond both parts, numbers beyond the six and the place are as they came
   pub record Stays : Type 0 where
@@ -131,16 +133,16 @@ module _ (s : List ℕ) (tables : Tables) (index report answer : List ℕ) (plac
     pub place-stays : got .place ≡ place
 
   module _ (room : answerNumbers ≤ length answer) (g : Summary) (e : o .answer ≡ Read g) where
-    pub got-is : dsrRead s tables index report answer place
-        ≡ returned 0 (reading s tables index report .index) (reading s tables index report .report) (over answer 0 answerNumbers (summaryNumbers g)) place
+    pub got-is : dsrRead s (For ch) tables index report answer place
+        ≡ returned 0 (reading ch s tables index report .index) (reading ch s tables index report .report) (over answer 0 answerNumbers (summaryNumbers g)) place
     got-is = read-success answer place index report o room g e
 
-    pub at : (k : ℕ) → getD (dsrRead s tables index report answer place .answer) k 0 ≡ getD (over answer 0 answerNumbers (summaryNumbers g)) k 0
+    pub at : (k : ℕ) → getD (dsrRead s (For ch) tables index report answer place .answer) k 0 ≡ getD (over answer 0 answerNumbers (summaryNumbers g)) k 0
     at k = ap (λ (x : Returned). getD (x .answer) k 0) got-is
 
     pub stays : Stays
     stays =
-        let b = beyond-both s tables index report g e in
+        let b = beyond-both ch s tables index report g e in
         record {
           index-beyond = subst (λ (n : ℕ). drop (indexOctets * n) (got .index) ≡ drop (indexOctets * n) index) (sym (at 2))
               (ap (λ (x : Returned). drop (indexOctets * g .multiframes) (x .index)) got-is ∙ b .0);
@@ -151,34 +153,34 @@ module _ (s : List ℕ) (tables : Tables) (index report answer : List ℕ) (plac
         }
 
 -- NAMES THE DAMAGE at dsr_read
-module _ (u : Utterance) (s : List ℕ) (tables : Tables) (index report answer : List ℕ) (place : ℕ) where
+module _ (ch : Choices) (u : Utterance) (s : List ℕ) (tables : Tables) (index report answer : List ℕ) (place : ℕ) where
   abbrev c : Returned
-  c = dsrRead s tables index report answer place
+  c = dsrRead s (For ch) tables index report answer place
 
-  named : N.Named u s tables index report → answerNumbers ≤ length answer
-      → Tells u s tables (c .number) (c .answer) (c .index) (c .report) × Stays s tables index report answer place
+  named : N.Named ch u s tables index report → answerNumbers ≤ length answer
+      → Tells u s tables (c .number) (c .answer) (c .index) (c .report) × Stays ch s tables index report answer place
   named n room =
-      let e = got-is s tables index report answer place room (n .given) (n .succeeds) in
-      let f = at s tables index report answer place room (n .given) (n .succeeds) in (
+      let e = got-is ch s tables index report answer place room (n .given) (n .succeeds) in
+      let f = at ch s tables index report answer place room (n .given) (n .succeeds) in (
         tells u s tables (n .given) (c .answer) (c .index) (c .report)
             (subst (λ (x : Returned). N.Names u s tables (n .given) (x .index) (x .report)) (sym e) (n .names)) (c .number) (ap (λ (x : Returned). x .number) e) (f 0) (f 1) (f 2) (f 4),
-        stays s tables index report answer place room (n .given) (n .succeeds),
+        stays ch s tables index report answer place room (n .given) (n .succeeds),
       )
 
-  pub c-names-wider : N.Wider u s tables index report → answerNumbers ≤ length answer
-      → Tells u s tables (c .number) (c .answer) (c .index) (c .report) × Stays s tables index report answer place
-  c-names-wider p = named (N.names-wider u s tables index report p)
+  pub c-names-wider : N.Wider ch u s tables index report → answerNumbers ≤ length answer
+      → Tells u s tables (c .number) (c .answer) (c .index) (c .report) × Stays ch s tables index report answer place
+  c-names-wider p = named (N.names-wider ch u s tables index report p)
 
-  pub c-names-the-damage : N.Premises u s tables index report → answerNumbers ≤ length answer
-      → Tells u s tables (c .number) (c .answer) (c .index) (c .report) × Stays s tables index report answer place
-  c-names-the-damage p = named (N.names-the-damage u s tables index report p)
+  pub c-names-the-damage : N.Premises ch u s tables index report → answerNumbers ≤ length answer
+      → Tells u s tables (c .number) (c .answer) (c .index) (c .report) × Stays ch s tables index report answer place
+  c-names-the-damage p = named (N.names-the-damage ch u s tables index report p)
 
   -- NEVER MISLED at dsr_read: if it answers 0, rate, type and multiframes are those sent
   pub c-never-misled : M.Premises u s → c .number ≡ 0 → (getD (c .answer) 0 0 ≡ u .settings .rate) × ((getD (c .answer) 1 0 ≡ u .settings .kind) × (getD (c .answer) 2 0 ≡ multiframesOf u))
   c-never-misled p zero =
-      let z = read-zero answer place index report (reading s tables index report) zero in
-      let f = at s tables index report answer place (z .0) (z .1 .0) (z .1 .1) in
-      let m = M.never-misled u s p tables index report (z .1 .0) (z .1 .1) in
+      let z = read-zero answer place index report (reading ch s tables index report) zero in
+      let f = at ch s tables index report answer place (z .0) (z .1 .0) (z .1 .1) in
+      let m = M.never-misled ch u s p tables index report (z .1 .0) (z .1 .1) in
       (f 0 ∙ ap (λ (x : Settings). x .rate) (m .settings), (f 1 ∙ ap (λ (x : Settings). x .kind) (m .settings), f 2 ∙ m .multiframes))
 
   -- what a caller hears of all of an utterance: its six numbers, every frame octet for octet and zeros after them
@@ -188,9 +190,9 @@ module _ (u : Utterance) (s : List ℕ) (tables : Tables) (index report answer :
     pub frames : (i : ℕ) → i < length (u .indices) → getD (c .index) i 0 ≡ getD (u .indices) i 0
     pub padding : (i : ℕ) → length (u .indices) ≤ i → i < indexOctets * multiframesOf u → getD (c .index) i 0 ≡ 0
 
-  hears : (r : List ℕ) → answerNumbers ≤ length answer → reading s tables index report ≡ outcome (Read (spoken u)) (over index 0 (indexOctets * multiframesOf u) (padded u)) r → HearsAll
+  hears : (r : List ℕ) → answerNumbers ≤ length answer → reading ch s tables index report ≡ outcome (Read (spoken u)) (over index 0 (indexOctets * multiframesOf u) (padded u)) r → HearsAll
   hears r room e =
-      let q = got-is s tables index report answer place room (spoken u) (ap (λ (x : Outcome). x .answer) e) in
+      let q = got-is ch s tables index report answer place room (spoken u) (ap (λ (x : Outcome). x .answer) e) in
       let octet : (i : ℕ) → i < indexOctets * multiframesOf u → getD (c .index) i 0 ≡ getD (u .indices) i 0 =
       λ i h. ap (λ (x : Returned). getD (x .index) i 0) q ∙ ap (λ (x : Outcome). getD (x .index) i 0) e
       ∙ front-at index (padded u) (indexOctets * multiframesOf u) i (omega (arith, length-padded u)) ∙ padded-at u i in
@@ -204,20 +206,20 @@ module _ (u : Utterance) (s : List ℕ) (tables : Tables) (index report answer :
   -- A LIST WITHOUT A WARNING CAN BE TRUSTED at dsr_read: 0 and all notes 0, and the octets are the image, and all of it is heard
   pub c-trusted : T.Premises u s → c .number ≡ 0 → ((i : ℕ) → i < reportOctets * getD (c .answer) 2 0 → getD (c .report) i 0 ≡ 0) → (s ≡ imageOf u) × HearsAll
   c-trusted p zero clean =
-      let z = read-zero answer place index report (reading s tables index report) zero in
+      let z = read-zero answer place index report (reading ch s tables index report) zero in
       let g = z .1 .0 in
-      let q = got-is s tables index report answer place (z .0) g (z .1 .1) in
-      let w = T.trusted-by-one u s p tables index report g
+      let q = got-is ch s tables index report answer place (z .0) g (z .1 .1) in
+      let w = T.trusted-by-one ch u s p tables index report g
       (record {
         succeeds = z .1 .1;
         notes-0 = λ i h.
             ap (λ (x : Returned). getD (x .report) i 0) (sym q)
-            ∙ clean i (subst (λ (n : ℕ). i < reportOctets * n) (sym (at s tables index report answer place (z .0) g (z .1 .1) 2)) h);
+            ∙ clean i (subst (λ (n : ℕ). i < reportOctets * n) (sym (at ch s tables index report answer place (z .0) g (z .1 .1) 2)) h);
       }) in
-      let e : reading s tables index report
-      ≡ outcome (Read (spoken u)) (over index 0 (indexOctets * multiframesOf u) (padded u)) (reading s tables index report .report) =
-      parts (reading s tables index report) (z .1 .1 ∙ ap Read (w .sent)) (w .frames) in
-      (w .image, hears (reading s tables index report .report) (z .0) e)
+      let e : reading ch s tables index report
+      ≡ outcome (Read (spoken u)) (over index 0 (indexOctets * multiframesOf u) (padded u)) (reading ch s tables index report .report) =
+      parts (reading ch s tables index report) (z .1 .1 ∙ ap Read (w .sent)) (w .frames) in
+      (w .image, hears (reading ch s tables index report .report) (z .0) e)
     where
       parts : (x : Outcome) {b : Answer} {i : List ℕ} → x .answer ≡ b → x .index ≡ i → x ≡ outcome b i (x .report)
       parts x e f = ap₂ (λ (a : Answer) (j : List ℕ). outcome a j (x .report)) e f
@@ -225,17 +227,17 @@ module _ (u : Utterance) (s : List ℕ) (tables : Tables) (index report answer :
   -- IF IT IS READ: at most three flips in each header and demand 3's damage to packets; 0 tells all of it
   pub c-names-if-read : DamageUpTo 3 (multiframesOf u) (imageOf u) s → c .number ≡ 0 → Tells u s tables (c .number) (c .answer) (c .index) (c .report)
   c-names-if-read d zero =
-      let z = read-zero answer place index report (reading s tables index report) zero in
-      named (record { given = z .1 .0; succeeds = z .1 .1; names = I.names-if-read u s d tables index report (z .1 .0) (z .1 .1) }) (z .0) .0
+      let z = read-zero answer place index report (reading ch s tables index report) zero in
+      named (record { given = z .1 .0; succeeds = z .1 .1; names = I.names-if-read ch u s d tables index report (z .1 .0) (z .1 .1) }) (z .0) .0
 
   -- NO PAIR NAMED at dsr_read: all of it is heard, and each header note is the number of flips, three for a lost one
   pub c-heard-whole : DamageUpTo 3 (multiframesOf u) (imageOf u) s → c .number ≡ 0
       → ((k j : ℕ) → k < multiframesOf u → j < multiframePairs → pairNoteAt (c .report) k j ≡ 0)
       → HearsAll × ((k : ℕ) → k < multiframesOf u → headerNoteAt (c .report) k ≡ headerFlips (imageOf u) s k)
   c-heard-whole d zero none =
-      let z = read-zero answer place index report (reading s tables index report) zero in
-      let q = got-is s tables index report answer place (z .0) (z .1 .0) (z .1 .1) in
-      let e = I.heard-if-read u s d tables index report (z .1 .0) (z .1 .1) (λ i h.
+      let z = read-zero answer place index report (reading ch s tables index report) zero in
+      let q = got-is ch s tables index report answer place (z .0) (z .1 .0) (z .1 .1) in
+      let e = I.heard-if-read ch u s d tables index report (z .1 .0) (z .1 .1) (λ i h.
       ap (λ (x : Returned). pairNoteIn (x .report) i) (sym q) ∙ none (i / multiframePairs) (i % multiframePairs) (omega arith) (omega arith)) in (
         hears (over report 0 (reportOctets * multiframesOf u) (mendedReport u s)) (z .0) e,
         (λ k h. ap (λ (x : Returned). headerNoteAt (x .report) k) q ∙ ap (λ (x : Outcome). headerNoteAt (x .report) k) e ∙ header-octet k h),
@@ -257,17 +259,17 @@ module _ (u : Utterance) (s : List ℕ) (tables : Tables) (index report answer :
   pub c-last-heard : DamageUpTo 3 (multiframesOf u) (imageOf u) s → c .number ≡ 0
       → ((j : ℕ) → j < multiframePairs → pairNoteAt (c .report) (multiframesOf u - 1) j ≡ 0) → (getD (c .answer) 3 0 ≡ frameCount (u .indices)) × (getD (c .answer) 5 0 ≡ 1)
   c-last-heard d zero none =
-      let z = read-zero answer place index report (reading s tables index report) zero in
-      let q = got-is s tables index report answer place (z .0) (z .1 .0) (z .1 .1) in
-      let f = at s tables index report answer place (z .0) (z .1 .0) (z .1 .1) in
-      let l = I.last-if-read u s d tables index report (z .1 .0) (z .1 .1) (λ i b h.
+      let z = read-zero answer place index report (reading ch s tables index report) zero in
+      let q = got-is ch s tables index report answer place (z .0) (z .1 .0) (z .1 .1) in
+      let f = at ch s tables index report answer place (z .0) (z .1 .0) (z .1 .1) in
+      let l = I.last-if-read ch u s d tables index report (z .1 .0) (z .1 .1) (λ i b h.
       let k : i / multiframePairs ≡ multiframesOf u - 1 = omega arith in
       ap (λ (x : Returned). pairNoteIn (x .report) i) (sym q) ∙ ap (λ (x : ℕ). pairNoteAt (c .report) x (i % multiframePairs)) k ∙ none (i % multiframePairs) (omega arith)) in
       (f 3 ∙ l .0, f 5 ∙ l .1)
 
 -- WHAT STAYS of any input that dsr_read answers with 0
-pub c-stays : (s : List ℕ) (tables : Tables) (index report answer : List ℕ) (place : ℕ) → dsrRead s tables index report answer place .number ≡ 0
-    → Stays s tables index report answer place
-c-stays s tables index report answer place zero =
-    let z = read-zero answer place index report (reading s tables index report) zero in
-    stays s tables index report answer place (z .0) (z .1 .0) (z .1 .1)
+pub c-stays : (ch : Choices) (s : List ℕ) (tables : Tables) (index report answer : List ℕ) (place : ℕ) → dsrRead s (For ch) tables index report answer place .number ≡ 0
+    → Stays ch s tables index report answer place
+c-stays ch s tables index report answer place zero =
+    let z = read-zero answer place index report (reading ch s tables index report) zero in
+    stays ch s tables index report answer place (z .0) (z .1 .0) (z .1 .1)

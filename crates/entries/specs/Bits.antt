@@ -7,6 +7,9 @@ use native.Mathlib.Omega.{arith}
 use lib.Dec.{ltb}
 use lib.ListN.{length}
 use Rattle.lists.specs.Tests.{by-test}
+use Rattle.choices.specs.declared.Choices.{Choices}
+use Rattle.choices.specs.declared.Asked.{Asked}
+use Rattle.choices.specs.declared.Asked.the-variants.{For, NoSuchChoice}
 use Rattle.consistency.specs.Tables.{Tables}
 use Rattle.hunt.specs.Hunt as H
 use Rattle.hunt.specs.declared.Hunted.{Hunted}
@@ -18,7 +21,7 @@ use Rattle.hunting.specs.Says.{never-12-to-14}
 use Rattle.hunting.specs.declared.Counted.{Counted}
 use Rattle.hunting.specs.declared.Answer.{Answer}
 use Rattle.hunting.specs.declared.Answer.the-variants.{Read, Refused}
-use Rattle.entries.specs.Entries.{summaryNumbers, Told, numbers, refusal, Given, given, Returned, answered, returning}
+use Rattle.entries.specs.Entries.{summaryNumbers, Told, numbers, refusal, Given, given, Returned, answered, returning, unchosen, choosing}
 
 -- ---- the hunt: its number, and the three lent numbers
 pub record HuntReturned : Type 0 where
@@ -55,10 +58,10 @@ bitsGiven o = given (bitsTold (o .answer)) (o .index) (o .report)
 abbrev pub dsrHunt : List ℕ → ℕ → ℕ → ℕ → ℕ → HuntReturned
 dsrHunt octets from least found place = huntReturning found place (H.hunted octets from least)
 
--- dsr_read_bits: its number, both buffers, the lent numbers and the place
-abbrev pub dsrReadBits : List ℕ → ℕ → ℕ → Tables → List ℕ → List ℕ → List ℕ → ℕ → Returned
-dsrReadBits octets from least tables index report answer place =
-    returning countedNumbers answer place index report (bitsGiven (huntingReading octets from least tables index report))
+-- dsr_read_bits: its number, both buffers, the lent numbers and the place, by what was asked for
+abbrev pub dsrReadBits : List ℕ → ℕ → ℕ → Asked → Tables → List ℕ → List ℕ → List ℕ → ℕ → Returned
+dsrReadBits octets from least q tables index report answer place =
+    choosing countedNumbers answer place index report (λ ch. bitsGiven (huntingReading ch octets from least tables index report)) q
 
 -- ---- the entries' ends
 pub hunt-found : (f p q n : ℕ) (h : Hunted) → HA.Found q n ≡ h → huntReturned success q n p ≡ huntReturning f p h
@@ -74,18 +77,21 @@ bits-given-as {x} {y} {i} {r} {o} e ex = ap (λ (z : Answer). given (bitsTold z)
 
 -- 12 TO 14 ARE NEVER RETURNED
 module _ (s : List ℕ) (from least : ℕ) (tables : Tables) (index report a : List ℕ) (p : ℕ) where
-  abbrev read : Outcome
-  read = huntingReading s from least tables index report
+  abbrev read : Choices → Outcome
+  read ch = huntingReading ch s from least tables index report
 
   abbrev NoCut : ℕ → Type 0
   NoCut n = (n ≡ 12 → ⊥) × (n ≡ 13 → ⊥) × (n ≡ 14 → ⊥)
 
-  answered-uncut : (x : Answer) → read .answer ≡ x → NoCut (answered countedNumbers a p (read .index) (read .report) (bitsTold x) .number)
-  answered-uncut (Read c) e = (λ e. omega arith, λ e. omega arith, λ e. omega arith)
-  answered-uncut (Refused r) e = never-12-to-14 s from least tables index report r e
+  answered-uncut : (ch : Choices) (x : Answer) → read ch .answer ≡ x → NoCut (answered countedNumbers a p (read ch .index) (read ch .report) (bitsTold x) .number)
+  answered-uncut ch (Read c) e = (λ e. omega arith, λ e. omega arith, λ e. omega arith)
+  answered-uncut ch (Refused r) e = never-12-to-14 ch s from least tables index report r e
 
-  pub returned-uncut : NoCut (returning countedNumbers a p index report (bitsGiven read) .number)
-  unfolding returning
-  returned-uncut =
+  pub returned-uncut : (q : Asked) → NoCut (dsrReadBits s from least q tables index report a p .number)
+  unfolding returning unchosen
+  returned-uncut (For ch) =
       by-test (λ (x : Returned). NoCut (x .number)) (ltb (length a) countedNumbers) (λ h. (λ e. omega arith, λ e. omega arith, λ e. omega arith)) (λ h.
-      answered-uncut (read .answer) refl)
+      answered-uncut ch (read ch .answer) refl)
+  returned-uncut NoSuchChoice =
+      by-test (λ (x : Returned). NoCut (x .number)) (ltb (length a) countedNumbers) (λ h. (λ e. omega arith, λ e. omega arith, λ e. omega arith)) (λ h.
+      (λ e. omega arith, λ e. omega arith, λ e. omega arith))

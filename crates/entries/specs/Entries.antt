@@ -7,6 +7,9 @@ use lib.ListN.{length}
 use Rattle.lists.specs.Tests.{when}
 use Rattle.lists.specs.Parts.{over}
 use Rattle.layout.specs.Layout.{streamOctets, indexOctets, multiframePairs}
+use Rattle.choices.specs.declared.Choices.{Choices}
+use Rattle.choices.specs.declared.Asked.{Asked}
+use Rattle.choices.specs.declared.Asked.the-variants.{For, NoSuchChoice}
 use Rattle.consistency.specs.Tables.{Tables}
 use Rattle.settings.specs.Settings.{settings}
 use Rattle.bits.specs.Bits.{bits, octets}
@@ -15,7 +18,7 @@ use Rattle.packet.specs.Packet.{stream}
 use Rattle.notes.specs.Notes.{allFrames, crcNotes}
 use Rattle.header.specs.declared.Header.{Header}
 use Rattle.header.specs.declared.Header.the-variants.{Codeword, Lost}
-use Rattle.refusals.specs.Refusals.{success, unreadable, wrongLength, noRoom, writingNumber, readingNumber, readingPlace}
+use Rattle.refusals.specs.Refusals.{success, noSuchChoice, unreadable, wrongLength, noRoom, writingNumber, readingNumber, readingPlace}
 use Rattle.refusals.specs.declared.Writing.the-variants.{WideIndex}
 use Rattle.reader.specs.Reading.{Outcome, reading}
 use Rattle.reader.specs.declared.Summary.{Summary}
@@ -110,6 +113,15 @@ answered w a p i r (refusal n q) = returned n i r a q
 unfoldable pub returning : ℕ → List ℕ → ℕ → List ℕ → List ℕ → Given → Returned
 returning w a p i r g = when (ltb (length a) w) (returned noRoom i r a p) (answered w a p (g .index) (g .report) (g .told))
 
+-- a number that names no choice is refused, if there is room: nothing is read, and all stays
+unfoldable pub unchosen : ℕ → List ℕ → ℕ → List ℕ → List ℕ → Returned
+unchosen w a p i r = when (ltb (length a) w) (returned noRoom i r a p) (returned noSuchChoice i r a p)
+
+-- g is what a reading gives by each choice, of which one was asked for
+abbrev pub choosing : ℕ → List ℕ → ℕ → List ℕ → List ℕ → (Choices → Given) → Asked → Returned
+choosing w a p i r g (For ch) = returning w a p i r (g ch)
+choosing w a p i r g NoSuchChoice = unchosen w a p i r
+
 -- 01's reading in numbers
 abbrev pub toldOf : Answer → Told
 toldOf (Read s) = numbers (summaryNumbers s)
@@ -132,7 +144,7 @@ abbrev pub dsrWrite : ℕ → ℕ → List ℕ → List ℕ → WriteReturned
 dsrWrite rate kind indices out =
     writeReturned (W.numberOf (writing (settings rate kind) indices out .answer)) (writing (settings rate kind) indices out .output) (W.placeOf (writing (settings rate kind) indices out .answer))
 
--- dsr_read: its number, both buffers, the lent numbers and the place
-abbrev pub dsrRead : List ℕ → Tables → List ℕ → List ℕ → List ℕ → ℕ → Returned
-dsrRead octets tables index report answer place =
-    returning answerNumbers answer place index report (givenOf (reading octets tables index report))
+-- dsr_read: its number, both buffers, the lent numbers and the place, by what was asked for (`asked` of the caller's number)
+abbrev pub dsrRead : List ℕ → Asked → Tables → List ℕ → List ℕ → List ℕ → ℕ → Returned
+dsrRead octets q tables index report answer place =
+    choosing answerNumbers answer place index report (λ ch. givenOf (reading ch octets tables index report)) q

@@ -22,10 +22,11 @@ use Rattle.bad_pairs.specs.BadPairs.{noteBy}
 use Rattle.notes.specs.Notes.{pairFails, framesOf, allFrames}
 use Rattle.header.specs.Reading.{reading}
 use Rattle.header.specs.Reading.Examples as H
-use Rattle.consistency.specs.Tables.{zeroTables, tablesRight}
+use Rattle.choices.specs.Choices.{asked}
+use Rattle.consistency.specs.Tables.{tablesOf, zeroTables, tablesRight}
 use Rattle.hunt.specs.Hunt.{hunted, found, inRange, misses}
 use Rattle.hunting.specs.Hunting.{huntingReading}
-use Rattle.entries.specs.Entries.{headerRead, packed, packing, unpacked, unpacking, returning, givenOf, dsrWrite}
+use Rattle.entries.specs.Entries.{headerRead, packed, packing, unpacked, unpacking, returning, unchosen, givenOf, dsrWrite, dsrRead}
 use Rattle.entries.specs.Bits.{huntReturning, bitsGiven, dsrHunt, dsrReadBits}
 
 -- 16 kHz, noise robust, 2 multiframes, 30 frames of speech, 4 bad pairs, no end; 32 bits outside, 21 places tested
@@ -158,8 +159,24 @@ whole = record {
 pub record FromThenT : Type 0 where
   pub hunt-17 : dsrHunt [] 5 17 7 8 ≡ record { number = 21; found = 7; tested = 0; place = 17 }
   pub hunt-16 : dsrHunt [] 5 16 7 8 ≡ record { number = 22; found = 7; tested = 0; place = 5 }
-  pub read-17 : dsrReadBits [] 5 17 zeroTables [] [] (replicate 8 90) 8 ≡ record { number = 21; index = []; report = []; answer = replicate 8 90; place = 17 }
+  pub read-17 : dsrReadBits [] 5 17 (asked 0) zeroTables [] [] (replicate 8 90) 8 ≡ record { number = 21; index = []; report = []; answer = replicate 8 90; place = 17 }
 
 pub from-then-T : FromThenT
-unfolding hunted found inRange misses huntingReading tablesRight returning fields
+unfolding hunted found inRange misses huntingReading tablesRight returning fields asked
 from-then-T = record { hunt-17 = refl; hunt-16 = refl; read-17 = refl }
+
+-- ---- a number that names no choice is 96, behind 99 and before 11 and 21, and all stays, the place too. Index and report came as 5 and 6, the place as 8
+pub record Choosing : Type 0 where
+  pub read-2 : dsrRead [] (asked 2) (tablesOf [] []) (5 ∷ []) (6 ∷ []) nine 8 ≡ record { number = 96; index = 5 ∷ []; report = 6 ∷ []; answer = nine; place = 8 }
+  pub read-no-room : dsrRead [] (asked 2) (tablesOf [] []) (5 ∷ []) (6 ∷ []) (replicate 5 90) 8
+      ≡ record { number = 99; index = 5 ∷ []; report = 6 ∷ []; answer = replicate 5 90; place = 8 }
+  pub bits-2 : dsrReadBits [] 5 17 (asked 2) (tablesOf [] []) (5 ∷ []) (6 ∷ []) nine 8 ≡ record { number = 96; index = 5 ∷ []; report = 6 ∷ []; answer = nine; place = 8 }
+  pub bits-no-room : dsrReadBits [] 5 17 (asked 2) (tablesOf [] []) (5 ∷ []) (6 ∷ []) (replicate 7 90) 8
+      ≡ record { number = 99; index = 5 ∷ []; report = 6 ∷ []; answer = replicate 7 90; place = 8 }
+  -- both choices are read: no tables are 11
+  pub read-0 : dsrRead [] (asked 0) (tablesOf [] []) (5 ∷ []) (6 ∷ []) nine 8 ≡ record { number = 11; index = 5 ∷ []; report = 6 ∷ []; answer = nine; place = 0 }
+  pub read-1 : dsrRead [] (asked 1) (tablesOf [] []) (5 ∷ []) (6 ∷ []) nine 8 ≡ record { number = 11; index = 5 ∷ []; report = 6 ∷ []; answer = nine; place = 0 }
+
+pub choosing : Choosing
+unfolding asked unchosen returning R.reading R.verdict tablesRight
+choosing = record { read-2 = refl; read-no-room = refl; bits-2 = refl; bits-no-room = refl; read-0 = refl; read-1 = refl }

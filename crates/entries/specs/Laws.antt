@@ -7,6 +7,9 @@ use native.Mathlib.Omega.{arith}
 use lib.Dec.{ltb}
 use lib.ListN.{length}
 use borrow.Author.Tests.{eq-eqb, ne-eqb, lt-ltb, le-ltb, ltb-false}
+use Rattle.choices.specs.declared.Choices.{Choices}
+use Rattle.choices.specs.declared.Asked.{Asked}
+use Rattle.choices.specs.declared.Asked.the-variants.{For, NoSuchChoice}
 use Rattle.lists.specs.Tests.{when, true-false}
 use Rattle.lists.specs.Parts.{over}
 use Rattle.layout.specs.Layout.{streamOctets, indexOctets, multiframePairs}
@@ -14,14 +17,14 @@ use Rattle.settings.specs.Settings.{settings, settingsRight, rate-right, kind-r
 use Rattle.bits.specs.Bits.{bits, octets}
 use Rattle.carrier.specs.Carrier.{streamPacket}
 use Rattle.packet.specs.Packet.{stream}
-use Rattle.refusals.specs.Refusals.{success, wrongLength, noRoom, writingNumber, writingPlace}
+use Rattle.refusals.specs.Refusals.{success, noSuchChoice, wrongLength, noRoom, writingNumber, writingPlace}
 use Rattle.refusals.specs.declared.Writing.the-variants.{WideIndex, WrongSettings}
 use Rattle.notes.specs.Notes.{allFrames, crcNotes}
 use Rattle.notes.specs.Laws.{over-all}
 use Rattle.reader.specs.Reading.{Outcome, outcome}
 use Rattle.reader.specs.declared.Answer.{Answer}
 use Rattle.writer.specs.Writing.{at, nowhere, firstWide, verdict, writing}
-use Rattle.entries.specs.Entries.{packed, narrowPacking, packing, unpacked, unpacking, Told, numbers, refusal, Given, given, returned, answered, returning, toldOf, givenOf, writeReturned, dsrWrite}
+use Rattle.entries.specs.Entries.{packed, narrowPacking, packing, unpacked, unpacking, Told, numbers, refusal, Given, given, Returned, returned, answered, returning, unchosen, choosing, toldOf, givenOf, writeReturned, dsrWrite}
 
 -- ---- packing
 module _ (idx s : List ℕ) where
@@ -67,12 +70,22 @@ module _ (s i n : List ℕ) where
       (ap₂ (unpacked success) (ei ∙ over-all i (allFrames (streamPacket (bits s)) multiframePairs) indexOctets g) (en ∙ over-all n (crcNotes (streamPacket (bits s)) multiframePairs) multiframePairs h))
 
 -- ---- a reading's answer
+-- what was asked for, of w numbers; g is what each choice gives
+module _ (w : ℕ) (a : List ℕ) (p : ℕ) (i r : List ℕ) (g : Choices → Given) where
+  pub returns-no-room : length a < w → (q : Asked) → returned noRoom i r a p ≡ choosing w a p i r g q
+  unfolding returning unchosen
+  returns-no-room h (For ch) = rw (lt-ltb (length a) w h)
+  returns-no-room h NoSuchChoice = rw (lt-ltb (length a) w h)
+
+  pub returns-unchosen : w ≤ length a → (q : Asked) → q ≡ NoSuchChoice → returned noSuchChoice i r a p ≡ choosing w a p i r g q
+  unfolding unchosen
+  returns-unchosen h q e = rw (e, le-ltb (length a) w h)
+
+  pub returns-chosen : (q : Asked) (ch : Choices) → q ≡ For ch → (x : Returned) → x ≡ returning w a p i r (g ch) → x ≡ choosing w a p i r g q
+  returns-chosen q ch e x ex = ex ∙ ap (choosing w a p i r g) (sym e)
+
 -- the ends of both readings, of w numbers
 module _ (w : ℕ) (a : List ℕ) (p : ℕ) (i r : List ℕ) (g : Given) where
-  pub returns-no-room : length a < w → returned noRoom i r a p ≡ returning w a p i r g
-  unfolding returning
-  returns-no-room h = rw (lt-ltb (length a) w h)
-
   answer : w ≤ length a → (t : Told) (i′ r′ : List ℕ) → given t i′ r′ ≡ g → answered w a p i′ r′ t ≡ returning w a p i r g
   unfolding returning
   answer h t i′ r′ e = rw (le-ltb (length a) w h) (ap (λ (q : Given). answered w a p (q .index) (q .report) (q .told)) e)

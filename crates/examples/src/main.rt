@@ -1,5 +1,6 @@
 // Runs the examples of 01 that are not marked (P) through the library and prints what it answers: number and place, or octets written.
 // The stored output holds them to 01's text.
+use choices::Choices;
 use layout::FrameLayout;
 use layout::MultiframeLayout;
 use layout::ReadingLayout;
@@ -61,14 +62,21 @@ fn show_indices() {
     show_writing(b"index 64", &wide, &mut out);
 }
 
-// What the reader says to these octets, with all codebook numbers and thresholds 0: 0 and speech, or its number and place.
-fn show_reading(name: &[u8], octets: &[u8]) {
+// What the reader says to these octets by these choices, with all codebook numbers and thresholds 0: 0 and speech, or its number and place.
+fn show_reading(name: &[u8], octets: &[u8], choices: Choices) {
     let codebook = [0i32; ReadingLayout::CODEBOOK];
     let thresholds = [0i32; ReadingLayout::THRESHOLDS];
     let mut index = [0u8; ReadingLayout::INDEX];
     let mut report = [0u8; ReadingLayout::REPORT];
     io::write_all(STDOUT_FILENO, name);
-    match reader::read(octets, &codebook, &thresholds, &mut index, &mut report) {
+    match reader::read(
+        octets,
+        choices,
+        &codebook,
+        &thresholds,
+        &mut index,
+        &mut report,
+    ) {
         Answer::Read(s) => print_numbers(0, s.speech as u64),
         Answer::Refused(r) => print_numbers(
             refusals::reading_number(r) as u64,
@@ -77,8 +85,15 @@ fn show_reading(name: &[u8], octets: &[u8]) {
     }
 }
 
-// The example of 01's dsrlist: one multiframe with the header of count 1, whose first index is 1 and whose first CRC is the term X.
+// The example of 01's dsrlist: one multiframe with the header of count 1, whose first index is 1 and whose first CRC is the term X. It is read by
+// 01's rule, that one header alone settles, which is asked for by name; by default it is refused (02, C-20).
 fn show_readings() {
+    let asked = Choices {
+        one_header_settles: true,
+    };
+    let default = Choices {
+        one_header_settles: false,
+    };
     let mut received = [0u8; MultiframeLayout::OCTETS];
     received[0] = 0x87;
     received[1] = 0xb2;
@@ -87,12 +102,14 @@ fn show_readings() {
     received[5] = 0xee;
     received[6] = 0x01;
     received[17] = 0x04;
-    show_reading(b"one frame received", &received);
+    show_reading(b"one frame received", &received, asked);
+    show_reading(b"one frame received, by default", &received, default);
     show_reading(
         b"143 octets that open with a sync",
         &received[..MultiframeLayout::OCTETS - 1],
+        default,
     );
-    show_reading(b"nothing received", &received[..0]);
+    show_reading(b"nothing received", &received[..0], default);
 }
 
 fn main() {

@@ -7,6 +7,7 @@ use mathlib.Core.List.{List, [], _∷_}
 use native.Mathlib.Omega.{arith}
 use lib.ListN.{length, take}
 use Rattle.layout.specs.Layout.{multiframeOctets, mostMultiframes}
+use Rattle.choices.specs.declared.Choices.{Choices}
 use Rattle.consistency.specs.Tables.{Tables, tablesRight}
 use Rattle.bits.specs.Bits.{bits}
 use Rattle.hunt.specs.Hunt.{multiframeBits, inRange, searched}
@@ -39,7 +40,7 @@ answered-whole w m n e = by (w .ending) refl e
     by whole a q = (a, cc, cc)
     by (tooMany k) a q = let z : _≡_ {A = ℕ} 0 1 = cc in absurd (omega arith)
 
-module _ (s : List ℕ) (from least : ℕ) where
+module _ (ch : Choices) (s : List ℕ) (from least : ℕ) where
   abbrev found : Gathering
   found = gathering (bits s) least mostMultiframes from
 
@@ -56,15 +57,15 @@ module _ (s : List ℕ) (from least : ℕ) where
 
   module _ (tables : Tables) (index report : List ℕ) where
     abbrev by-ending : List ℕ → ℕ → Ending → Outcome
-    by-ending ps n e = readingBy s from least tables index report ps n e
+    by-ending ps n e = readingBy ch s from least tables index report ps n e
 
     gone-on : (ps : List ℕ) (n : ℕ) (e : Ending) → found .places ≡ ps → found .tested ≡ n → found .ending ≡ e
-        → by-ending ps n e ≡ readingFound s from least tables index report
+        → by-ending ps n e ≡ readingFound ch s from least tables index report
     unfolding readingFound
     gone-on ps n e ep en ee = rw (ep, en, ee)
 
     -- ---- the reading of what is found
-    pub ends-many : (p : ℕ) → G.TooMany p ≡ answered found → outcome (Refused (TooMany p)) index report ≡ readingFound s from least tables index report
+    pub ends-many : (p : ℕ) → G.TooMany p ≡ answered found → outcome (Refused (TooMany p)) index report ≡ readingFound ch s from least tables index report
     ends-many p e = from-list (found .places) ∙ gone-on (found .places) (found .tested) (tooMany p) refl refl (answered-many found p e)
       where
         from-list : (ps : List ℕ) → outcome (Refused (TooMany p)) index report ≡ by-ending ps (found .tested) (tooMany p)
@@ -72,7 +73,7 @@ module _ (s : List ℕ) (from least : ℕ) where
         from-list (q ∷ ps) = refl
 
     module _ (m n : ℕ) (e : G.Whole m n ≡ answered found) where
-      pub ends-nowhere : m ≡ 0 → outcome (Refused (Nowhere from n)) index report ≡ readingFound s from least tables index report
+      pub ends-nowhere : m ≡ 0 → outcome (Refused (Nowhere from n)) index report ≡ readingFound ch s from least tables index report
       ends-nowhere z =
           let w = answered-whole found m n e in
           none (found .places) (sym (w .1) ∙ z) ∙ gone-on (found .places) n whole refl (sym (w .2)) (w .0)
@@ -82,30 +83,30 @@ module _ (s : List ℕ) (from least : ℕ) where
           none (p ∷ ps) h = absurd (omega arith)
 
       pub ends-read : (image : List ℕ) (b : ℕ) (o : Outcome) → (m ≡ 0 → ⊥) → Laid s found image → b ≡ outsideOf (bits s) from m
-          → o ≡ counted (R.reading (take (multiframeOctets * m) image) tables index report) b n
-          → o ≡ readingFound s from least tables index report
+          → o ≡ counted (R.reading ch (take (multiframeOctets * m) image) tables index report) b n
+          → o ≡ readingFound ch s from least tables index report
       ends-read image b o z laid eb eo =
           let w = answered-whole found m n e in
           let front : take (multiframeOctets * m) image ≡ imageOf s (found .places) =
           ap (λ (k : ℕ). take (multiframeOctets * k) image) (w .1) ∙ subst (λ (x : Ending). LaidBy s (found .places) x image) (w .0) laid in
-          eo ∙ ap₂ (λ (x : List ℕ) (k : ℕ). counted (R.reading x tables index report) k n) front (eb ∙ ap (outsideOf (bits s) from) (w .1))
+          eo ∙ ap₂ (λ (x : List ℕ) (k : ℕ). counted (R.reading ch x tables index report) k n) front (eb ∙ ap (outsideOf (bits s) from) (w .1))
           ∙ some (found .places) (λ y. z (w .1 ∙ y)) ∙ gone-on (found .places) n whole refl (sym (w .2)) (w .0)
         where
           some : (ps : List ℕ) → (length ps ≡ 0 → ⊥)
-              → counted (R.reading (imageOf s ps) tables index report) (outsideOf (bits s) from (length ps)) n ≡ by-ending ps n whole
+              → counted (R.reading ch (imageOf s ps) tables index report) (outsideOf (bits s) from (length ps)) n ≡ by-ending ps n whole
           some [] h = absurd (h refl)
           some (p ∷ ps) h = refl
 
     -- ---- the first tests
-    pub wrong-tables : tablesRight tables ≡ false → outcome (Refused (Octets WrongTables)) index report ≡ huntingReading s from least tables index report
+    pub wrong-tables : tablesRight tables ≡ false → outcome (Refused (Octets WrongTables)) index report ≡ huntingReading ch s from least tables index report
     unfolding huntingReading
     wrong-tables h = rw h
 
     module _ (right : tablesRight tables ≡ true) where
-      pub out-of-range : inRange least ≡ false → outcome (Refused (MatchRange least)) index report ≡ huntingReading s from least tables index report
+      pub out-of-range : inRange least ≡ false → outcome (Refused (MatchRange least)) index report ≡ huntingReading ch s from least tables index report
       unfolding huntingReading
       out-of-range e = rw (right, e)
 
-      pub in-range : inRange least ≡ true → (o : Outcome) → o ≡ readingFound s from least tables index report → o ≡ huntingReading s from least tables index report
+      pub in-range : inRange least ≡ true → (o : Outcome) → o ≡ readingFound ch s from least tables index report → o ≡ huntingReading ch s from least tables index report
       unfolding huntingReading
       in-range e o eo = rw (right, e) eo

@@ -4,6 +4,7 @@ use mathlib.Core.Path.{_≡_, refl}
 use mathlib.Core.List.{List, []}
 use lib.IntN.{ℤ, pos}
 use lib.ListN.{replicate}
+use Rattle.choices.specs.declared.Choices.{Choices}
 use Rattle.bits.specs.Bits.{fields}
 use Rattle.consistency.specs.Tables.{tablesOf, tablesRight}
 use Rattle.hunt.specs.Hunt.{inRange, found, misses}
@@ -21,7 +22,7 @@ book = replicate 1280 (pos 0)
 abbrev pub limits : List ℤ
 limits = replicate 14 (pos 0)
 
-pub record Table : Type 0 where
+pub record Table (ch : Choices) : Type 0 where
   pub number-11 : huntingNumber (Octets RR.WrongTables) ≡ 11
   pub place-11 : huntingPlace (Octets RR.WrongTables) ≡ 0
   pub number-15 : huntingNumber (TooMany 293763) ≡ 15
@@ -38,14 +39,14 @@ pub record Table : Type 0 where
   pub number-22 : huntingNumber (Nowhere 5 9) ≡ 22
   pub place-22 : huntingPlace (Nowhere 5 9) ≡ 5
   -- "11 still comes first", then 21, then 22: nothing received, searched from bit 5 on
-  pub first-11 : huntingReading [] 5 17 (tablesOf book []) [] [] ≡ outcome (Refused (Octets RR.WrongTables)) [] []
-  pub first-11-too : huntingReading [] 5 17 (tablesOf [] limits) [] [] ≡ outcome (Refused (Octets RR.WrongTables)) [] []
-  pub then-21 : huntingReading [] 5 17 (tablesOf book limits) [] [] ≡ outcome (Refused (MatchRange 17)) [] []
-  pub then-22 : huntingReading [] 5 16 (tablesOf book limits) [] [] ≡ outcome (Refused (Nowhere 5 0)) [] []
+  pub first-11 : huntingReading ch [] 5 17 (tablesOf book []) [] [] ≡ outcome (Refused (Octets RR.WrongTables)) [] []
+  pub first-11-too : huntingReading ch [] 5 17 (tablesOf [] limits) [] [] ≡ outcome (Refused (Octets RR.WrongTables)) [] []
+  pub then-21 : huntingReading ch [] 5 17 (tablesOf book limits) [] [] ≡ outcome (Refused (MatchRange 17)) [] []
+  pub then-22 : huntingReading ch [] 5 16 (tablesOf book limits) [] [] ≡ outcome (Refused (Nowhere 5 0)) [] []
 
-pub table : Table
+pub table : (ch : Choices) → Table ch
 unfolding huntingReading tablesRight readingFound inRange gathering found misses fields
-table = record {
+table ch = record {
   number-11 = refl;
   place-11 = refl;
   number-15 = refl;

@@ -5,6 +5,7 @@ use mathlib.Core.List.{List, [], _∷_}
 use lib.ListN.{length}
 use Rattle.lists.specs.Tests.{when}
 use Rattle.layout.specs.Layout.{mostMultiframes}
+use Rattle.choices.specs.declared.Choices.{Choices}
 use Rattle.consistency.specs.Tables.{Tables, tablesRight}
 use Rattle.bits.specs.Bits.{bits}
 use Rattle.hunt.specs.Hunt.{inRange}
@@ -34,7 +35,7 @@ withCounts (RA.Refused r) n t = Refused (Octets r)
 abbrev pub counted : R.Outcome → ℕ → ℕ → Outcome
 counted o n t = outcome (withCounts (o .answer) n t) (o .index) (o .report)
 
-module _ (s : List ℕ) (from least : ℕ) (tables : Tables) (index report : List ℕ) where
+module _ (ch : Choices) (s : List ℕ) (from least : ℕ) (tables : Tables) (index report : List ℕ) where
   abbrev pub refuse : Refusal → Outcome
   refuse r = outcome (Refused r) index report
 
@@ -42,7 +43,7 @@ module _ (s : List ℕ) (from least : ℕ) (tables : Tables) (index report : Lis
   abbrev pub readingBy : List ℕ → ℕ → Ending → Outcome
   readingBy [] n whole = refuse (Nowhere from n)
   readingBy (p ∷ ps) n whole =
-      counted (R.reading (imageOf s (p ∷ ps)) tables index report) (outsideOf (bits s) from (length (p ∷ ps))) n
+      counted (R.reading ch (imageOf s (p ∷ ps)) tables index report) (outsideOf (bits s) from (length (p ∷ ps))) n
   readingBy ps n (tooMany p) = refuse (TooMany p)
 
   abbrev pub all : Gathering

@@ -7,6 +7,7 @@ use mathlib.Core.Bool.{false}
 use native.Mathlib.Omega.{arith}
 use lib.ListN.{length}
 use Rattle.layout.specs.Layout.{mostMultiframes, codebookNumbers, thresholdNumbers}
+use Rattle.choices.specs.declared.Choices.{Choices}
 use Rattle.consistency.specs.Tables.{Tables, RightTables, right-passes, wrong-fails}
 use Rattle.bits.specs.Bits.{bits}
 use Rattle.hunt.specs.Hunt.{inRange}
@@ -20,20 +21,20 @@ use Rattle.hunting.specs.declared.Counted.{Counted}
 use Rattle.refusals.specs.declared.Hunting.the-variants.{Octets, MatchRange}
 use Rattle.hunting.specs.declared.Answer.the-variants.{Refused}
 
-module _ (s : List ℕ) (from least : ℕ) (tables : Tables) (index report : List ℕ) where
+module _ (ch : Choices) (s : List ℕ) (from least : ℕ) (tables : Tables) (index report : List ℕ) where
   abbrev result : Outcome
-  result = huntingReading s from least tables index report
+  result = huntingReading ch s from least tables index report
 
   abbrev found : List ℕ
   found = gathering (bits s) least mostMultiframes from .places
 
   -- A SUCCESS SAYS ALL: the multiframes found are the only list that stands apart and takes what passes, and two answers of which the laws hold
   -- have the same count, bits outside and places tested
-  pub success-places : (c : Counted) → Success s from least tables index report c
+  pub success-places : (c : Counted) → Success ch s from least tables index report c
       → (ps : List ℕ) → Apart (bits s) least from ps → Takes (bits s) least from ps → found ≡ ps
   success-places c w ps a f = places-once (bits s) least from found ps (w .stand-apart) (w .all-taken) a f
 
-  pub success-once : (c d : Counted) → Success s from least tables index report c → Success s from least tables index report d
+  pub success-once : (c d : Counted) → Success ch s from least tables index report c → Success ch s from least tables index report d
       → (c .summary .multiframes ≡ d .summary .multiframes) × (c .outside ≡ d .outside) × (c .tested ≡ d .tested)
   success-once c d v w = (
     v .count ∙ sym (w .count),

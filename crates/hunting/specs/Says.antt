@@ -13,6 +13,7 @@ use lib.Seq.{getD-append-add}
 use borrow.Author.Tests.{ne-eqb}
 use Rattle.lists.specs.Tests.{by-test, true-false}
 use Rattle.layout.specs.Layout.{multiframeOctets, mostMultiframes, indexOctets, reportOctets, codebookNumbers, thresholdNumbers, syncFirst, syncSecond}
+use Rattle.choices.specs.declared.Choices.{Choices}
 use Rattle.consistency.specs.Tables.{Tables, tablesRight, RightTables, right-passes, passes-right, fails-wrong}
 use Rattle.bits.specs.Bits.{bits}
 use Rattle.cutting.specs.Cutting.{Cutting, cutting, whole as uncut}
@@ -39,7 +40,6 @@ use Rattle.refusals.specs.Laws.{huntingTested, huntingOf, hunting-one-case}
 use Rattle.hunting.specs.declared.Counted.{Counted}
 use Rattle.refusals.specs.declared.Hunting.{Hunting as Refusal}
 use Rattle.refusals.specs.declared.Hunting.the-variants.{Octets, MatchRange, Nowhere, TooMany}
-use Rattle.hunting.specs.declared.Answer.{Answer}
 use Rattle.hunting.specs.declared.Answer.the-variants.{Read, Refused}
 
 -- ---- the image put together is cut into just its multiframes
@@ -85,7 +85,7 @@ late-settled m bad pairs index report (S.Settled c) =
     by-test LateVerdict (ltb index (indexOctets * m)) (λ e. tt) (λ e.
     by-test LateVerdict (ltb report (reportOctets * m)) (λ e. tt) (λ e. by-test LateVerdict (eqb bad pairs) (λ e. tt) (λ e. tt)))) (λ e. tt))
 
-module _ (s ps : List ℕ) (some : 0 < length ps) (few : length ps ≤ mostMultiframes) (tables : Tables) (index report : List ℕ)
+module _ (ch : Choices) (s ps : List ℕ) (some : 0 < length ps) (few : length ps ≤ mostMultiframes) (tables : Tables) (index report : List ℕ)
     (sc : length (tables .codebook) ≡ codebookNumbers) (st : length (tables .thresholds) ≡ thresholdNumbers) where
   abbrev image : List ℕ
   image = imageOf s ps
@@ -94,29 +94,29 @@ module _ (s ps : List ℕ) (some : 0 < length ps) (few : length ps ≤ mostMulti
   rows = every 0 (length ps)
 
   -- it is decided by its multiframes alone
-  decided : R.reading image tables index report
-      ≡ R.finished image tables index report rows (wholeVerdict image tables (length index) (length report) rows)
+  decided : R.reading ch image tables index report
+      ≡ R.finished image tables index report rows (wholeVerdict ch image tables (length index) (length report) rows)
   unfolding R.reading R.verdict
   decided =
       rw (right-passes tables (sc, st))
-      (ap (λ (w : Cutting). R.finished image tables index report (w .places) (R.endVerdict image tables (length index) (length report) (w .places) (w .ending)))
+      (ap (λ (w : Cutting). R.finished image tables index report (w .places) (R.endVerdict ch image tables (length index) (length report) (w .places) (w .ending)))
       (image-cut s ps few))
 
-  late-whole : LateVerdict (wholeVerdict image tables (length index) (length report) rows)
+  late-whole : LateVerdict (wholeVerdict ch image tables (length index) (length report) rows)
   unfolding wholeVerdict
   late-whole =
       rw (ne-eqb (length rows) 0 (λ e. omega (arith, every-length 0 (length ps)))) (late-settled (length rows) _ _ (length index) (length report) _)
 
-  pub image-late : (r : OctetRefusal) → R.reading image tables index report .answer ≡ RA.Refused r → Late r
-  image-late r e = by (wholeVerdict image tables (length index) (length report) rows) late-whole (sym (ap (λ (o : R.Outcome). o .answer) decided) ∙ e)
+  pub image-late : (r : OctetRefusal) → R.reading ch image tables index report .answer ≡ RA.Refused r → Late r
+  image-late r e = by (wholeVerdict ch image tables (length index) (length report) rows) late-whole (sym (ap (λ (o : R.Outcome). o .answer) decided) ∙ e)
     where
       by : (v : Verdict) → LateVerdict v → R.finished image tables index report rows v .answer ≡ RA.Refused r → Late r
       by (Refuse q) l f = let z : q ≡ r = cc in subst Late z l
       by (Accept c) l f = let z : _≡_ {A = ℕ} 0 1 = cc in absurd (omega arith)
 
   -- and its success answers as many multiframes as were put together
-  pub image-count : (g : Summary) → R.reading image tables index report .answer ≡ RA.Read g → g .multiframes ≡ length ps
-  image-count g e = by (wholeVerdict image tables (length index) (length report) rows) (sym (ap (λ (o : R.Outcome). o .answer) decided) ∙ e)
+  pub image-count : (g : Summary) → R.reading ch image tables index report .answer ≡ RA.Read g → g .multiframes ≡ length ps
+  image-count g e = by (wholeVerdict ch image tables (length index) (length report) rows) (sym (ap (λ (o : R.Outcome). o .answer) decided) ∙ e)
     where
       by : (v : Verdict) → R.finished image tables index report rows v .answer ≡ RA.Read g → g .multiframes ≡ length ps
       by (Refuse q) f = let z : _≡_ {A = ℕ} 0 1 = cc in absurd (omega arith)
@@ -136,12 +136,12 @@ counted-refused : (a : OctetAnswer) (n t : ℕ) (r : Refusal) → withCounts a n
 counted-refused (RA.Read g) n t r e = let z : _≡_ {A = ℕ} 0 1 = cc in absurd (omega arith)
 counted-refused (RA.Refused q) n t r e = (q, (refl, cc))
 
-module _ (s : List ℕ) (from least : ℕ) (tables : Tables) (index report : List ℕ) where
+module _ (ch : Choices) (s : List ℕ) (from least : ℕ) (tables : Tables) (index report : List ℕ) where
   abbrev found : Gathering
   found = gathering (bits s) least mostMultiframes from
 
   abbrev result : Outcome
-  result = huntingReading s from least tables index report
+  result = huntingReading ch s from least tables index report
 
   abbrev keeps : Refusal → Outcome
   keeps r = outcome (Refused r) index report
@@ -153,18 +153,18 @@ module _ (s : List ℕ) (from least : ℕ) (tables : Tables) (index report : Lis
     nowhere : RightTables tables → inRange least ≡ true → NonePasses (bits s) least from → result ≡ keeps (Nowhere from (placesLeft (bits s) from)) → Fate
     many : (p : ℕ) → RightTables tables → inRange least ≡ true → found .ending ≡ tooMany p → Beyond (bits s) least mostMultiframes from p (found .places) → result ≡ keeps (TooMany p) → Fate
     read : RightTables tables → inRange least ≡ true → 0 < length (found .places) → found .ending ≡ whole
-        → result ≡ counted (R.reading (imageOf s (found .places)) tables index report) (outsideOf (bits s) from (length (found .places))) (found .tested) → Fate
+        → result ≡ counted (R.reading ch (imageOf s (found .places)) tables index report) (outsideOf (bits s) from (length (found .places))) (found .tested) → Fate
 
-  found-fate : RightTables tables → inRange least ≡ true → result ≡ readingBy s from least tables index report (found .places) (found .tested) (found .ending) → Fate
+  found-fate : RightTables tables → inRange least ≡ true → result ≡ readingBy ch s from least tables index report (found .places) (found .tested) (found .ending) → Fate
   found-fate ts er e = by (found .places) (found .ending) refl refl e
     where
-      by : (ps : List ℕ) (x : Ending) → found .places ≡ ps → found .ending ≡ x → result ≡ readingBy s from least tables index report ps (found .tested) x → Fate
+      by : (ps : List ℕ) (x : Ending) → found .places ≡ ps → found .ending ≡ x → result ≡ readingBy ch s from least tables index report ps (found .tested) x → Fate
       by [] whole ep ex e =
           let n : found .tested ≡ placesLeft (bits s) from = subst (Tested (bits s) least from (found .tested)) ep (tested-says (bits s) least mostMultiframes from ex) in
           nowhere ts er (none-found (bits s) least 254 from ep) (e ∙ ap (λ (k : ℕ). keeps (Nowhere from k)) n)
       by (p ∷ ps) whole ep ex e =
           read ts er (omega (arith, ap length ep)) ex
-          (e ∙ ap (λ (x : List ℕ). counted (R.reading (imageOf s x) tables index report) (outsideOf (bits s) from (length x)) (found .tested)) (sym ep))
+          (e ∙ ap (λ (x : List ℕ). counted (R.reading ch (imageOf s x) tables index report) (outsideOf (bits s) from (length x)) (found .tested)) (sym ep))
       by [] (tooMany p) ep ex e = many p ts er ex (many-says (bits s) least mostMultiframes from p ex) e
       by (q ∷ ps) (tooMany p) ep ex e = many p ts er ex (many-says (bits s) least mostMultiframes from p ex) e
 
@@ -185,7 +185,7 @@ module _ (s : List ℕ) (from least : ℕ) (tables : Tables) (index report : Lis
     λ e. by fate (ap (λ (o : Outcome). o .answer) e),
     λ none.
         rw (right-passes tables (sc, st), er)
-        (ap (λ (g : Gathering). readingBy s from least tables index report (g .places) (g .tested) (g .ending)) (nothing-found (bits s) least 254 from none)),
+        (ap (λ (g : Gathering). readingBy ch s from least tables index report (g .places) (g .tested) (g .ending)) (nothing-found (bits s) least 254 from none)),
   )
     where
       by : Fate → result .answer ≡ Refused (Nowhere from (placesLeft (bits s) from)) → NonePasses (bits s) least from
@@ -194,7 +194,7 @@ module _ (s : List ℕ) (from least : ℕ) (tables : Tables) (index report : Lis
       by (nowhere ts r n e) f = n
       by (many p ts r x b e) f = let g = sym (ap (λ (o : Outcome). o .answer) e) ∙ f in let z : _≡_ {A = ℕ} 0 1 = cc in absurd (omega arith)
       by (read t r n w e) f =
-          let g = counted-refused (R.reading (imageOf s (found .places)) tables index report .answer) (outsideOf (bits s) from (length (found .places))) (found .tested)
+          let g = counted-refused (R.reading ch (imageOf s (found .places)) tables index report .answer) (outsideOf (bits s) from (length (found .places))) (found .tested)
           (Nowhere from (placesLeft (bits s) from)) (sym (ap (λ (o : Outcome). o .answer) e) ∙ f) in
           let h = g .1 .1 in
           let z : _≡_ {A = ℕ} 0 1 = cc in absurd (omega arith)
@@ -202,7 +202,7 @@ module _ (s : List ℕ) (from least : ℕ) (tables : Tables) (index report : Lis
   -- A SUCCESS, and what it says
   pub record Success (c : Counted) : Type 0 where
     -- it is the octet reader's of the multiframes found, put together
-    pub as-01-says : R.reading (imageOf s (found .places)) tables index report ≡ R.outcome (RA.Read (c .summary)) (result .index) (result .report)
+    pub as-01-says : R.reading ch (imageOf s (found .places)) tables index report ≡ R.outcome (RA.Read (c .summary)) (result .index) (result .report)
     pub count : c .summary .multiframes ≡ length (found .places)
     pub some : 0 < length (found .places)
     pub few : length (found .places) ≤ mostMultiframes
@@ -227,10 +227,10 @@ module _ (s : List ℕ) (from least : ℕ) (tables : Tables) (index report : Lis
       by (nowhere t r n e) = other (Nowhere from (placesLeft (bits s) from)) e
       by (many p t r x b e) = other (TooMany p) e
       by (read t r n w e) =
-          let o = R.reading (imageOf s (found .places)) tables index report in
+          let o = R.reading ch (imageOf s (found .places)) tables index report in
           let a = counted-read (o .answer) (outsideOf (bits s) from (length (found .places))) (found .tested) c (sym (ap (λ (o : Outcome). o .answer) e) ∙ f) in
           let few = at-most (bits s) least mostMultiframes from in
-          let m = image-count s (found .places) n few tables index report (t .0) (t .1) (c .summary) (a .0) in
+          let m = image-count ch s (found .places) n few tables index report (t .0) (t .1) (c .summary) (a .0) in
           let far = apart (bits s) least mostMultiframes from in
           let room = room-for (bits s) least from (found .places) far n in
           record {
@@ -264,10 +264,10 @@ module _ (s : List ℕ) (from least : ℕ) (tables : Tables) (index report : Lis
       by (nowhere t x n e) = same (Nowhere from (placesLeft (bits s) from)) e tt
       by (many p t x g b e) = same (TooMany p) e tt
       by (read t x n w e) =
-          let o = R.reading (imageOf s (found .places)) tables index report in
+          let o = R.reading ch (imageOf s (found .places)) tables index report in
           let g = counted-refused (o .answer) (outsideOf (bits s) from (length (found .places))) (found .tested) r (sym (ap (λ (o : Outcome). o .answer) e) ∙ f) in
           subst Comes (g .1 .1)
-          (inr (image-late s (found .places) n (at-most (bits s) least mostMultiframes from) tables index report (t .0) (t .1) (g .0) (g .1 .0)))
+          (inr (image-late ch s (found .places) n (at-most (bits s) least mostMultiframes from) tables index report (t .0) (t .1) (g .0) (g .1 .0)))
 
   number-comes : (r : Refusal) → Comes r → (huntingNumber r ≡ 12 → ⊥) × (huntingNumber r ≡ 13 → ⊥) × (huntingNumber r ≡ 14 → ⊥)
   number-comes (MatchRange k) l = (λ e. omega arith, λ e. omega arith, λ e. omega arith)

@@ -1,4 +1,5 @@
 // The hunting reader (02, C-13): the multiframes found at any bit are read as the octet reader reads them.
+use choices::Choices;
 use gathering::Gathered;
 use layout::MultiframeLayout;
 use layout::UtteranceLayout;
@@ -36,6 +37,7 @@ fn read_front(
     count: usize,
     outside: usize,
     tested: usize,
+    choices: Choices,
     codebook: &[i32],
     thresholds: &[i32],
     index: &mut [u8],
@@ -43,11 +45,11 @@ fn read_front(
 ) -> Answer
     requires { ⌜ (count ≤ mostMultiframes) × (multiframeOctets * mostMultiframes ≤ length (now image)) ⌝ }
     ensures { λ r. ⌜ outcome r (left index) (left report)
-        ≡ counted (reading (take (multiframeOctets * count) (came image)) (tablesIn codebook thresholds) (came index) (came report))
+        ≡ counted (reading choices (take (multiframeOctets * count) (came image)) (tablesIn codebook thresholds) (came index) (came report))
         outside tested ⌝ }
 {
     let end = MultiframeLayout::OCTETS * count;
-    match reader::read(&image[..end], codebook, thresholds, index, report) {
+    match reader::read(&image[..end], choices, codebook, thresholds, index, report) {
         reader::Answer::Read(summary) => Answer::Read(Counted {
             summary,
             outside,
@@ -63,6 +65,7 @@ fn read_found(
     octets: &[u8],
     from: usize,
     least: usize,
+    choices: Choices,
     codebook: &[i32],
     thresholds: &[i32],
     index: &mut [u8],
@@ -70,7 +73,7 @@ fn read_found(
 ) -> Answer
     requires { ⌜ least ≤ syncBits ⌝ }
     ensures { λ r. ⌜ outcome r (left index) (left report)
-        ≡ readingFound (came octets) from least (tablesIn codebook thresholds) (came index) (came report) ⌝ }
+        ≡ readingFound choices (came octets) from least (tablesIn codebook thresholds) (came index) (came report) ⌝ }
 {
     let mut image = [0u8; IMAGE];
     match gathering::gather(octets, from, least, &mut image) {
@@ -84,6 +87,7 @@ fn read_found(
                 count,
                 gathering::outside_of(octets, from, count),
                 tested,
+                choices,
                 codebook,
                 thresholds,
                 index,
@@ -93,25 +97,35 @@ fn read_found(
     }
 }
 
-// read finds the multiframes from bit from on, at any bit, and reads them as the octet reader does; or it refuses and leaves both buffers
-// as they came. Nothing is asked of the caller.
+// read finds the multiframes from bit from on, at any bit, and reads them as the octet reader does, by the same choices (02, C-20): an only
+// multiframe found is an only one, and by default refused with 16. Or it refuses and leaves both buffers as they came. Nothing is asked of the caller.
 pub fn read(
     octets: &[u8],
     from: usize,
     least: usize,
+    choices: Choices,
     codebook: &[i32],
     thresholds: &[i32],
     index: &mut [u8],
     report: &mut [u8],
 ) -> Answer
     ensures { λ r. ⌜ outcome r (left index) (left report)
-        ≡ huntingReading (came octets) from least (tablesIn codebook thresholds) (came index) (came report) ⌝ }
+        ≡ huntingReading choices (came octets) from least (tablesIn codebook thresholds) (came index) (came report) ⌝ }
 {
     if !consistency::are_right(codebook, thresholds) {
         return Answer::Refused(Hunting::Octets(Reading::WrongTables));
     }
     if hunt::in_range(least) {
-        return read_found(octets, from, least, codebook, thresholds, index, report);
+        return read_found(
+            octets,
+            from,
+            least,
+            choices,
+            codebook,
+            thresholds,
+            index,
+            report,
+        );
     }
     Answer::Refused(Hunting::MatchRange { least })
 }

@@ -17,6 +17,7 @@ use Rattle.lists.specs.Tests.{true-false}
 use Rattle.lists.specs.Parts.{part-left}
 use Rattle.lists.specs.Rows.{joined}
 use Rattle.layout.specs.Layout.{multiframePairs, mostMultiframes}
+use Rattle.choices.specs.declared.Choices.{Choices}
 use Rattle.bits.specs.Bits.{field, fields, bits}
 use Rattle.carrier.specs.Carrier.{streamPacket}
 use Rattle.crc.specs.Crc.{Damaged}
@@ -124,9 +125,9 @@ module _ (u : Utterance) where
       ∙ sym (image-packet (u .settings) (u .indices) m 2 (omega arith))))
       (λ r. true-false (sym (r .0) ∙ zero-consistent (frameAt (u .indices) 4) (frameAt (u .indices) 5))) b
 
-  pub names-aired : 2 ≤ multiframesOf u
-      → Premises u aired 0 3 fewestMatches aired-on-air zeroTables (indexFor (multiframesOf u)) (reportFor (multiframesOf u))
-  names-aired two = record { settled = inl two; pair = 2; within = omega arith; not-bad = third-good; lent = lent-zeros (multiframesOf u) }
+  pub names-aired : (ch : Choices) → 2 ≤ multiframesOf u
+      → Premises ch u aired 0 3 fewestMatches aired-on-air zeroTables (indexFor (multiframesOf u)) (reportFor (multiframesOf u))
+  names-aired ch two = record { settled = inl two; pair = 2; within = omega arith; not-bad = third-good; lent = lent-zeros (multiframesOf u) }
 
-pub names-aired-24 : Premises says24 (aired says24) 0 3 fewestMatches (aired-on-air says24) zeroTables (indexFor (multiframesOf says24)) (reportFor (multiframesOf says24))
-names-aired-24 = names-aired says24 (le-of-eq (sym two-multiframes))
+pub names-aired-24 : (ch : Choices) → Premises ch says24 (aired says24) 0 3 fewestMatches (aired-on-air says24) zeroTables (indexFor (multiframesOf says24)) (reportFor (multiframesOf says24))
+names-aired-24 ch = names-aired says24 ch (le-of-eq (sym two-multiframes))

@@ -11,6 +11,7 @@ use lib.Seq.{drop-append-add}
 use Rattle.lists.specs.Parts.{part, part-left}
 use Rattle.lists.specs.Rows.{same-joined}
 use Rattle.layout.specs.Layout.{syncOctets, headerOctets, streamOctets, multiframeOctets, mostMultiframes, codebookNumbers, thresholdNumbers, syncFirst, syncSecond}
+use Rattle.choices.specs.declared.Choices.{Choices}
 use Rattle.consistency.specs.Tables.{Tables}
 use Rattle.bits.specs.Bits.{value, bits}
 use Rattle.bits.specs.Laws.{length-bits, bits-part}
@@ -53,13 +54,13 @@ module _ (img : List ℕ) (m : ℕ) (w : Multiframes img m) (s : List ℕ) (at :
       ∙ made-again img m (w .size) (w .small) (w .syncs)
 
   -- READ WHERE IT STANDS
-  pub as-read : (from least : ℕ) (tables : Tables) (index report : List ℕ) → fewestMatches ≤ least → least ≤ syncBits
+  pub as-read : (ch : Choices) (from least : ℕ) (tables : Tables) (index report : List ℕ) → fewestMatches ≤ least → least ≤ syncBits
       → length (tables .codebook) ≡ codebookNumbers → length (tables .thresholds) ≡ thresholdNumbers → InARow (bits s) from at least m → 0 < m → m ≤ mostMultiframes
-      → huntingReading s from least tables index report
-      ≡ counted (R.reading img tables index report) (outsideOf (bits s) from m) (testedInRow (bits s) from at m)
-  as-read from least tables index report low high codebook-size thresholds-size r some few =
-      reads-in-a-row s from least tables index report low high codebook-size thresholds-size at m r some few
-      ∙ ap (λ (x : List ℕ). counted (R.reading x tables index report) (outsideOf (bits s) from m) (testedInRow (bits s) from at m)) (put-together (r .inside))
+      → huntingReading ch s from least tables index report
+      ≡ counted (R.reading ch img tables index report) (outsideOf (bits s) from m) (testedInRow (bits s) from at m)
+  as-read ch from least tables index report low high codebook-size thresholds-size r some few =
+      reads-in-a-row ch s from least tables index report low high codebook-size thresholds-size at m r some few
+      ∙ ap (λ (x : List ℕ). counted (R.reading ch x tables index report) (outsideOf (bits s) from m) (testedInRow (bits s) from at m)) (put-together (r .inside))
 
 -- ---- octets that are only shifted, with any bits in front and behind, stand there with whole syncs
 module _ (img : List ℕ) (m : ℕ) (w : Multiframes img m) (s : List ℕ) (front behind : List Bool) (same : bits s ≡ front ++ (bits img ++ behind)) where
@@ -87,10 +88,10 @@ damaged-cut u img d = record {
   syncs = λ k h. d .syncs k h ∙ image-sync (u .settings) (u .indices) (multiframesOf u) k h;
 }
 
-module _ (u : Utterance) (img s : List ℕ) (from at least : ℕ) (tables : Tables) (index report : List ℕ) where
+module _ (ch : Choices) (u : Utterance) (img s : List ℕ) (from at least : ℕ) (tables : Tables) (index report : List ℕ) where
   pub record Premises : Type 0 where
     -- demand 3's, of the damaged image
-    pub of-image : N.Premises u img tables index report
+    pub of-image : N.Premises ch u img tables index report
     -- which stands at bit `at`, but for its syncs
     pub there : Stands img (multiframesOf u) s at
     pub begins : from ≤ at
@@ -104,7 +105,7 @@ module _ (u : Utterance) (img s : List ℕ) (from at least : ℕ) (tables : Tabl
     pub low : fewestMatches ≤ least
 
   abbrev pub result : G.Outcome
-  result = huntingReading s from least tables index report
+  result = huntingReading ch s from least tables index report
 
   -- what the octet reader says of the damaged image, demand 3's sentences, is what is said here, with the bits outside and the places tested
   pub record Named : Type 0 where
@@ -131,16 +132,16 @@ module _ (u : Utterance) (img s : List ℕ) (from at least : ℕ) (tables : Tabl
 
     -- the same as the octet reader says of the image
     pub read-there : result
-        ≡ counted (R.reading img tables index report) (outsideOf (bits s) from (multiframesOf u)) (testedInRow (bits s) from at (multiframesOf u))
+        ≡ counted (R.reading ch img tables index report) (outsideOf (bits s) from (multiframesOf u)) (testedInRow (bits s) from at (multiframesOf u))
     read-there =
-        as-read img (multiframesOf u) (damaged-cut u img d) s at (p .there) from least tables index report (p .low)
+        as-read img (multiframesOf u) (damaged-cut u img d) s at (p .there) ch from least tables index report (p .low)
         (at-most-all (syncAt (bits s) (placeInRow at 0)) least (p .syncs 0 (omega arith)))
         (p .of-image .lent .codebook-size) (p .of-image .lent .thresholds-size) in-a-row (omega arith)
         (few-multiframes (u .settings) (u .indices) (is-accepted u .sizes))
 
     pub names-at-any-bit : Named
     names-at-any-bit =
-        let n = N.names-the-damage u img tables index report (p .of-image) in
+        let n = N.names-the-damage ch u img tables index report (p .of-image) in
         record {
           given = record { summary = n .given; outside = outsideOf (bits s) from (multiframesOf u); tested = testedInRow (bits s) from at (multiframesOf u) };
           succeeds = ap (λ (o : G.Outcome). o .answer) read-there

@@ -12,6 +12,7 @@ use lib.ListN.{length}
 use Rattle.lists.specs.Parts.{part, part-left}
 use Rattle.lists.specs.Rows.{joined}
 use Rattle.layout.specs.Layout.{multiframePairs, streamOctets, mostMultiframes, firstPair}
+use Rattle.choices.specs.declared.Choices.{Choices}
 use Rattle.consistency.specs.Tables.{Tables}
 use Rattle.bits.specs.Bits.{bits}
 use Rattle.bits.specs.Laws.{bits-octets}
@@ -120,18 +121,18 @@ module _ (u : Utterance) (front : List Bool) (y : ℕ → List Bool) (flips : �
     inside-there = omega (arith, searched-are, f .around)
 
     module _ (from least : ℕ) (tables : Tables) (index report : List ℕ) where
-      abbrev Hurt : Premise → Type 0
-      Hurt p = Holds u hurt from (length front) least tables index report p
+      abbrev Hurt : (ch : Choices) → Premise → Type 0
+      Hurt ch p = Holds ch u hurt from (length front) least tables index report p
 
       -- the premises hold there, if these do
-      pub hurt-hold : Hurt Begins → Hurt Syncs → Hurt Headers → Hurt NoneBefore → Hurt NoneBehind → Hurt Low → Hurt Settled → Hurt TablesAndRoom → (p : Premise) → Hurt p
-      hurt-hold begins syncs headers none-before none-behind low settled lent Begins = begins
-      hurt-hold begins syncs headers none-before none-behind low settled lent Inside = inside-there
-      hurt-hold begins syncs headers none-before none-behind low settled lent Syncs = syncs
-      hurt-hold begins syncs headers none-before none-behind low settled lent Headers = headers
-      hurt-hold begins syncs headers none-before none-behind low settled lent Streams = stream-there
-      hurt-hold begins syncs headers none-before none-behind low settled lent NoneBefore = none-before
-      hurt-hold begins syncs headers none-before none-behind low settled lent NoneBehind = none-behind
-      hurt-hold begins syncs headers none-before none-behind low settled lent Low = low
-      hurt-hold begins syncs headers none-before none-behind low settled lent Settled = settled
-      hurt-hold begins syncs headers none-before none-behind low settled lent TablesAndRoom = lent
+      pub hurt-hold : (ch : Choices) → Hurt ch Begins → Hurt ch Syncs → Hurt ch Headers → Hurt ch NoneBefore → Hurt ch NoneBehind → Hurt ch Low → Hurt ch Settled → Hurt ch TablesAndRoom → (p : Premise) → Hurt ch p
+      hurt-hold ch begins syncs headers none-before none-behind low settled lent Begins = begins
+      hurt-hold ch begins syncs headers none-before none-behind low settled lent Inside = inside-there
+      hurt-hold ch begins syncs headers none-before none-behind low settled lent Syncs = syncs
+      hurt-hold ch begins syncs headers none-before none-behind low settled lent Headers = headers
+      hurt-hold ch begins syncs headers none-before none-behind low settled lent Streams = stream-there
+      hurt-hold ch begins syncs headers none-before none-behind low settled lent NoneBefore = none-before
+      hurt-hold ch begins syncs headers none-before none-behind low settled lent NoneBehind = none-behind
+      hurt-hold ch begins syncs headers none-before none-behind low settled lent Low = low
+      hurt-hold ch begins syncs headers none-before none-behind low settled lent Settled = settled
+      hurt-hold ch begins syncs headers none-before none-behind low settled lent TablesAndRoom = lent

@@ -1,11 +1,12 @@
 -- The premises of HUNTS BACK are met: by every utterance of two multiframes or more, at bit 3, with four flips in every sync, two in every
--- header, and zeros in front and behind; and by every utterance at bit 3, undamaged.
+-- header, and zeros in front and behind; and by every utterance at bit 3, undamaged, if it has two multiframes or
+-- the caller asks for the old rule (02, C-20).
 -- Assumes nothing.
 use Prim.Native.Nat.{ℕ, zero, suc, _+_, _-_, _*_, _≤_, _<_}
 use mathlib.Core.Path.{_≡_, refl, sym, ap, ap₂, _∙_, subst}
 use mathlib.Core.List.{List, _∷_, _++_}
-use mathlib.Core.Logic.{inl}
-use mathlib.Core.Bool.{Bool, false}
+use mathlib.Core.Logic.{inl, inr}
+use mathlib.Core.Bool.{Bool, true, false}
 use native.Mathlib.Nat.{le-of-eq}
 use native.Mathlib.Omega.{arith}
 use lib.Count.{ones, onesIn}
@@ -16,6 +17,8 @@ use Rattle.polynomials.specs.Light.{ones-in}
 use Rattle.lists.specs.Parts.{part, over, part-left, part-right}
 use Rattle.lists.specs.Rows.{joined}
 use Rattle.layout.specs.Layout.{multiframePairs, syncOctets, multiframeOctets, mostMultiframes, indexOctets, reportOctets}
+use Rattle.choices.specs.Choices.{oneSettles}
+use Rattle.choices.specs.declared.Choices.{Choices}
 use Rattle.consistency.specs.Tables.{Tables, zeroTables}
 use Rattle.bits.specs.Bits.{field, fields, bits, octets}
 use Rattle.bits.specs.Laws.{length-bits, bits-part, bits-octets}
@@ -130,25 +133,25 @@ module _ (u : Utterance) where
   two-flips k h = H.flips-there u threeZeros (λ k. worstSync) (λ k. 3) manyZeros 151 fits k h ∙ two-ones
 
   module _ (tables : Tables) (index report : List ℕ) where
-    pub hunts-back-met : 2 ≤ multiframesOf u → Lent (multiframesOf u) tables index report
-        → Premises u carriedOctets 0 3 fewestMatches tables index report
-    hunts-back-met two lent =
-        H.hurt-hold u threeZeros (λ k. worstSync) (λ k. 3) manyZeros 151 fits 0 fewestMatches tables index report (lit≤ tt)
+    pub hunts-back-met : (ch : Choices) → 2 ≤ multiframesOf u → Lent (multiframesOf u) tables index report
+        → Premises ch u carriedOctets 0 3 fewestMatches tables index report
+    hunts-back-met ch two lent =
+        H.hurt-hold u threeZeros (λ k. worstSync) (λ k. 3) manyZeros 151 fits 0 fewestMatches tables index report ch (lit≤ tt)
         (λ k h. H.match-there u threeZeros (λ k. worstSync) (λ k. 3) manyZeros 151 fits k h fewestMatches (le-of-eq (sym worst-matches))) (λ k h. le-of-eq (two-flips k h))
         not-before not-behind (lit≤ tt) (inl two) lent
 
     -- two multiframes so carried are read with their settings, frames and count, every header's two flips are noted, 1,208 bits stand outside,
     -- and 59 places were tested: three before them, their two, and the 54 behind them with a multiframe's bits left
-    pub two-hunted : multiframesOf u ≡ 2 → Lent (multiframesOf u) tables index report
-        → huntingReading carriedOctets 0 fewestMatches tables index report
+    pub two-hunted : (ch : Choices) → multiframesOf u ≡ 2 → Lent (multiframesOf u) tables index report
+        → huntingReading ch carriedOctets 0 fewestMatches tables index report
         ≡ outcome (Read (record { summary = spoken u; outside = 1208; tested = 59 })) (over index 0 (indexOctets * 2) (padded u))
         (over report 0 (reportOctets * 2) ((2 ∷ replicate multiframePairs 0) ++ (2 ∷ replicate multiframePairs 0)))
-    two-hunted two lent =
+    two-hunted ch two lent =
         let n = H.searched-are u threeZeros (λ k. worstSync) (λ k. 3) manyZeros 151 fits in
         let out : outsideOf l 0 m ≡ 1208 = omega arith in
         let tested : testedInRow l 0 3 m ≡ 59 = omega arith in
-        hunts-back u carriedOctets 0 3 fewestMatches tables index report (hunts-back-met (le-of-eq (sym two)) lent)
-        ∙ same-notes u carriedOctets 0 3 fewestMatches tables index report (receivedFlips u carriedOctets 3) (λ k. 2) two-flips
+        hunts-back ch u carriedOctets 0 3 fewestMatches tables index report (hunts-back-met ch (le-of-eq (sym two)) lent)
+        ∙ same-notes ch u carriedOctets 0 3 fewestMatches tables index report (receivedFlips u carriedOctets 3) (λ k. 2) two-flips
         ∙ ap₂
         (λ (a b : ℕ). outcome (Read (record { summary = spoken u; outside = a; tested = b })) (over index 0 (indexOctets * m) (padded u))
         (over report 0 (reportOctets * m) (joined (λ k. 2 ∷ replicate multiframePairs 0) m)))
@@ -159,14 +162,14 @@ module _ (u : Utterance) where
         two
 
 -- ---- and from a bit that is not the first: bits before it are neither outside nor tested
-module _ (u : Utterance) (two : multiframesOf u ≡ 2) (tables : Tables) (index report : List ℕ) (lent : Lent (multiframesOf u) tables index report) where
+module _ (ch : Choices) (u : Utterance) (two : multiframesOf u ≡ 2) (tables : Tables) (index report : List ℕ) (lent : Lent (multiframesOf u) tables index report) where
   abbrev there : List ℕ
   there = carriedOctets u
 
-  from-0 : Premises u there 0 3 fewestMatches tables index report
-  from-0 = hunts-back-met u tables index report (le-of-eq (sym two)) lent
+  from-0 : Premises ch u there 0 3 fewestMatches tables index report
+  from-0 = hunts-back-met u tables index report ch (le-of-eq (sym two)) lent
 
-  from-2 : Premises u there 2 3 fewestMatches tables index report
+  from-2 : Premises ch u there 2 3 fewestMatches tables index report
   from-2 Begins = lit≤ tt
   from-2 Inside = from-0 Inside
   from-2 Syncs = from-0 Syncs
@@ -178,13 +181,13 @@ module _ (u : Utterance) (two : multiframesOf u ≡ 2) (tables : Tables) (index 
   from-2 Settled = from-0 Settled
   from-2 TablesAndRoom = lent
 
-  pub hunted-from-2 : huntingReading (carriedOctets u) 2 fewestMatches tables index report .answer
+  pub hunted-from-2 : huntingReading ch (carriedOctets u) 2 fewestMatches tables index report .answer
       ≡ Read (record { summary = spoken u; outside = 1206; tested = 57 })
   hunted-from-2 =
       let n = H.searched-are u threeZeros (λ k. worstSync) (λ k. 3) manyZeros 151 (fits u) in
       let out : outsideOf (bits there) 2 (multiframesOf u) ≡ 1206 = omega arith in
       let tested : testedInRow (bits there) 2 3 (multiframesOf u) ≡ 57 = omega arith in
-      ap (λ (o : Outcome). o .answer) (hunts-back u there 2 3 fewestMatches tables index report from-2)
+      ap (λ (o : Outcome). o .answer) (hunts-back ch u there 2 3 fewestMatches tables index report from-2)
       ∙ ap₂ (λ (a b : ℕ). Read (record { summary = spoken u; outside = a; tested = b })) out tested
 
 -- ---- and there is such an utterance
@@ -194,12 +197,12 @@ index24 = indexFor (multiframesOf says24)
 abbrev pub report24 : List ℕ
 report24 = reportFor (multiframesOf says24)
 
-pub met-says24 : Premises says24 (carriedOctets says24) 0 3 fewestMatches zeroTables index24 report24
-met-says24 = hunts-back-met says24 zeroTables index24 report24 (le-of-eq (sym two-multiframes)) (lent-zeros (multiframesOf says24))
+pub met-says24 : (ch : Choices) → Premises ch says24 (carriedOctets says24) 0 3 fewestMatches zeroTables index24 report24
+met-says24 ch = hunts-back-met says24 zeroTables index24 report24 ch (le-of-eq (sym two-multiframes)) (lent-zeros (multiframesOf says24))
 
-pub hunts-says24 : huntingReading (carriedOctets says24) 0 fewestMatches zeroTables index24 report24 .answer
+pub hunts-says24 : (ch : Choices) → huntingReading ch (carriedOctets says24) 0 fewestMatches zeroTables index24 report24 .answer
     ≡ Read (record { summary = spoken says24; outside = 1208; tested = 59 })
-hunts-says24 = ap (λ (o : Outcome). o .answer) (two-hunted says24 zeroTables index24 report24 two-multiframes (lent-zeros (multiframesOf says24)))
+hunts-says24 ch = ap (λ (o : Outcome). o .answer) (two-hunted says24 zeroTables index24 report24 ch two-multiframes (lent-zeros (multiframesOf says24)))
 
 -- ---- THE SHIFTED IMAGE: every utterance's, behind three zeros and before five
 abbrev pub fiveZeros : List Bool
@@ -216,8 +219,8 @@ module _ (u : Utterance) where
   shifted-size =
       length-append threeZeros (bits (imageOf u) ++ fiveZeros) ∙ omega (arith, length-append (bits (imageOf u)) fiveZeros, image-bits)
 
-  pub shifted-met : (least : ℕ) → fewestMatches ≤ least → Shifted u shiftedOctets 0 least threeZeros fiveZeros
-  shifted-met least low =
+  pub shifted-met : (ch : Choices) (least : ℕ) → fewestMatches ≤ least → Shifted ch u shiftedOctets 0 least threeZeros fiveZeros
+  shifted-met ch least low =
       let same : bits shiftedOctets ≡ threeZeros ++ (bits (imageOf u) ++ fiveZeros) =
       bits-octets (1 + multiframeOctets * multiframesOf u) (threeZeros ++ (bits (imageOf u) ++ fiveZeros)) shifted-size in
       let few : multiframesOf u ≤ mostMultiframes = few-multiframes (u .settings) (u .indices) (is-accepted u .sizes) in
@@ -237,19 +240,20 @@ module _ (u : Utterance) where
         none-behind = λ t a h. absurd (omega arith);
       }
 
-  -- so it is read at every T, with all notes 0, eight bits outside and four places tested if it has one multiframe
-  pub one-shifted : multiframesOf u ≡ 1 → (least : ℕ) → fewestMatches ≤ least → least ≤ syncBits → (tables : Tables) (index report : List ℕ)
+  -- so, where the caller asks for the old rule, it is read at every T, with all notes 0, eight bits outside and four places tested if it has one
+  -- multiframe
+  pub one-shifted : (ch : Choices) → oneSettles ch ≡ true → multiframesOf u ≡ 1 → (least : ℕ) → fewestMatches ≤ least → least ≤ syncBits → (tables : Tables) (index report : List ℕ)
       → Lent (multiframesOf u) tables index report
-      → huntingReading shiftedOctets 0 least tables index report
+      → huntingReading ch shiftedOctets 0 least tables index report
       ≡ outcome (Read (record { summary = spoken u; outside = 8; tested = 4 })) (over index 0 indexOctets (padded u)) (over report 0 reportOctets (replicate reportOctets 0))
-  one-shifted one least low high tables index report lent =
+  one-shifted ch asked one least low high tables index report lent =
       let same : bits shiftedOctets ≡ threeZeros ++ (bits (imageOf u) ++ fiveZeros) =
       bits-octets (1 + multiframeOctets * multiframesOf u) (threeZeros ++ (bits (imageOf u) ++ fiveZeros)) shifted-size in
       let size : length (bits shiftedOctets) ≡ 8 * (1 + multiframeOctets * multiframesOf u) = ap length same ∙ shifted-size in
       let all : searched (bits shiftedOctets) ≡ 8 * (1 + multiframeOctets * multiframesOf u) = searched-all (bits shiftedOctets) (omega arith) ∙ size in
       let out : outsideOf (bits shiftedOctets) 0 (multiframesOf u) ≡ 8 = omega arith in
       let tested : testedInRow (bits shiftedOctets) 0 3 (multiframesOf u) ≡ 4 = omega arith in
-      hunts-shifted u shiftedOctets 0 least threeZeros fiveZeros (shifted-met least low) tables index report low high lent
+      hunts-shifted ch u shiftedOctets 0 least threeZeros fiveZeros (shifted-met ch least low) (inr asked) tables index report low high lent
       ∙ ap₂
       (λ (a b : ℕ). outcome (Read (record { summary = spoken u; outside = a; tested = b })) (over index 0 (indexOctets * multiframesOf u) (padded u))
       (over report 0 (reportOctets * multiframesOf u) (joined (λ k. 0 ∷ replicate multiframePairs 0) (multiframesOf u))))

@@ -1,11 +1,12 @@
 -- WHY EVERY HEADER MAY HAVE AT MOST TWO FLIPS at the hunting reader. Of two multiframes the first header has three flips, so that its multiframe is
--- not found, and the second has eight and is a codeword of another rate; all else is as it was sent. The reading succeeds and every note is 0, yet
--- rate, count and speech are not those sent: only the bits outside and the places tested tell. The octet reader refuses the same octets.
+-- not found, and the second has eight and is a codeword of another rate; all else is as it was sent. Where the caller asks for the old rule (02, C-20),
+-- the reading succeeds and every note is 0, yet rate, count and speech are not those sent: only the bits outside and the places tested tell. By default
+-- the same bits are refused with 16. The octet reader refuses the same octets by either choice.
 -- Assumes nothing.
 use Prim.Native.Nat.{ℕ, zero, suc, _+_, _-_, _*_, _/_, _^_, _≤_, _<_}
 use mathlib.Core.Path.{_≡_, refl, sym, ap, ap₂, _∙_, subst}
 use mathlib.Core.List.{List, [], _∷_, _++_, append-nil}
-use mathlib.Core.Logic.{inl}
+use mathlib.Core.Logic.{inl, inr}
 use mathlib.Core.Bool.{Bool, true, false, xor}
 use native.Mathlib.Nat.{le-of-eq}
 use native.Mathlib.Omega.{arith}
@@ -19,6 +20,8 @@ use Rattle.polynomials.specs.Light.{ones-in}
 use Rattle.lists.specs.Tests.{all-holds}
 use Rattle.lists.specs.Parts.{part, over}
 use Rattle.layout.specs.Layout.{widths, frameIndices, multiframePairs, streamOctets, indexOctets, reportOctets, firstPair}
+use Rattle.choices.specs.Choices.{oneSettles, byDefault, oneHeaderSettles}
+use Rattle.choices.specs.declared.Choices.{Choices}
 use Rattle.consistency.specs.Tables.{Tables, zeroTables}
 use Rattle.settings.specs.Settings.{settings}
 use Rattle.frames.specs.Frames.{zeroFrame}
@@ -38,7 +41,7 @@ use Rattle.header.specs.Reading.Laws.{near}
 use Rattle.header.specs.declared.Decoded.{Decoded}
 use Rattle.header.specs.declared.Header.{Header}
 use Rattle.header.specs.declared.Header.the-variants.{Codeword, Lost}
-use Rattle.settling.specs.Settling.{readings, settling, firstAgreeing, onlyOne}
+use Rattle.settling.specs.Settling.{readings, settling, firstAgreeing}
 use Rattle.settling.specs.declared.Settlement.the-variants as S
 use Rattle.hunt.specs.Hunt.{syncBits, headerBits, multiframeBits, fewestMatches, sync, matches, passes, searched}
 use Rattle.hunt.specs.Laws.{searched-all}
@@ -47,9 +50,13 @@ use Rattle.reader.specs.declared.Answer.the-variants as RA
 use Rattle.refusals.specs.declared.Reading.the-variants.{Unsettled}
 use Rattle.gathering.specs.Gathering.{outsideOf}
 use Rattle.hunting.specs.Hunting.{counted, outcome, huntingReading}
-use Rattle.hunting.specs.declared.Answer.the-variants.{Read}
+use Rattle.hunting.specs.declared.Answer.the-variants.{Read, Refused}
+use Rattle.refusals.specs.declared.Hunting.the-variants.{Octets}
+use Rattle.demands.specs.Damages.{unharmed}
+use Rattle.demands.specs.Needed.{default-unsettled}
 use Rattle.image.specs.Made.{Small, syncIn, wordIn, streamIn, packetIn, made, length-made, small-made, made-sync, made-word, made-stream}
 use Rattle.image.specs.Laws.{length-image, image-small, image-sync, image-word, image-stream}
+use Rattle.settling.specs.Laws.{two-or-more}
 use Rattle.writer.specs.Writing.{verdict, roomAnswer, firstFrom, frameCount, needed}
 use Rattle.writer.specs.Utterance.{Utterance, multiframesOf, pairsOf, imageOf}
 use Rattle.writer.specs.declared.Answer.the-variants.{Written}
@@ -237,15 +244,15 @@ heard-stands = record { words = word; streams = body }
     body (suc k) h = absurd (omega arith)
 
 -- ---- what the octet reader says: one header is lost, so no two agree
-unsettled : (d : Decoded) → settling (Lost ∷ Codeword d ∷ []) ≡ S.Unsettled
-unfolding settling firstAgreeing onlyOne
-unsettled d = refl
+unsettled : (ch : Choices) (d : Decoded) → settling ch (Lost ∷ Codeword d ∷ []) ≡ S.Unsettled
+unfolding firstAgreeing
+unsettled ch d = two-or-more ch (Lost ∷ Codeword d ∷ []) (lit≤ tt)
 
-nothing-settles : settling (readings garbled (rowOf 2)) ≡ S.Unsettled
-nothing-settles = ap settling (readings-are garbled 2) ∙ ap₂ (λ (x y : Header). settling (x ∷ y ∷ [])) first-lost second-read ∙ unsettled (decodedAs (wordIn garbled 1) (message (settings 1 0) 1 0))
+nothing-settles : (ch : Choices) → settling ch (readings garbled (rowOf 2)) ≡ S.Unsettled
+nothing-settles ch = ap (settling ch) (readings-are garbled 2) ∙ ap₂ (λ (x y : Header). settling ch (x ∷ y ∷ [])) first-lost second-read ∙ unsettled ch (decodedAs (wordIn garbled 1) (message (settings 1 0) 1 0))
 
-module _ (least : ℕ) (tables : Tables) (index report : List ℕ) where
-  -- THE COUNTEREXAMPLE
+module _ (ch : Choices) (least : ℕ) (tables : Tables) (index report : List ℕ) where
+  -- THE COUNTEREXAMPLE, where the caller asks for the old rule
   pub record Misses : Type 0 where
     -- sent: 8 kHz, two multiframes, 25 frames
     pub sent-rate : sent .settings .rate ≡ 0
@@ -262,16 +269,25 @@ module _ (least : ℕ) (tables : Tables) (index report : List ℕ) where
     pub never-misled-met : NeverMisled.Premises sent garbled
     pub trusted-met : Trusted.Premises sent garbled
     -- all premises of HUNTS BACK hold but the one of the headers
-    pub others : (p : Premise) → (p ≡ Headers → ⊥) → Holds sent garbled 0 0 least tables index report p
+    pub others : (p : Premise) → (p ≡ Headers → ⊥) → Holds ch sent garbled 0 0 least tables index report p
     -- MISLED WITHOUT A NOTE: the hunting reader gives 11 kHz, one multiframe, one frame and end 1, and every note is 0; a multiframe's
     -- bits outside, and as many places tested before the one found, are all that tells
-    pub answers : huntingReading garbled 0 least tables index report
+    pub answers : huntingReading ch garbled 0 least tables index report
         ≡ outcome (Read (record { summary = record { settings = settings 1 0; multiframes = 1; speech = 1; bad = 0; end = 1 }; outside = multiframeBits; tested = suc multiframeBits }))
         (over index 0 indexOctets (replicate frameIndices 4 ++ replicate (indexOctets - frameIndices) 0)) (over report 0 reportOctets (replicate reportOctets 0))
     -- the octet reader is not misled: it refuses them, 16
-    pub refuses : R.reading garbled tables index report ≡ R.outcome (RA.Refused Unsettled) index report
+    pub refuses : R.reading ch garbled tables index report ≡ R.outcome (RA.Refused Unsettled) index report
 
   module _ (low : fewestMatches ≤ least) (high : least ≤ syncBits) (lent : Lent 2 tables index report) where
+    -- the second multiframe alone is read
+    found-alone : huntingReading ch garbled 0 least tables index report ≡ counted (R.reading ch (imageOf heard) tables index report) multiframeBits (suc multiframeBits)
+    found-alone =
+        let out : outsideOf (bits garbled) 0 1 ≡ multiframeBits = omega (arith, searched-are) in
+        let tested : testedInRow (bits garbled) 0 multiframeBits 1 ≡ 1153 = omega (arith, searched-are) in
+        as-read (imageOf heard) 1 heard-cut garbled multiframeBits heard-stands ch 0 least tables index report low high (lent .codebook-size) (lent .thresholds-size)
+        (second-alone least low high) (lit< tt) (lit≤ tt)
+        ∙ ap₂ (λ (a b : ℕ). counted (R.reading ch (imageOf heard) tables index report) a b) out tested
+
     size-came : length garbled ≡ length (imageOf sent)
     size-came = cut .size ∙ sym (length-image (settings 0 0) (sent .indices) 2)
 
@@ -286,7 +302,7 @@ module _ (least : ℕ) (tables : Tables) (index report : List ℕ) where
     first-only zero h d = le-of-eq first-flips
     first-only (suc k) h d = absurd (d (omega arith))
 
-    but-headers : (p : Premise) → (p ≡ Headers → ⊥) → Holds sent garbled 0 0 least tables index report p
+    but-headers : (p : Premise) → (p ≡ Headers → ⊥) → Holds ch sent garbled 0 0 least tables index report p
     but-headers Begins other = lit≤ tt
     but-headers Inside other = omega (arith, searched-are)
     but-headers Syncs other = syncs-match least low high
@@ -306,20 +322,19 @@ module _ (least : ℕ) (tables : Tables) (index report : List ℕ) where
       report-room = omega (arith, lent .report-room);
     }
 
-    answered : huntingReading garbled 0 least tables index report
+    -- BY DEFAULT IT MISLEADS NOBODY: one header alone settles nothing, 16 (02, C-20)
+    pub not-missed : oneSettles ch ≡ false → huntingReading ch garbled 0 least tables index report ≡ outcome (Refused (Octets Unsettled)) index report
+    not-missed default =
+        found-alone
+        ∙ ap (λ (o : R.Outcome). counted o multiframeBits (suc multiframeBits)) (default-unsettled ch heard (imageOf heard) (unharmed heard) tables index report lent-1 default refl)
+
+    answered : oneSettles ch ≡ true → huntingReading ch garbled 0 least tables index report
         ≡ outcome (Read (record { summary = spoken heard; outside = multiframeBits; tested = suc multiframeBits })) (over index 0 indexOctets (padded heard))
         (over report 0 reportOctets (replicate reportOctets 0))
-    answered =
-        let out : outsideOf (bits garbled) 0 1 ≡ multiframeBits = omega (arith, searched-are) in
-        let tested : testedInRow (bits garbled) 0 multiframeBits 1 ≡ 1153 = omega (arith, searched-are) in
-        as-read (imageOf heard) 1 heard-cut garbled multiframeBits heard-stands 0 least tables index report low high (lent .codebook-size) (lent .thresholds-size)
-        (second-alone least low high) (lit< tt) (lit≤ tt)
-        ∙ ap (λ (o : R.Outcome). counted o (outsideOf (bits garbled) 0 1) (testedInRow (bits garbled) 0 multiframeBits 1)) (reads-image heard tables index report lent-1)
-        ∙ ap₂ (λ (a b : ℕ). outcome (Read (record { summary = spoken heard; outside = a; tested = b })) (over index 0 indexOctets (padded heard))
-        (over report 0 reportOctets (replicate reportOctets 0))) out tested
+    answered asked = found-alone ∙ ap (λ (o : R.Outcome). counted o multiframeBits (suc multiframeBits)) (reads-image ch heard (inr asked) tables index report lent-1)
 
-    pub missed : Misses
-    missed = record {
+    pub missed : oneSettles ch ≡ true → Misses
+    missed asked = record {
       sent-rate = refl;
       sent-multiframes = refl;
       sent-frames = refl;
@@ -342,10 +357,13 @@ module _ (least : ℕ) (tables : Tables) (index report : List ℕ) where
         five = omega (arith, first-flips);
       };
       others = but-headers;
-      answers = answered;
-      refuses = refuses-16 garbled 2 (lit≤ tt) (cut .size) (cut .syncs) tables index report (lit< tt) lent nothing-settles;
+      answers = answered asked;
+      refuses = refuses-16 ch garbled 2 (lit≤ tt) (cut .size) (cut .syncs) tables index report (lit< tt) lent (nothing-settles ch);
     }
 
 -- so with the strictest T and tables of zeros
-pub missed-16 : Misses syncBits zeroTables (indexFor 2) (reportFor 2)
-missed-16 = missed syncBits zeroTables (indexFor 2) (reportFor 2) (lit≤ tt) (lit≤ tt) (lent-zeros 2)
+pub missed-16 : Misses oneHeaderSettles syncBits zeroTables (indexFor 2) (reportFor 2)
+missed-16 = missed oneHeaderSettles syncBits zeroTables (indexFor 2) (reportFor 2) (lit≤ tt) (lit≤ tt) (lent-zeros 2) refl
+
+pub not-missed-16 : huntingReading byDefault garbled 0 syncBits zeroTables (indexFor 2) (reportFor 2) ≡ outcome (Refused (Octets Unsettled)) (indexFor 2) (reportFor 2)
+not-missed-16 = not-missed byDefault syncBits zeroTables (indexFor 2) (reportFor 2) (lit≤ tt) (lit≤ tt) (lent-zeros 2) refl

@@ -13,6 +13,7 @@ use Rattle.lists.specs.Tests.{both, true-false}
 use Rattle.lists.specs.Parts.{part, length-part, part-left}
 use Rattle.lists.specs.Rows.{each-at}
 use Rattle.layout.specs.Layout.{syncOctets, headerOctets, multiframeOctets, reportOctets}
+use Rattle.choices.specs.declared.Choices.{Choices}
 use Rattle.consistency.specs.Tables.{Tables}
 use Rattle.bits.specs.Bits.{field, value, bits}
 use Rattle.bits.specs.Laws.{length-field, value-field, value-lt, bits-octets}
@@ -83,15 +84,15 @@ not-three c k w = by (reading w) (reads w)
     by Lost r e z = true-false (sym e)
     by (Codeword d) r e z = omega (arith, note-flips c k d (r .2), r .2)
 
-pub never-lost : (s : List ℕ) (from least : ℕ) (tables : Tables) (index report : List ℕ) (c : Counted)
-    → huntingReading s from least tables index report .answer ≡ Read c → (k : ℕ) → k < c .summary .multiframes
-    → headerNoteIn (huntingReading s from least tables index report .report) k ≡ 3 → ⊥
-never-lost s from least tables index report c e k h z =
-    let x = success s from least tables index report c e in
-    let ps = G.all s from least tables index report .places in
+pub never-lost : (ch : Choices) (s : List ℕ) (from least : ℕ) (tables : Tables) (index report : List ℕ) (c : Counted)
+    → huntingReading ch s from least tables index report .answer ≡ Read c → (k : ℕ) → k < c .summary .multiframes
+    → headerNoteIn (huntingReading ch s from least tables index report .report) k ≡ 3 → ⊥
+never-lost ch s from least tables index report c e k h z =
+    let x = success ch s from least tables index report c e in
+    let ps = G.all ch s from least tables index report .places in
     let img = imageOf s ps in
     let y = x .as-01-says in
-    let w = A.was-read img tables index report [] (c .summary) (ap (λ (o : R.Outcome). o .answer) y) in
+    let w = A.was-read ch img tables index report [] (c .summary) (ap (λ (o : R.Outcome). o .answer) y) in
     let cut : cutting img .places ≡ rowOf (length ps) = ap (λ (v : Cutting). v .places) (image-cut s ps (x .few)) in
     let places = cutting img .places in
     let ns = receivedNotes img places tables in

@@ -1,6 +1,6 @@
 -- NAMES THE DAMAGE AT ANY BIT, said of the bits received: an accepted utterance stands at any bit, up to 16 - T bits are flipped in each sync, at
 -- most two in each header, and its packets are damaged as demand 3 says; no place before it and none behind it passes the test. Then, with demand 3's
--- premises (two multiframes or an untouched only header, one pair not bad), the hunting reader says of it all that demand 3 asks.
+-- premises (two multiframes, or an untouched only header where the caller asks for the old rule; one pair not bad), the hunting reader says of it all that demand 3 asks.
 -- Assumes nothing.
 use Prim.Native.Nat.{ℕ, _+_, _*_, _/_, _≤_, _<_}
 use mathlib.Core.Path.{_≡_, sym, ap, _∙_, subst}
@@ -12,6 +12,7 @@ use lib.Bits.{bitXor}
 use lib.Count.{ones}
 use lib.ListN.{length}
 use Rattle.layout.specs.Layout.{multiframePairs, multiframeOf, mostMultiframes}
+use Rattle.choices.specs.declared.Choices.{Choices}
 use Rattle.consistency.specs.Tables.{Tables}
 use Rattle.bits.specs.Bits.{bits}
 use Rattle.carrier.specs.Carrier.{streamPacket}
@@ -24,6 +25,7 @@ use Rattle.image.specs.Laws.{length-image}
 use Rattle.writer.specs.Laws.{few-multiframes}
 use Rattle.image.specs.Laws as I
 use Rattle.writer.specs.Utterance.{Utterance, multiframesOf, pairsOf, imageOf, is-accepted}
+use Rattle.demands.specs.Headers.{CanSettle}
 use Rattle.demands.specs.Damage.{Damage, headerFlips, header-read}
 use Rattle.demands.specs.Whole.{Lent}
 use Rattle.demands.specs.Received.{BadPair}
@@ -96,7 +98,7 @@ module _ (u : Utterance) (s : List ℕ) (from at least : ℕ) (c : Caught u s fr
       ap (λ (g : Gathering). g .places)
       (found-in-a-row (bits s) from at least m in-a-row (omega arith) (few-multiframes (u .settings) (u .indices) (is-accepted u .sizes)))
 
-module _ (u : Utterance) (s : List ℕ) (from at least : ℕ) (o : OnAir u s from at least) where
+module _ (ch : Choices) (u : Utterance) (s : List ℕ) (from at least : ℕ) (o : OnAir u s from at least) where
   abbrev caught : Caught u s from at least
   caught = o .caught
 
@@ -120,8 +122,8 @@ module _ (u : Utterance) (s : List ℕ) (from at least : ℕ) (o : OnAir u s fro
 
   module _ (tables : Tables) (index report : List ℕ) where
     pub record Premises : Type 0 where
-      -- "two multiframes or more, or an untouched only header"
-      pub settled : (2 ≤ multiframesOf u) ⊎ (receivedFlips u s at 0 ≡ 0)
+      -- "two multiframes or more, or an untouched only header" where the caller asks for the old rule (02, C-20)
+      pub settled : CanSettle ch (multiframesOf u) (receivedFlips u s at 0)
       -- "and one pair not bad"
       pub pair : ℕ
       pub within : pair < pairsOf u
@@ -129,11 +131,11 @@ module _ (u : Utterance) (s : List ℕ) (from at least : ℕ) (o : OnAir u s fro
       -- 01's tables and room
       pub lent : Lent (multiframesOf u) tables index report
 
-    of-radio : Premises → A.Premises u (together u s at) s from at least tables index report
+    of-radio : Premises → A.Premises ch u (together u s at) s from at least tables index report
     of-radio p = record {
       of-image = record {
         damage = on-air;
-        headers = ⊎-elim inl (λ e. inr (flips-there u s from at least caught 0 (omega arith) ∙ e)) (p .settled);
+        headers = ⊎-elim inl (λ e. inr (e .0, flips-there u s from at least caught 0 (omega arith) ∙ e .1)) (p .settled);
         pair = p .pair;
         within = p .within;
         not-bad = p .not-bad;
@@ -149,5 +151,5 @@ module _ (u : Utterance) (s : List ℕ) (from at least : ℕ) (o : OnAir u s fro
     }
 
     -- NAMES THE DAMAGE ON AIR
-    pub names-on-air : Premises → A.Named u (together u s at) s from at least tables index report
-    names-on-air p = A.names-at-any-bit u (together u s at) s from at least tables index report (of-radio p)
+    pub names-on-air : Premises → A.Named ch u (together u s at) s from at least tables index report
+    names-on-air p = A.names-at-any-bit ch u (together u s at) s from at least tables index report (of-radio p)

@@ -13,6 +13,7 @@ use borrow.Author.Tests.{le-leb, lt-leb}
 use Rattle.lists.specs.Tests.{both}
 use Rattle.lists.specs.Parts.{part, length-part}
 use Rattle.layout.specs.Layout.{headerOctets, streamOctets, multiframeOctets, mostMultiframes, codebookNumbers, thresholdNumbers, syncFirst, syncSecond}
+use Rattle.choices.specs.declared.Choices.{Choices}
 use Rattle.consistency.specs.Tables.{Tables, right-passes}
 use Rattle.bits.specs.Bits.{field, fields, value, bits, octets}
 use Rattle.bits.specs.Laws.{field-value, value-lt, bits-octets, octets-append}
@@ -164,26 +165,26 @@ module _ (l : List Bool) (from at least m : ℕ) (r : InARow l from at least m) 
           (ap₂ (λ (a b : ℕ). a ∷ row b n) z w ∙ ap (row at) e) c
 
 -- ---- the reading
-module _ (s : List ℕ) (from least : ℕ) (tables : Tables) (index report : List ℕ) (low : fewestMatches ≤ least) (high : least ≤ syncBits)
+module _ (ch : Choices) (s : List ℕ) (from least : ℕ) (tables : Tables) (index report : List ℕ) (low : fewestMatches ≤ least) (high : least ≤ syncBits)
     (codebook-size : length (tables .codebook) ≡ codebookNumbers) (thresholds-size : length (tables .thresholds) ≡ thresholdNumbers) where
   -- past 11 and 21 what is found decides
   found-next : (ps : List ℕ) (e : Ending) (n : ℕ) → gathering (bits s) least mostMultiframes from ≡ record { places = ps; ending = e; tested = n }
-      → huntingReading s from least tables index report ≡ readingBy s from least tables index report ps n e
+      → huntingReading ch s from least tables index report ≡ readingBy ch s from least tables index report ps n e
   unfolding huntingReading readingFound
   found-next ps e n g =
       rw (right-passes tables (codebook-size, thresholds-size), in-range least low high, g)
 
   -- READ IN A ROW: what is put together is read as 01 says, with the bits outside and the places tested
   pub reads-in-a-row : (at m : ℕ) → InARow (bits s) from at least m → 0 < m → m ≤ mostMultiframes
-      → huntingReading s from least tables index report
-      ≡ counted (R.reading (imageOf s (row at m)) tables index report) (outsideOf (bits s) from m) (testedInRow (bits s) from at m)
+      → huntingReading ch s from least tables index report
+      ≡ counted (R.reading ch (imageOf s (row at m)) tables index report) (outsideOf (bits s) from m) (testedInRow (bits s) from at m)
   reads-in-a-row at m r some few = found-next (row at m) whole (testedInRow (bits s) from at m) (found-in-a-row (bits s) from at least m r some few) ∙ by m some
     where
-      by : (n : ℕ) → 0 < n → readingBy s from least tables index report (row at n) (testedInRow (bits s) from at m) whole
-          ≡ counted (R.reading (imageOf s (row at n)) tables index report) (outsideOf (bits s) from n) (testedInRow (bits s) from at m)
+      by : (n : ℕ) → 0 < n → readingBy ch s from least tables index report (row at n) (testedInRow (bits s) from at m) whole
+          ≡ counted (R.reading ch (imageOf s (row at n)) tables index report) (outsideOf (bits s) from n) (testedInRow (bits s) from at m)
       by zero h = absurd (omega arith)
       by (suc n) h =
-          ap (λ (i : ℕ). counted (R.reading (imageOf s (row at (suc n))) tables index report) (outsideOf (bits s) from i) (testedInRow (bits s) from at m)) (length-row at (suc n))
+          ap (λ (i : ℕ). counted (R.reading ch (imageOf s (row at (suc n))) tables index report) (outsideOf (bits s) from i) (testedInRow (bits s) from at m)) (length-row at (suc n))
 
 -- ---- put together on octets
 pub aligned-framed : (s : List ℕ) (p : ℕ) → p + multiframeBits ≤ length (bits s) → aligned s p ≡ framed (wordAt (bits s) p) (streamAt (bits s) p)

@@ -6,6 +6,8 @@ use Prim.Native.Nat.{ℕ, _*_, _≤_}
 use native.Mathlib.Omega.{arith}
 use lib.ListN.{length, replicate, length-replicate}
 use Rattle.lists.specs.Rows.{joined}
+use Rattle.choices.specs.Choices.{oneHeaderSettles}
+use Rattle.choices.specs.declared.Choices.{Choices}
 use Rattle.consistency.specs.Tables.{Tables, zeroTables}
 use Rattle.layout.specs.Layout.{mostMultiframes, indexOctets, reportOctets}
 use Rattle.refusals.specs.declared.Reading.{Reading}
@@ -23,27 +25,27 @@ use Rattle.text.proofs.Steps.{put-on}
 use Rattle.lines.specs.Lines.{lineOf, total, refusal}
 use Rattle.listing.specs.Listing.{listed, readingOf, listing}
 
-module _ (octets : List ℕ) (tables : Tables) (index report : List ℕ) where
+module _ (ch : Choices) (octets : List ℕ) (tables : Tables) (index report : List ℕ) where
   -- a reading that succeeds has room in the report for each of its multiframes
-  pub read-fits : (s : Summary) (i r : List ℕ) → outcome (Read s) i r ≡ reading octets tables index report
+  pub read-fits : (s : Summary) (i r : List ℕ) → outcome (Read s) i r ≡ reading ch octets tables index report
       → reportOctets * s .multiframes ≤ length report
   unfolding reading
-  read-fits s i r e = go (verdict octets tables (length index) (length report)) refl e
+  read-fits s i r e = go (verdict ch octets tables (length index) (length report)) refl e
     where
-      go : (v : Verdict) → verdict octets tables (length index) (length report) ≡ v
+      go : (v : Verdict) → verdict ch octets tables (length index) (length report) ≡ v
           → outcome (Read s) i r ≡ finished octets tables index report (cutting octets .places) v → reportOctets * s .multiframes ≤ length report
       go (Refuse x) ev eo = let y : _≡_ {A = Answer} (Read s) (Refused x) = ap (λ (o : Outcome). o .answer) eo in let z : _≡_ {A = ℕ} 0 1 = cc in absurd (omega arith)
       go (Accept c) ev eo =
           let y : Read s ≡ Read (summary octets (cutting octets .places) (receivedNotes octets (cutting octets .places) tables) c)
           = ap (λ (o : Outcome). o .answer) eo in
           let w : s ≡ summary octets (cutting octets .places) (receivedNotes octets (cutting octets .places) tables) c = cc in
-          let f = accepted octets tables (length index) (length report) c ev .fitting in
+          let f = accepted ch octets tables (length index) (length report) c ev .fitting in
           rw (ap (λ (q : Summary). q .multiframes) w) (f .roomy .report-room)
 
 -- the report's octets of every multiframe lie in the report that is lent
 pub lines-fit : (octets i r : List ℕ) (x : Answer) (s : Summary) → outcome x i r ≡ readingOf octets → x ≡ Read s → s .multiframes ≤ mostMultiframes
 lines-fit octets i r x s e ex =
-    let f = read-fits octets zeroTables (replicate (indexOctets * mostMultiframes) 0)
+    let f = read-fits oneHeaderSettles octets zeroTables (replicate (indexOctets * mostMultiframes) 0)
     (replicate (reportOctets * mostMultiframes) 0) s i r (ap (λ (y : Answer). outcome y i r) (sym ex) ∙ e) in
     omega (arith, f, length-replicate {A = ℕ} (reportOctets * mostMultiframes) 0)
 

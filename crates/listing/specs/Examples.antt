@@ -14,6 +14,7 @@ use Rattle.reader.specs.Steps.{whole-reading}
 use Rattle.reader.specs.declared.Answer.the-variants.{Refused}
 use Rattle.lines.specs.Examples.{empty-refused}
 use Rattle.listing.specs.Listing.{listed, listing}
+use Rattle.choices.specs.Choices.{oneHeaderSettles}
 use Rattle.consistency.specs.Tables.{zeroTables, right-passes}
 
 -- "refused 14 0"
@@ -23,6 +24,6 @@ empty-listed =
     let index : List ℕ = replicate (indexOctets * mostMultiframes) 0 in
     let report : List ℕ = replicate (reportOctets * mostMultiframes) 0 in
     ap (λ (o : Outcome). listed (o .report) (o .answer))
-    (sym (whole-reading [] zeroTables index report (right-passes zeroTables (length-replicate {A = ℤ} codebookNumbers (pos 0), length-replicate {A = ℤ} thresholdNumbers (pos 0)))
+    (sym (whole-reading oneHeaderSettles [] zeroTables index report (right-passes zeroTables (length-replicate {A = ℤ} codebookNumbers (pos 0), length-replicate {A = ℤ} thresholdNumbers (pos 0)))
     (outcome (Refused (Empty 0)) index report) [] refl refl refl))
     ∙ empty-refused

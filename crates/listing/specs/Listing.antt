@@ -5,6 +5,7 @@ use mathlib.Core.List.{List, _++_}
 use lib.ListN.{replicate}
 use Rattle.lists.specs.Rows.{joined}
 use Rattle.layout.specs.Layout.{mostMultiframes, indexOctets, reportOctets}
+use Rattle.choices.specs.Choices.{oneHeaderSettles}
 use Rattle.consistency.specs.Tables.{zeroTables}
 use Rattle.reader.specs.Reading.{Outcome, reading}
 use Rattle.reader.specs.declared.Answer.{Answer}
@@ -16,9 +17,10 @@ abbrev pub listed : List ℕ → Answer → List ℕ
 listed report (Read s) = joined (lineOf report) (s .multiframes) ++ total s
 listed report (Refused r) = refusal r
 
--- the reading that is listed: with tables of zeros, and room for every utterance
+-- the reading that is listed: by the old rule, for which "`dsrlist` [..] ask[s] by name" (02, C-20), with tables of zeros, and room for every
+-- utterance
 abbrev pub readingOf : List ℕ → Outcome
-readingOf octets = reading octets zeroTables (replicate (indexOctets * mostMultiframes) 0) (replicate (reportOctets * mostMultiframes) 0)
+readingOf octets = reading oneHeaderSettles octets zeroTables (replicate (indexOctets * mostMultiframes) 0) (replicate (reportOctets * mostMultiframes) 0)
 
 -- THE LISTING of octets
 unfoldable pub listing : List ℕ → List ℕ

@@ -4,6 +4,7 @@
 use mathlib.Core.Path.{_≡_, refl, sym, ap, ap₂, _∙_, subst}
 use mathlib.Core.Bool.{true, false, xor}
 use mathlib.Core.List.{List, [], _∷_, _++_}
+use mathlib.Core.Logic.{inl, inr}
 use Prim.Native.Nat.{ℕ, _+_, _-_, _*_, _^_, _<_}
 use native.Mathlib.Decide.{decLt}
 use native.Mathlib.Omega.{arith}
@@ -14,6 +15,8 @@ use Rattle.lists.specs.Tests.{all, all-holds}
 use Rattle.lists.specs.Parts.{part}
 use Rattle.lists.specs.Rows.{joined}
 use Rattle.layout.specs.Layout.{widths, streamOctets, firstPair, multiframePairs}
+use Rattle.choices.specs.Choices.{oneHeaderSettles}
+use Rattle.choices.specs.declared.Choices.{Choices}
 use Rattle.consistency.specs.Tables.{Tables, tablesOf, zeroTables}
 use Rattle.settings.specs.Settings.{settings}
 use Rattle.frames.specs.Frames.{zeroFrame as isZeroFrame}
@@ -76,11 +79,11 @@ saidSecond =
     0x87 ∷ 0xB2 ∷ 0x17 ∷ 0x00 ∷ 0x18 ∷ 0x18 ∷ 0x19 ∷ 0x3C ∷ 0x00 ∷ 0xE7 ∷ 0x7F ∷ 0x0E ∷ 0x00 ∷ 0x00 ∷ 0x00 ∷ 0x00 ∷ 0x00 ∷ 0x0E ∷ replicate 126 0
 
 -- 01's own input, the image of one frame; 25 frames in two multiframes
-pub record Table : Type 0 where
+pub record Table (ch : Choices) : Type 0 where
   -- "Input 87 B2 08 00 0E EE 01, ten 00, 04, 126 times 00": the frame 1,0,0,0,0,0,0 at 8 kHz, type 0, is written so; "octets beyond that stay"
   pub one-written : writing (settings 0 0) (1 ∷ 0 ∷ 0 ∷ 0 ∷ 0 ∷ 0 ∷ 0 ∷ []) (lent 146) ≡ outcome (Written 144) (dsrlistInput ++ lent 2)
   -- "gives: 0 000000000000, rate 0 type 0 multiframes 1 speech 1 bad 0 end 1", "with all codebook numbers and thresholds 0"
-  pub one-read : reading dsrlistInput (tablesOf (replicate 1280 (pos 0)) (replicate 14 (pos 0))) (lent 170) (lent 15)
+  pub one-read : reading oneHeaderSettles dsrlistInput (tablesOf (replicate 1280 (pos 0)) (replicate 14 (pos 0))) (lent 170) (lent 15)
       ≡ R.outcome (Read (record { settings = settings 0 0; multiframes = 1; speech = 1; bad = 0; end = 1 })) (1 ∷ (replicate 167 0 ++ lent 2)) (replicate 13 0 ++ lent 2)
   -- "Header 8 kHz, type 0, count 1: 08 00 0E EE. Count 2: 10 00 1D 0D. Count 3: 18 00 13 E3.": octets 2 to 5 of the first three multiframes
   pub header-1 : (idx : List ℕ) (m : ℕ) → 0 < m → part 2 4 (image (settings 0 0) idx m) ≡ 0x08 ∷ 0x00 ∷ 0x0E ∷ 0xEE ∷ []
@@ -100,7 +103,7 @@ pub record Table : Type 0 where
   pub two-written : writing (settings 3 1) said (lent 290) ≡ outcome (Written 288) (saidFirst ++ (saidSecond ++ lent 2))
   -- and they are read back, with any tables
   pub two-read : (tables : Tables) → length (tables .codebook) ≡ 1280 → length (tables .thresholds) ≡ 14
-      → reading (saidFirst ++ saidSecond) tables (lent 338) (lent 28)
+      → reading ch (saidFirst ++ saidSecond) tables (lent 338) (lent 28)
       ≡ R.outcome (Read (record { settings = settings 3 1; multiframes = 2; speech = 25; bad = 0; end = 1 })) (said ++ (replicate 161 0 ++ lent 2)) (replicate 26 0 ++ lent 2)
 
 -- ---- the streams, computed
@@ -162,12 +165,12 @@ bit-in : getD (bits dsrlistInput) (48 + 90) false ≡ true
 unfolding fields field
 bit-in = refl
 
-pub table : Table
+pub table : (ch : Choices) → Table ch
 unfolding says25
-table = record {
+table ch = record {
   one-written = writes says1 (lent 146) (lit≤ tt) ∙ ap (λ (i : List ℕ). outcome (Written 144) (i ++ lent 2)) one-image;
-  one-read = ap (λ (i : List ℕ). reading i zeroTables (lent 170) (lent 15)) (sym one-image)
-      ∙ reads-image says1 zeroTables (lent 170) (lent 15) (record { codebook-size = refl; thresholds-size = refl; index-room = lit≤ tt; report-room = lit≤ tt });
+  one-read = ap (λ (i : List ℕ). reading oneHeaderSettles i zeroTables (lent 170) (lent 15)) (sym one-image)
+      ∙ reads-image oneHeaderSettles says1 (inr refl) zeroTables (lent 170) (lent 15) (record { codebook-size = refl; thresholds-size = refl; index-room = lit≤ tt; report-room = lit≤ tt });
   header-1 = λ idx m h. header-in idx m 0 h ∙ E.table .header-count-1;
   header-2 = λ idx m h. header-in idx m 1 h ∙ E.table .header-count-2;
   header-3 = λ idx m h. header-in idx m 2 h ∙ E.table .header-count-3;
@@ -179,6 +182,6 @@ table = record {
   octet-17 = ap (λ (i : List ℕ). getD i 17 0) one-image;
   two-written = writes says25 (lent 290) (lit≤ tt) ∙ ap (λ (i : List ℕ). outcome (Written 288) (i ++ lent 2)) said-image;
   two-read = λ tables hc ht.
-      ap (λ (i : List ℕ). reading i tables (lent 338) (lent 28)) (sym said-image)
-      ∙ reads-image says25 tables (lent 338) (lent 28) (record { codebook-size = hc; thresholds-size = ht; index-room = lit≤ tt; report-room = lit≤ tt });
+      ap (λ (i : List ℕ). reading ch i tables (lent 338) (lent 28)) (sym said-image)
+      ∙ reads-image ch says25 (inl (lit≤ tt)) tables (lent 338) (lent 28) (record { codebook-size = hc; thresholds-size = ht; index-room = lit≤ tt; report-room = lit≤ tt });
 }

@@ -16,6 +16,7 @@ use Rattle.lists.specs.Tests.{when}
 use Rattle.lists.specs.Parts.{part, over}
 use Rattle.lists.specs.Rows.{joined, each, each-at, same-each}
 use Rattle.layout.specs.Layout.{indexOctets, reportOctets, firstPair, multiframePairs}
+use Rattle.choices.specs.declared.Choices.{Choices}
 use Rattle.consistency.specs.Tables.{Tables, tablesOf, zeroTables}
 use Rattle.settings.specs.Settings.{settings}
 use Rattle.frames.specs.Frames.{zeroFrame}
@@ -143,12 +144,12 @@ abbrev pub strangeNotes : List ℕ
 strangeNotes = noted 0 ++ (noted 4 ++ (noted 3 ++ (noted 8 ++ noted 14)))
 
 -- ---- what a line says: what is read, into any buffers with room
-abbrev pub Lists : List ℕ → Tables → List ℕ → List ℕ → List ℕ → Type 0
-Lists octets tables values frames notes =
-    (index report : List ℕ) → length frames ≤ length index → length notes ≤ length report → Reads octets tables index report values frames notes
+abbrev pub Lists : (ch : Choices) → List ℕ → Tables → List ℕ → List ℕ → List ℕ → Type 0
+Lists ch octets tables values frames notes =
+    (index report : List ℕ) → length frames ≤ length index → length notes ≤ length report → Reads ch octets tables index report values frames notes
 
 -- the values are rate, type, multiframes, speech, bad and end
-pub record Table : Type 0 where
+pub record Table (ch : Choices) : Type 0 where
   -- Header notes "0 clean, 1 or 2 flips mended": 0 and 1.
   -- "A pair is bad if its CRC fails": 0, 5, 12 and 23 (from 0).
   -- "An inconsistent pair is bad too if either the next pair's CRC fails": 11, in the multiframe before; "or the pair before it is bad": 1 and 13.
@@ -157,13 +158,13 @@ pub record Table : Type 0 where
   -- "In a run of B bad pairs the first B frames become the good frame before the run, the last B the good frame after it": 11 becomes 10 and 12
   -- becomes 13; 23 to 25 become 22 and 26 to 28 become 29. "At the start of an utterance all 2B take the frame after": 1 to 4 become 5; "at the end, the
   -- one before": 47 and 48 become 46, which is zero. So speech is 30 and end 1 "after replacing" only
-  pub bad-pairs : Lists hurt steep (0 ∷ 0 ∷ 2 ∷ 30 ∷ 7 ∷ 1 ∷ []) standing hurtNotes
+  pub bad-pairs : Lists ch hurt steep (0 ∷ 0 ∷ 2 ∷ 30 ∷ 7 ∷ 1 ∷ []) standing hurtNotes
   -- "with all codebook numbers and thresholds 0", as dsrlist lists them, no pair is inconsistent: 1 and 2 become 3; 25 becomes 24 and 26 becomes 27
-  pub bad-by-crc : Lists hurt (tablesOf (replicate 1280 (pos 0)) (replicate 14 (pos 0))) (0 ∷ 0 ∷ 2 ∷ 30 ∷ 4 ∷ 1 ∷ []) standingPlain plainNotes
+  pub bad-by-crc : Lists ch hurt (tablesOf (replicate 1280 (pos 0)) (replicate 14 (pos 0))) (0 ∷ 0 ∷ 2 ∷ 30 ∷ 4 ∷ 1 ∷ []) standingPlain plainNotes
   -- "3 lost; a readable one adds 4 if its counter is not (position from 1) mod 16, and 8 if its common bits differ from the settled": settled is
   -- "the first readable header that agrees in them with an earlier readable one", the second, and not what the last two agree in
   pub header-notes : (tables : Tables) → length (tables .codebook) ≡ 1280 → length (tables .thresholds) ≡ 14
-      → Lists strange tables (0 ∷ 0 ∷ 5 ∷ 96 ∷ 0 ∷ 1 ∷ []) (replicate 840 0) strangeNotes
+      → Lists ch strange tables (0 ∷ 0 ∷ 5 ∷ 96 ∷ 0 ∷ 1 ∷ []) (replicate 840 0) strangeNotes
 
 -- ---- from what was computed to a line
 -- the settled settings of both
@@ -176,32 +177,32 @@ is-usable = record {
   exp = common-exp (message (settings 0 0) 0 0) ∙ exp-back (settings 0 0) 0 0;
 }
 
-module _ (s ps : List ℕ) (cut : cutting s ≡ record { places = ps; ending = whole }) (some : length ps ≡ 0 → ⊥) (settles : settling (readings s ps) ≡ S.Settled settled)
+module _ (ch : Choices) (s ps : List ℕ) (cut : cutting s ≡ record { places = ps; ending = whole }) (some : length ps ≡ 0 → ⊥) (settles : settling ch (readings s ps) ≡ S.Settled settled)
     (tables : Tables) (sc : length (tables .codebook) ≡ 1280) (st : length (tables .thresholds) ≡ 14) (ns : List ℕ) (judged : receivedNotes s ps tables ≡ ns)
     (good : badPairs ns ≡ pairCount ps → ⊥) (index report : List ℕ) (hi : indexOctets * length ps ≤ length index) (hr : reportOctets * length ps ≤ length report) where
-  is-read : reading s tables index report
+  is-read : reading ch s tables index report
       ≡ outcome (Read (summary s ps ns settled)) (over index 0 (indexOctets * length ps) (indexPart s ps ns)) (over report 0 (reportOctets * length ps) (reportPart s ps ns settled))
   unfolding reading
   is-read =
       let pl : cutting s .places ≡ ps = ap (λ (w : Cutting). w .places) cut in
-      let fit : Fitting (length ps) (badPairs (receivedNotes s ps tables)) (pairCount ps) (length index) (length report) (settling (readings s ps)) settled =
+      let fit : Fitting (length ps) (badPairs (receivedNotes s ps tables)) (pairCount ps) (length index) (length report) (settling ch (readings s ps)) settled =
       record {
         settles = settles;
         usable = is-usable;
         roomy = record { index-room = hi; report-room = hr; not-all = λ e. good (ap badPairs (sym judged) ∙ e) };
       } in
-      let a : Accepted s tables (length index) (length report) settled =
+      let a : Accepted ch s tables (length index) (length report) settled =
       record {
         codebook-size = sc;
         thresholds-size = st;
         uncut = ap (λ (w : Cutting). w .ending) cut;
         some = λ e. some (ap length (sym pl) ∙ e);
         fitting = subst
-            (λ (q : List ℕ). Fitting (length q) (badPairs (receivedNotes s q tables)) (pairCount q) (length index) (length report) (settling (readings s q)) settled)
+            (λ (q : List ℕ). Fitting (length q) (badPairs (receivedNotes s q tables)) (pairCount q) (length index) (length report) (settling ch (readings s q)) settled)
             (sym pl) fit;
       } in
       ap₂ (λ (q : List ℕ) (v : Verdict). finished s tables index report q v) pl
-      (accepting s tables (length index) (length report) settled a)
+      (accepting ch s tables (length index) (length report) settled a)
       ∙ ap
       (λ (n : List ℕ).
       outcome (Read (summary s ps n settled)) (over index 0 (indexOctets * length ps) (indexPart s ps n)) (over report 0 (reportOctets * length ps) (reportPart s ps n settled)))
@@ -209,7 +210,7 @@ module _ (s ps : List ℕ) (cut : cutting s ≡ record { places = ps; ending = w
 
   module _ (frames noted : List ℕ) (put : indexPart s ps ns ≡ frames) (says : reportPart s ps ns settled ≡ noted) (lf : length frames ≡ indexOctets * length ps)
       (ln : length noted ≡ reportOctets * length ps) where
-    listed : Reads s tables index report (0 ∷ 0 ∷ length ps ∷ speechOf (length ps) frames ∷ badPairs ns ∷ endOf (length ps) frames ∷ []) frames noted
+    listed : Reads ch s tables index report (0 ∷ 0 ∷ length ps ∷ speechOf (length ps) frames ∷ badPairs ns ∷ endOf (length ps) frames ∷ []) frames noted
     listed =
         let x : 0 + 168 * length ps ≡ length frames = omega arith in
         let y : 0 + 13 * length ps ≡ length noted = omega arith in
@@ -323,10 +324,10 @@ heads-hurt : readings hurt places ≡ hurtHeads
 unfolding readings value fields field
 heads-hurt = ap₂ (λ (g h : Header). g ∷ h ∷ []) (read-1 .0) (read-2 .0)
 
-settles-hurt : settling (readings hurt places) ≡ S.Settled settled
-settles-hurt =
-    ap settling heads-hurt
-    ∙ all-agree hurtHeads settled (omega arith) (common-message (settings 0 0) 1 0, (common-message (settings 0 0) 2 0, tt))
+settles-hurt : (ch : Choices) → settling ch (readings hurt places) ≡ S.Settled settled
+settles-hurt ch =
+    ap (settling ch) heads-hurt
+    ∙ all-agree ch hurtHeads settled (omega arith) (common-message (settings 0 0) 1 0, (common-message (settings 0 0) 2 0, tt))
 
 says-hurt : (ns : List ℕ) → reportPart hurt places ns settled ≡ (0 ∷ part 0 12 ns) ++ (1 ∷ part 12 12 ns)
 unfolding reportPart
@@ -334,16 +335,16 @@ says-hurt ns =
     ap (λ (hs : List Header). joined (λ k. headerNote settled k (getD hs k Lost) ∷ part (firstPair k) multiframePairs ns) 2) heads-hurt
     ∙ rw (note-same 0xEE0E0008 1 0 0 read-1, note-same 0x8D1D0010 2 1 1 read-2)
 
-hurt-listed : Lists hurt steep (0 ∷ 0 ∷ 2 ∷ 30 ∷ 7 ∷ 1 ∷ []) standing hurtNotes
+hurt-listed : (ch : Choices) → Lists ch hurt steep (0 ∷ 0 ∷ 2 ∷ 30 ∷ 7 ∷ 1 ∷ []) standing hurtNotes
 unfolding lastNonzero zeroFrame
-hurt-listed index report hi hr =
-    listed hurt places cut-hurt (λ e. omega arith) settles-hurt steep refl refl (pairsIn hurtNotes) judged-hurt (λ e. omega arith) index report hi hr standing hurtNotes
+hurt-listed ch index report hi hr =
+    listed ch hurt places cut-hurt (λ e. omega arith) (settles-hurt ch) steep refl refl (pairsIn hurtNotes) judged-hurt (λ e. omega arith) index report hi hr standing hurtNotes
     (ap (replaced (pairsIn hurtNotes)) frames-hurt ∙ put-hurt) (says-hurt (pairsIn hurtNotes)) refl refl
 
-plain-listed : Lists hurt zeroTables (0 ∷ 0 ∷ 2 ∷ 30 ∷ 4 ∷ 1 ∷ []) standingPlain plainNotes
+plain-listed : (ch : Choices) → Lists ch hurt zeroTables (0 ∷ 0 ∷ 2 ∷ 30 ∷ 4 ∷ 1 ∷ []) standingPlain plainNotes
 unfolding lastNonzero zeroFrame
-plain-listed index report hi hr =
-    listed hurt places cut-hurt (λ e. omega arith) settles-hurt zeroTables refl refl (pairsIn plainNotes) judged-plain (λ e. omega arith) index report hi hr standingPlain
+plain-listed ch index report hi hr =
+    listed ch hurt places cut-hurt (λ e. omega arith) (settles-hurt ch) zeroTables refl refl (pairsIn plainNotes) judged-plain (λ e. omega arith) index report hi hr standingPlain
     plainNotes (ap (replaced (pairsIn plainNotes)) frames-hurt ∙ put-plain) (says-hurt (pairsIn plainNotes)) refl refl
 
 -- ---- the second, computed
@@ -386,10 +387,10 @@ heads-strange =
     ap₂ (λ (a b : Header). a ∷ a ∷ b ∷ H.reading 0xCB3B0021 ∷ H.reading 0x3F0F4001 ∷ []) (read-1 .0) read-lost
     ∙ ap₂ (λ (a b : Header). first ∷ first ∷ Lost ∷ a ∷ b ∷ []) (read-4 .0) (read-5 .0)
 
-settles-strange : settling (readings strange row) ≡ S.Settled settled
+settles-strange : (ch : Choices) → settling ch (readings strange row) ≡ S.Settled settled
 unfolding settling firstAgreeing
-settles-strange =
-    ap settling heads-strange
+settles-strange ch =
+    ap (settling ch) heads-strange
     ∙ rw (eq-eqb (commonBits (message (settings 0 0) 1 0)) (commonBits (message (settings 0 0) 1 0)) refl) (ap S.Settled (common-message (settings 0 0) 1 0))
 
 says-strange : reportPart strange row (replicate 60 0) settled ≡ strangeNotes
@@ -404,12 +405,12 @@ says-strange =
       note-other 0x3F0F4001 1 2 4 read-5,
     )
 
-strange-listed : (tables : Tables) → length (tables .codebook) ≡ 1280 → length (tables .thresholds) ≡ 14
-    → Lists strange tables (0 ∷ 0 ∷ 5 ∷ 96 ∷ 0 ∷ 1 ∷ []) (replicate 840 0) strangeNotes
+strange-listed : (ch : Choices) (tables : Tables) → length (tables .codebook) ≡ 1280 → length (tables .thresholds) ≡ 14
+    → Lists ch strange tables (0 ∷ 0 ∷ 5 ∷ 96 ∷ 0 ∷ 1 ∷ []) (replicate 840 0) strangeNotes
 unfolding lastNonzero zeroFrame
-strange-listed tables sc st index report hi hr =
-    listed strange row cut-strange (λ e. omega arith) settles-strange tables sc st (replicate 60 0) (judged-strange tables) (λ e. omega arith) index report
+strange-listed ch tables sc st index report hi hr =
+    listed ch strange row cut-strange (λ e. omega arith) (settles-strange ch) tables sc st (replicate 60 0) (judged-strange tables) (λ e. omega arith) index report
     hi hr (replicate 840 0) strangeNotes (ap (replaced (replicate 60 0)) frames-strange ∙ put-strange) says-strange refl refl
 
-pub table : Table
-table = record { bad-pairs = hurt-listed; bad-by-crc = plain-listed; header-notes = strange-listed }
+pub table : (ch : Choices) → Table ch
+table ch = record { bad-pairs = hurt-listed ch; bad-by-crc = plain-listed ch; header-notes = strange-listed ch }

@@ -5,6 +5,7 @@
 use mathlib.Core.Path.{_≡_, refl, sym, ap, ap₂, _∙_, subst}
 use mathlib.Core.Bool.{Bool, true, xor}
 use mathlib.Core.List.{List, [], _∷_, _++_}
+use mathlib.Core.Logic.{inr}
 use Prim.Native.Nat.{ℕ, zero, suc, _+_, _*_, _≤_, _<_}
 use native.Mathlib.Omega.{arith}
 use lib.Count.{ones, onesIn}
@@ -16,6 +17,8 @@ use Rattle.polynomials.specs.Light.{ones-in}
 use Rattle.lists.specs.Parts.{part}
 use Rattle.lists.specs.Rows.{joined, each, length-each, each-at, same-each, length-joined, joined-part}
 use Rattle.layout.specs.Layout.{multiframeOctets, mostMultiframes, indexOctets, reportOctets, syncFirst, syncSecond}
+use Rattle.choices.specs.Choices.{byDefault, oneHeaderSettles}
+use Rattle.choices.specs.declared.Choices.{Choices}
 use Rattle.consistency.specs.Tables.{Tables, right-passes, wrong-fails}
 use Rattle.settings.specs.Settings.{settings}
 use Rattle.frames.specs.Frames.{zeroFrame}
@@ -33,7 +36,7 @@ use Rattle.cutting.specs.Cutting.{syncMet, lastMet, pieceBy, pieceOf, Ending, w
 use Rattle.cutting.specs.declared.Piece.the-variants.{Multiframe}
 use Rattle.cutting.specs.Laws.{multiframe-met, at-place, every-length}
 use Rattle.settling.specs.Settling.{readings, firstAgreeing, onlyOne, settling}
-use Rattle.settling.specs.Laws.{only-clean, only-mended, all-agree}
+use Rattle.settling.specs.Laws.{length-readings, neither, one-default, only-clean, only-mended, all-agree}
 use Rattle.carrier.specs.Carrier.{received, pairCount}
 use Rattle.settling.specs.declared.Settlement.{Settlement}
 use Rattle.settling.specs.declared.Settlement.the-variants as S
@@ -60,39 +63,39 @@ use Rattle.page.specs.Images.{spokenBehind, spoken-image}
 
 -- ---- what a line of the table says
 -- the reading is refused with this number and this place, which `readingNumber` and `readingPlace` give of its refusal, and both buffers are as they came
-pub record Refuses (octets : List ℕ) (tables : Tables) (index report : List ℕ) (number place : ℕ) : Type 0 where
-  pub number-is : answerNumber (reading octets tables index report .answer) ≡ number
-  pub place-is : answerValues (reading octets tables index report .answer) ≡ place ∷ []
-  pub index-stays : reading octets tables index report .index ≡ index
-  pub report-stays : reading octets tables index report .report ≡ report
+pub record Refuses (ch : Choices) (octets : List ℕ) (tables : Tables) (index report : List ℕ) (number place : ℕ) : Type 0 where
+  pub number-is : answerNumber (reading ch octets tables index report .answer) ≡ number
+  pub place-is : answerValues (reading ch octets tables index report .answer) ≡ place ∷ []
+  pub index-stays : reading ch octets tables index report .index ≡ index
+  pub report-stays : reading ch octets tables index report .report ≡ report
 
 -- of a codebook of c numbers and t thresholds, whatever they are, and any buffers
-abbrev pub Tabled : List ℕ → ℕ → ℕ → ℕ → ℕ → Type 0
-Tabled octets c t number place =
-    (tables : Tables) → length (tables .codebook) ≡ c → length (tables .thresholds) ≡ t → (index report : List ℕ) → Refuses octets tables index report number place
+abbrev pub Tabled : (ch : Choices) → List ℕ → ℕ → ℕ → ℕ → ℕ → Type 0
+Tabled ch octets c t number place =
+    (tables : Tables) → length (tables .codebook) ≡ c → length (tables .thresholds) ≡ t → (index report : List ℕ) → Refuses ch octets tables index report number place
 
 -- of 01's tables and any buffers
-abbrev pub Always : List ℕ → ℕ → ℕ → Type 0
-Always octets number place = Tabled octets 1280 14 number place
+abbrev pub Always : (ch : Choices) → List ℕ → ℕ → ℕ → Type 0
+Always ch octets number place = Tabled ch octets 1280 14 number place
 
 -- of 01's tables and buffers of i and r octets, whatever they hold
-abbrev pub Sized : List ℕ → ℕ → ℕ → ℕ → ℕ → Type 0
-Sized octets i r number place =
+abbrev pub Sized : (ch : Choices) → List ℕ → ℕ → ℕ → ℕ → ℕ → Type 0
+Sized ch octets i r number place =
     (tables : Tables) → length (tables .codebook) ≡ 1280 → length (tables .thresholds) ≡ 14 → (index report : List ℕ) → length index ≡ i → length report ≡ r
-    → Refuses octets tables index report number place
+    → Refuses ch octets tables index report number place
 
 -- the reading succeeds, with these values; frames and notes stand at the buffers' fronts, and octets beyond are as they came
-pub record Reads (octets : List ℕ) (tables : Tables) (index report values frames notes : List ℕ) : Type 0 where
-  pub number-is : answerNumber (reading octets tables index report .answer) ≡ 0
-  pub values-are : answerValues (reading octets tables index report .answer) ≡ values
-  pub index-is : reading octets tables index report .index ≡ frames ++ drop (length frames) index
-  pub report-is : reading octets tables index report .report ≡ notes ++ drop (length notes) report
+pub record Reads (ch : Choices) (octets : List ℕ) (tables : Tables) (index report values frames notes : List ℕ) : Type 0 where
+  pub number-is : answerNumber (reading ch octets tables index report .answer) ≡ 0
+  pub values-are : answerValues (reading ch octets tables index report .answer) ≡ values
+  pub index-is : reading ch octets tables index report .index ≡ frames ++ drop (length frames) index
+  pub report-is : reading ch octets tables index report .report ≡ notes ++ drop (length notes) report
 
 -- with 01's tables and room
-abbrev pub Succeeds : List ℕ → List ℕ → List ℕ → List ℕ → Type 0
-Succeeds octets values frames notes =
+abbrev pub Succeeds : (ch : Choices) → List ℕ → List ℕ → List ℕ → List ℕ → Type 0
+Succeeds ch octets values frames notes =
     (tables : Tables) → length (tables .codebook) ≡ 1280 → length (tables .thresholds) ≡ 14 → (index report : List ℕ) → length frames ≤ length index
-    → length notes ≤ length report → Reads octets tables index report values frames notes
+    → length notes ≤ length report → Reads ch octets tables index report values frames notes
 
 -- ---- the octets
 -- a whole multiframe: sync, header, and a stream of zeros
@@ -138,76 +141,91 @@ unfoldable pub again : ℕ → List ℕ → List ℕ
 again n f = joined (λ k. f) n
 
 -- ---- the table
-pub record Table : Type 0 where
+pub record Table (ch : Choices) : Type 0 where
   -- 11, "codebook not 1,280 or thresholds not 14", 0. "11 comes first": whatever the octets and the buffers
-  pub codebook-1279 : (s : List ℕ) → Tabled s 1279 14 11 0
-  pub codebook-1281 : (s : List ℕ) → Tabled s 1281 14 11 0
-  pub thresholds-13 : (s : List ℕ) → Tabled s 1280 13 11 0
-  pub thresholds-15 : (s : List ℕ) → Tabled s 1280 15 11 0
+  pub codebook-1279 : (s : List ℕ) → Tabled ch s 1279 14 11 0
+  pub codebook-1281 : (s : List ℕ) → Tabled ch s 1281 14 11 0
+  pub thresholds-13 : (s : List ℕ) → Tabled ch s 1280 13 11 0
+  pub thresholds-15 : (s : List ℕ) → Tabled ch s 1280 15 11 0
   -- 12, "octets at p begin nothing known", p: at the front, a half sync, a half inverse sync, behind an inverse sync, behind a multiframe
-  pub unknown-at-0 : Always (0x00 ∷ []) 12 0
-  pub half-sync : Always (0x87 ∷ 0x00 ∷ []) 12 0
-  pub half-inverse : Always (0x78 ∷ 0x00 ∷ []) 12 0
-  pub unknown-at-2 : Always (0x78 ∷ 0x4D ∷ 0x00 ∷ []) 12 2
-  pub unknown-at-144 : Always (one ++ (0x00 ∷ [])) 12 144
+  pub unknown-at-0 : Always ch (0x00 ∷ []) 12 0
+  pub half-sync : Always ch (0x87 ∷ 0x00 ∷ []) 12 0
+  pub half-inverse : Always ch (0x78 ∷ 0x00 ∷ []) 12 0
+  pub unknown-at-2 : Always ch (0x78 ∷ 0x4D ∷ 0x00 ∷ []) 12 2
+  pub unknown-at-144 : Always ch (one ++ (0x00 ∷ [])) 12 144
   -- 13, "sync with too few octets, or a lone last 87 or 78", p. "Received 143 octets that open with a sync: 13."
-  pub octets-143 : Always (0x87 ∷ 0xB2 ∷ replicate 141 0x00) 13 0
-  pub lone-87 : Always (0x87 ∷ []) 13 0
-  pub lone-78-at-2 : Always (0x78 ∷ 0x4D ∷ 0x78 ∷ []) 13 2
-  pub cut-at-144 : Always (one ++ (0x87 ∷ 0xB2 ∷ [])) 13 144
+  pub octets-143 : Always ch (0x87 ∷ 0xB2 ∷ replicate 141 0x00) 13 0
+  pub lone-87 : Always ch (0x87 ∷ []) 13 0
+  pub lone-78-at-2 : Always ch (0x78 ∷ 0x4D ∷ 0x78 ∷ []) 13 2
+  pub cut-at-144 : Always ch (one ++ (0x87 ∷ 0xB2 ∷ [])) 13 144
   -- 14, "no multiframe", octet count. "Nothing: 14, place 0."
-  pub nothing : Always [] 14 0
-  pub only-inverse : Always (0x78 ∷ 0x4D ∷ 0x78 ∷ 0x4D ∷ []) 14 4
+  pub nothing : Always ch [] 14 0
+  pub only-inverse : Always ch (0x78 ∷ 0x4D ∷ 0x78 ∷ 0x4D ∷ []) 14 4
   -- 15, "a sync after 255 multiframes, even a cut one", p
-  pub multiframe-256 : Always (again 255 one ++ one) 15 36720
-  pub cut-256 : Always (again 255 one ++ (0x87 ∷ 0xB2 ∷ [])) 15 36720
+  pub multiframe-256 : Always ch (again 255 one ++ one) 15 36720
+  pub cut-256 : Always ch (again 255 one ++ (0x87 ∷ 0xB2 ∷ [])) 15 36720
   -- 16, "settings not settled", 0: of an only header with one flip
-  pub one-flip : Always (headed flipped) 16 0
-  -- 17, "settled rate is 2 or any EXP is 1", 0
-  pub settled-rate-2 : Always (headed rate2) 17 0
-  pub settled-exp-9 : Always (headed exp9) 17 0
+  pub one-flip : Always ch (headed flipped) 16 0
+  -- and by default of any only header, a codeword too: "By default an only multiframe is now refused as unsettled" (02, C-20)
+  pub one-by-default : Always byDefault one 16 0
+  pub lost-by-default : Always byDefault (headed lost) 16 0
+  -- between inverse syncs it is an only multiframe too
+  pub between-by-default : Always byDefault (0x78 ∷ 0x4D ∷ (one ++ (0x78 ∷ 0x4D ∷ []))) 16 0
+  -- 17, "settled rate is 2 or any EXP is 1", 0: of one multiframe where the caller asks for the old rule, and of two whatever it chose
+  pub settled-rate-2 : Always oneHeaderSettles (headed rate2) 17 0
+  pub settled-exp-9 : Always oneHeaderSettles (headed exp9) 17 0
+  pub rate-2-twice : Always ch (headed rate2 ++ headed rate2) 17 0
+  pub exp-9-twice : Always ch (headed exp9 ++ headed exp9) 17 0
   -- 18, "index buffer under 168m", octets needed
-  pub index-167 : Sized one 167 13 18 168
-  pub index-335 : Sized two 335 26 18 336
+  pub index-167 : Sized oneHeaderSettles one 167 13 18 168
+  pub index-335 : Sized ch two 335 26 18 336
   -- 19, "report buffer under 13m", octets needed
-  pub report-12 : Sized one 168 12 19 13
-  pub report-25 : Sized two 336 25 19 26
+  pub report-12 : Sized oneHeaderSettles one 168 12 19 13
+  pub report-25 : Sized ch two 336 25 19 26
   -- 20, "every pair bad", 0
-  pub every-pair-bad : Sized allBad 168 13 20 0
+  pub every-pair-bad : Sized oneHeaderSettles allBad 168 13 20 0
   -- "11 comes first": before 12, 13 and 14
-  pub first-before-12 : Tabled (0x00 ∷ []) 1279 14 11 0
-  pub first-before-13 : Tabled (0x87 ∷ []) 1279 14 11 0
-  pub first-before-14 : Tabled [] 1280 13 11 0
+  pub first-before-12 : Tabled ch (0x00 ∷ []) 1279 14 11 0
+  pub first-before-13 : Tabled ch (0x87 ∷ []) 1279 14 11 0
+  pub first-before-14 : Tabled ch [] 1280 13 11 0
   -- "12, 13 and 15 come as cutting meets them": 12 at 2 before 13 at 3; 13 at 0 before 12 at 2; both before 14, there being no multiframe
-  pub at-2-before-3 : Always (0x78 ∷ 0x4D ∷ 0x00 ∷ 0x87 ∷ []) 12 2
-  pub at-0-before-2 : Always (0x87 ∷ 0xB2 ∷ 0x00 ∷ []) 13 0
+  pub at-2-before-3 : Always ch (0x78 ∷ 0x4D ∷ 0x00 ∷ 0x87 ∷ []) 12 2
+  pub at-0-before-2 : Always ch (0x87 ∷ 0xB2 ∷ 0x00 ∷ []) 13 0
   -- after 255 multiframes a cut sync is 15, not 13, and a lone 87, which is no sync yet, 13. 14 and 15 cannot both apply
-  pub cut-after-255 : Always (again 255 (headed lost) ++ (0x87 ∷ 0xB2 ∷ [])) 15 36720
-  pub lone-after-255 : Always (again 255 (headed lost) ++ (0x87 ∷ [])) 13 36720
+  pub cut-after-255 : Always ch (again 255 (headed lost) ++ (0x87 ∷ 0xB2 ∷ [])) 15 36720
+  pub lone-after-255 : Always ch (again 255 (headed lost) ++ (0x87 ∷ [])) 13 36720
   -- "the rest follow by number": without that sync the same 255 multiframes, of which no header can be read, are 16. 14 is before 16 in `nothing`
-  pub unsettled-255 : Always (again 255 (headed lost)) 16 0
+  pub unsettled-255 : Always ch (again 255 (headed lost)) 16 0
   -- 12 and 13 before 16, 18 and 19: settings not settled, and no room at all
-  pub unknown-before-16 : Sized (headed flipped ++ (0x00 ∷ [])) 0 0 12 144
-  pub short-before-16 : Sized (headed flipped ++ (0x87 ∷ [])) 0 0 13 144
+  pub unknown-before-16 : Sized ch (headed flipped ++ (0x00 ∷ [])) 0 0 12 144
+  pub short-before-16 : Sized ch (headed flipped ++ (0x87 ∷ [])) 0 0 13 144
   -- 16 before 18; 17 before 18. 16 and 17 cannot both apply, since 17 is of settled settings
-  pub unsettled-before-18 : Sized (headed flipped) 0 0 16 0
-  pub unfit-before-18 : Sized (headed exp9) 0 0 17 0
+  pub unsettled-before-18 : Sized ch (headed flipped) 0 0 16 0
+  pub unfit-before-18 : Sized oneHeaderSettles (headed exp9) 0 0 17 0
+  -- by default an only multiframe is 16 before 18 to 20, and where the old rule has 17 or 20
+  pub default-before-18 : Sized byDefault one 0 0 16 0
+  pub default-not-17 : Always byDefault (headed rate2) 16 0
+  pub default-not-20 : Always byDefault allBad 16 0
   -- 18 before 19, and 19 before 20
-  pub index-before-19 : Sized one 167 12 18 168
-  pub report-before-20 : Sized allBad 168 12 19 13
+  pub index-before-19 : Sized oneHeaderSettles one 167 12 18 168
+  pub report-before-20 : Sized oneHeaderSettles allBad 168 12 19 13
+  -- the same of two multiframes, whatever the caller chose
+  pub unfit-before-18-twice : Sized ch (headed exp9 ++ headed exp9) 0 0 17 0
+  pub index-before-19-of-two : Sized ch two 335 25 18 336
+  pub report-before-20-of-two : Sized ch (allBad ++ allBad) 336 25 19 26
   -- "Success (0) gives settings; m; speech, ..; the number of bad pairs; end, ..": 87 B2, the header of each rate and type, 01, ten 00, 04, 126
   -- times 00 give the frame 1,0,0,0,0,0,0, and all notes are 0
-  pub rate-0-type-0 : Succeeds (spokenBehind (0x08 ∷ 0x00 ∷ 0x0E ∷ 0xEE ∷ [])) (0 ∷ 0 ∷ 1 ∷ 1 ∷ 0 ∷ 1 ∷ []) (1 ∷ replicate 167 0) (replicate 13 0)
-  pub rate-1-type-0 : Succeeds (spokenBehind (0x09 ∷ 0x00 ∷ 0x0F ∷ 0x3F ∷ [])) (1 ∷ 0 ∷ 1 ∷ 1 ∷ 0 ∷ 1 ∷ []) (1 ∷ replicate 167 0) (replicate 13 0)
-  pub rate-3-type-0 : Succeeds (spokenBehind (0x0B ∷ 0x00 ∷ 0x0C ∷ 0x4C ∷ [])) (3 ∷ 0 ∷ 1 ∷ 1 ∷ 0 ∷ 1 ∷ []) (1 ∷ replicate 167 0) (replicate 13 0)
-  pub rate-0-type-1 : Succeeds (spokenBehind (0x0C ∷ 0x00 ∷ 0x09 ∷ 0x59 ∷ [])) (0 ∷ 1 ∷ 1 ∷ 1 ∷ 0 ∷ 1 ∷ []) (1 ∷ replicate 167 0) (replicate 13 0)
-  pub rate-1-type-1 : Succeeds (spokenBehind (0x0D ∷ 0x00 ∷ 0x08 ∷ 0x88 ∷ [])) (1 ∷ 1 ∷ 1 ∷ 1 ∷ 0 ∷ 1 ∷ []) (1 ∷ replicate 167 0) (replicate 13 0)
-  pub rate-3-type-1 : Succeeds (spokenBehind (0x0F ∷ 0x00 ∷ 0x0B ∷ 0xFB ∷ [])) (3 ∷ 1 ∷ 1 ∷ 1 ∷ 0 ∷ 1 ∷ []) (1 ∷ replicate 167 0) (replicate 13 0)
+  pub rate-0-type-0 : Succeeds oneHeaderSettles (spokenBehind (0x08 ∷ 0x00 ∷ 0x0E ∷ 0xEE ∷ [])) (0 ∷ 0 ∷ 1 ∷ 1 ∷ 0 ∷ 1 ∷ []) (1 ∷ replicate 167 0) (replicate 13 0)
+  pub rate-1-type-0 : Succeeds oneHeaderSettles (spokenBehind (0x09 ∷ 0x00 ∷ 0x0F ∷ 0x3F ∷ [])) (1 ∷ 0 ∷ 1 ∷ 1 ∷ 0 ∷ 1 ∷ []) (1 ∷ replicate 167 0) (replicate 13 0)
+  pub rate-3-type-0 : Succeeds oneHeaderSettles (spokenBehind (0x0B ∷ 0x00 ∷ 0x0C ∷ 0x4C ∷ [])) (3 ∷ 0 ∷ 1 ∷ 1 ∷ 0 ∷ 1 ∷ []) (1 ∷ replicate 167 0) (replicate 13 0)
+  pub rate-0-type-1 : Succeeds oneHeaderSettles (spokenBehind (0x0C ∷ 0x00 ∷ 0x09 ∷ 0x59 ∷ [])) (0 ∷ 1 ∷ 1 ∷ 1 ∷ 0 ∷ 1 ∷ []) (1 ∷ replicate 167 0) (replicate 13 0)
+  pub rate-1-type-1 : Succeeds oneHeaderSettles (spokenBehind (0x0D ∷ 0x00 ∷ 0x08 ∷ 0x88 ∷ [])) (1 ∷ 1 ∷ 1 ∷ 1 ∷ 0 ∷ 1 ∷ []) (1 ∷ replicate 167 0) (replicate 13 0)
+  pub rate-3-type-1 : Succeeds oneHeaderSettles (spokenBehind (0x0F ∷ 0x00 ∷ 0x0B ∷ 0xFB ∷ [])) (3 ∷ 1 ∷ 1 ∷ 1 ∷ 0 ∷ 1 ∷ []) (1 ∷ replicate 167 0) (replicate 13 0)
 
 -- ---- from an outcome to a line
-refuses : (s : List ℕ) (tables : Tables) (index report : List ℕ) (r : Refusal) → reading s tables index report ≡ outcome (Refused r) index report
-    → Refuses s tables index report (readingNumber r) (readingPlace r)
-refuses s tables index report r e =
+refuses : (ch : Choices) (s : List ℕ) (tables : Tables) (index report : List ℕ) (r : Refusal) → reading ch s tables index report ≡ outcome (Refused r) index report
+    → Refuses ch s tables index report (readingNumber r) (readingPlace r)
+refuses ch s tables index report r e =
     record {
       number-is = ap (λ (o : Outcome). answerNumber (o .answer)) e;
       place-is = ap (λ (o : Outcome). answerValues (o .answer)) e;
@@ -216,79 +234,79 @@ refuses s tables index report r e =
     }
 
 -- of any buffers is of buffers of some size
-sized : {s : List ℕ} {n p : ℕ} → Always s n p → (i r : ℕ) → Sized s i r n p
-sized a i r tables sc st index report li lr = a tables sc st index report
+sized : (ch : Choices) {s : List ℕ} {n p : ℕ} → Always ch s n p → (i r : ℕ) → Sized ch s i r n p
+sized ch a i r tables sc st index report li lr = a tables sc st index report
 
 -- ---- 11
-module _ (s : List ℕ) where
-  no-codebook : (c t : ℕ) → (c ≡ 1280 → ⊥) → Tabled s c t 11 0
+module _ (ch : Choices) (s : List ℕ) where
+  no-codebook : (c t : ℕ) → (c ≡ 1280 → ⊥) → Tabled ch s c t 11 0
   no-codebook c t h tables sc st index report =
-      refuses s tables index report WrongTables (sym (wrong-tables s tables index report (wrong-fails tables (λ r. h (sym sc ∙ r .0)))))
+      refuses ch s tables index report WrongTables (sym (wrong-tables ch s tables index report (wrong-fails tables (λ r. h (sym sc ∙ r .0)))))
 
-  no-thresholds : (t : ℕ) → (t ≡ 14 → ⊥) → Tabled s 1280 t 11 0
+  no-thresholds : (t : ℕ) → (t ≡ 14 → ⊥) → Tabled ch s 1280 t 11 0
   no-thresholds t h tables sc st index report =
-      refuses s tables index report WrongTables (sym (wrong-tables s tables index report (wrong-fails tables (λ r. h (sym st ∙ r .1)))))
+      refuses ch s tables index report WrongTables (sym (wrong-tables ch s tables index report (wrong-fails tables (λ r. h (sym st ∙ r .1)))))
 
 -- ---- 12, 13 and 15: as cutting ends
-abbrev Cut : List ℕ → Ending → Type 0
-Cut s whole = Unit
-Cut s (refused r) = Always s (readingNumber r) (readingPlace r)
+abbrev Cut : (ch : Choices) → List ℕ → Ending → Type 0
+Cut ch s whole = Unit
+Cut ch s (refused r) = Always ch s (readingNumber r) (readingPlace r)
 
-is-cut : (s : List ℕ) (e : Ending) → cutting s .ending ≡ e → Cut s e
-is-cut s whole h = tt
-is-cut s (refused r) h = λ tables sc st index report.
-    refuses s tables index report r (sym (not-cut s tables index report (right-passes tables (sc, st)) r h))
+is-cut : (ch : Choices) (s : List ℕ) (e : Ending) → cutting s .ending ≡ e → Cut ch s e
+is-cut ch s whole h = tt
+is-cut ch s (refused r) h = λ tables sc st index report.
+    refuses ch s tables index report r (sym (not-cut ch s tables index report (right-passes tables (sc, st)) r h))
 
 -- ---- 14 and 16 to 20, of octets that are cut into multiframes at places
-module _ (s ps : List ℕ) (cut : cutting s ≡ record { places = ps; ending = whole }) where
-  is-14 : length ps ≡ 0 → Always s 14 (length s)
+module _ (ch : Choices) (s ps : List ℕ) (cut : cutting s ≡ record { places = ps; ending = whole }) where
+  is-14 : length ps ≡ 0 → Always ch s 14 (length s)
   unfolding wholeVerdict
   is-14 z tables sc st index report =
-      refuses s tables index report (Empty (length s))
-      (sym (whole-reading s tables index report (right-passes tables (sc, st)) (outcome (Refused (Empty (length s))) index report) ps
+      refuses ch s tables index report (Empty (length s))
+      (sym (whole-reading ch s tables index report (right-passes tables (sc, st)) (outcome (Refused (Empty (length s))) index report) ps
       (ap (λ (w : Cutting). w .ending) cut) (sym (ap (λ (w : Cutting). w .places) cut)) (rw (eq-eqb (length ps) 0 z))))
 
-  module _ (some : length ps ≡ 0 → ⊥) (x : Settlement) (settles : settling (readings s ps) ≡ x) where
+  module _ (some : length ps ≡ 0 → ⊥) (x : Settlement) (settles : settling ch (readings s ps) ≡ x) where
     -- past 11 to 15 the settings decide
     next : (tables : Tables) → length (tables .codebook) ≡ 1280 → length (tables .thresholds) ≡ 14 → (index report : List ℕ)
-        → reading s tables index report
+        → reading ch s tables index report
         ≡ finished s tables index report ps
         (settledVerdict (length ps) (badPairs (receivedNotes s ps tables)) (pairCount ps) (length index) (length report) x)
     unfolding wholeVerdict
     next tables sc st index report =
-        sym (whole-reading s tables index report (right-passes tables (sc, st))
+        sym (whole-reading ch s tables index report (right-passes tables (sc, st))
         (finished s tables index report ps (settledVerdict (length ps) (badPairs (receivedNotes s ps tables)) (pairCount ps) (length index) (length report) x)) ps
         (ap (λ (w : Cutting). w .ending) cut) (sym (ap (λ (w : Cutting). w .places) cut)) (rw (ne-eqb (length ps) 0 some, settles)))
 
   module _ (some : length ps ≡ 0 → ⊥) where
-    is-16 : settling (readings s ps) ≡ S.Unsettled → Always s 16 0
+    is-16 : settling ch (readings s ps) ≡ S.Unsettled → Always ch s 16 0
     unfolding settledVerdict
-    is-16 e tables sc st index report = refuses s tables index report Unsettled (next some S.Unsettled e tables sc st index report)
+    is-16 e tables sc st index report = refuses ch s tables index report Unsettled (next some S.Unsettled e tables sc st index report)
 
-    module _ (c : ℕ) (e : settling (readings s ps) ≡ S.Settled c) where
-      is-17-rate : rateOf c ≡ 2 → Always s 17 0
+    module _ (c : ℕ) (e : settling ch (readings s ps) ≡ S.Settled c) where
+      is-17-rate : rateOf c ≡ 2 → Always ch s 17 0
       unfolding settledVerdict
       is-17-rate h tables sc st index report =
-          refuses s tables index report Unfit (next some (S.Settled c) e tables sc st index report ∙ rw (eq-eqb (rateOf c) 2 h))
+          refuses ch s tables index report Unfit (next some (S.Settled c) e tables sc st index report ∙ rw (eq-eqb (rateOf c) 2 h))
 
-      is-17-exp : (rateOf c ≡ 2 → ⊥) → (expOf c ≡ 0 → ⊥) → Always s 17 0
+      is-17-exp : (rateOf c ≡ 2 → ⊥) → (expOf c ≡ 0 → ⊥) → Always ch s 17 0
       unfolding settledVerdict
       is-17-exp r h tables sc st index report =
-          refuses s tables index report Unfit
+          refuses ch s tables index report Unfit
           (next some (S.Settled c) e tables sc st index report ∙ rw (ne-eqb (rateOf c) 2 r, ne-eqb (expOf c) 0 h))
 
       module _ (u : Usable c) (i r : ℕ) where
-        is-18 : i < indexOctets * length ps → Sized s i r 18 (indexOctets * length ps)
+        is-18 : i < indexOctets * length ps → Sized ch s i r 18 (indexOctets * length ps)
         unfolding settledVerdict roomVerdict
         is-18 h tables sc st index report li lr =
-            refuses s tables index report (IndexShort (indexOctets * length ps))
+            refuses ch s tables index report (IndexShort (indexOctets * length ps))
             (next some (S.Settled c) e tables sc st index report
             ∙ rw (ne-eqb (rateOf c) 2 (u .rate), eq-eqb (expOf c) 0 (u .exp), lt-ltb (length index) (indexOctets * length ps) (omega arith)))
 
-        is-19 : indexOctets * length ps ≤ i → r < reportOctets * length ps → Sized s i r 19 (reportOctets * length ps)
+        is-19 : indexOctets * length ps ≤ i → r < reportOctets * length ps → Sized ch s i r 19 (reportOctets * length ps)
         unfolding settledVerdict roomVerdict
         is-19 hi h tables sc st index report li lr =
-            refuses s tables index report (ReportShort (reportOctets * length ps))
+            refuses ch s tables index report (ReportShort (reportOctets * length ps))
             (next some (S.Settled c) e tables sc st index report
             ∙ rw (
               ne-eqb (rateOf c) 2 (u .rate),
@@ -298,10 +316,10 @@ module _ (s ps : List ℕ) (cut : cutting s ≡ record { places = ps; ending = w
             ))
 
         is-20 : indexOctets * length ps ≤ i → reportOctets * length ps ≤ r
-            → ((tables : Tables) → badPairs (receivedNotes s ps tables) ≡ pairCount ps) → Sized s i r 20 0
+            → ((tables : Tables) → badPairs (receivedNotes s ps tables) ≡ pairCount ps) → Sized ch s i r 20 0
         unfolding settledVerdict roomVerdict
         is-20 hi hr bad tables sc st index report li lr =
-            refuses s tables index report AllBad
+            refuses ch s tables index report AllBad
             (next some (S.Settled c) e tables sc st index report
             ∙ rw (
               ne-eqb (rateOf c) 2 (u .rate),
@@ -355,21 +373,21 @@ module _ (a b c d : ℕ) where
   unfolding readings
   head-one = refl
 
-settles-one : settling (readings one (0 ∷ [])) ≡ S.Settled (commonBits 8)
+settles-one : settling oneHeaderSettles (readings one (0 ∷ [])) ≡ S.Settled (commonBits 8)
 unfolding value fields field
-settles-one = ap settling (head-one 0x08 0x00 0x0E 0xEE ∙ ap (λ (h : Header). h ∷ []) (read-1 .0)) ∙ only-clean (H.decodedAs 0xEE0E0008 8) (read-1 .1)
+settles-one = ap (settling oneHeaderSettles) (head-one 0x08 0x00 0x0E 0xEE ∙ ap (λ (h : Header). h ∷ []) (read-1 .0)) ∙ only-clean oneHeaderSettles (H.decodedAs 0xEE0E0008 8) refl (read-1 .1)
 
-settles-flipped : settling (readings (headed flipped) (0 ∷ [])) ≡ S.Unsettled
+settles-flipped : (ch : Choices) → settling ch (readings (headed flipped) (0 ∷ [])) ≡ S.Unsettled
 unfolding value fields field
-settles-flipped = ap settling (head-one 0x09 0x00 0x0E 0xEE ∙ ap (λ (h : Header). h ∷ []) (read-flipped .0)) ∙ only-mended (H.decodedAs 0xEE0E0009 8) (λ e. omega (arith, read-flipped .1))
+settles-flipped ch = ap (settling ch) (head-one 0x09 0x00 0x0E 0xEE ∙ ap (λ (h : Header). h ∷ []) (read-flipped .0)) ∙ only-mended ch (H.decodedAs 0xEE0E0009 8) (λ e. omega (arith, read-flipped .1))
 
-settles-rate-2 : settling (readings (headed rate2) (0 ∷ [])) ≡ S.Settled (commonBits (message (settings 2 0) 1 0))
+settles-rate-2 : settling oneHeaderSettles (readings (headed rate2) (0 ∷ [])) ≡ S.Settled (commonBits (message (settings 2 0) 1 0))
 unfolding value fields field
-settles-rate-2 = ap settling (head-one 0x0A 0x00 0x0D 0x9D ∙ ap (λ (h : Header). h ∷ []) (read-rate-2 .0)) ∙ only-clean (H.decodedAs 0x9D0D000A (message (settings 2 0) 1 0)) (read-rate-2 .1)
+settles-rate-2 = ap (settling oneHeaderSettles) (head-one 0x0A 0x00 0x0D 0x9D ∙ ap (λ (h : Header). h ∷ []) (read-rate-2 .0)) ∙ only-clean oneHeaderSettles (H.decodedAs 0x9D0D000A (message (settings 2 0) 1 0)) refl (read-rate-2 .1)
 
-settles-exp : settling (readings (headed exp9) (0 ∷ [])) ≡ S.Settled (commonBits 32768)
+settles-exp : settling oneHeaderSettles (readings (headed exp9) (0 ∷ [])) ≡ S.Settled (commonBits 32768)
 unfolding value fields field
-settles-exp = ap settling (head-one 0x00 0x80 0x80 0xE8 ∙ ap (λ (h : Header). h ∷ []) (read-exp .0)) ∙ only-clean (H.decodedAs 0xE8808000 32768) (read-exp .1)
+settles-exp = ap (settling oneHeaderSettles) (head-one 0x00 0x80 0x80 0xE8 ∙ ap (λ (h : Header). h ∷ []) (read-exp .0)) ∙ only-clean oneHeaderSettles (H.decodedAs 0xE8808000 32768) refl (read-exp .1)
 
 cut-two : cutting two ≡ record { places = 0 ∷ 144 ∷ []; ending = whole }
 unfolding walk pieceBy syncMet lastMet
@@ -379,10 +397,10 @@ heads-two : readings two (0 ∷ 144 ∷ []) ≡ H.reading 0xEE0E0008 ∷ H.readi
 unfolding readings value fields field
 heads-two = refl
 
-settles-two : settling (readings two (0 ∷ 144 ∷ [])) ≡ S.Settled (commonBits 8)
-settles-two =
-    ap settling (heads-two ∙ ap₂ (λ (g h : Header). g ∷ h ∷ []) (read-1 .0) (read-2 .0))
-    ∙ all-agree (Codeword (H.decodedAs 0xEE0E0008 8) ∷ Codeword (H.decodedAs 0x0D1D0010 16) ∷ []) (commonBits 8) (omega arith) (refl, (common-16, tt))
+settles-two : (ch : Choices) → settling ch (readings two (0 ∷ 144 ∷ [])) ≡ S.Settled (commonBits 8)
+settles-two ch =
+    ap (settling ch) (heads-two ∙ ap₂ (λ (g h : Header). g ∷ h ∷ []) (read-1 .0) (read-2 .0))
+    ∙ all-agree ch (Codeword (H.decodedAs 0xEE0E0008 8) ∷ Codeword (H.decodedAs 0x0D1D0010 16) ∷ []) (commonBits 8) (omega arith) (refl, (common-16, tt))
 
 -- ---- every pair bad
 cut-bad : cutting allBad ≡ record { places = 0 ∷ []; ending = whole }
@@ -393,8 +411,8 @@ head-bad : readings allBad (0 ∷ []) ≡ H.reading 0xEE0E0008 ∷ []
 unfolding readings value fields field
 head-bad = refl
 
-settles-bad : settling (readings allBad (0 ∷ [])) ≡ S.Settled (commonBits 8)
-settles-bad = ap settling (head-bad ∙ ap (λ (h : Header). h ∷ []) (read-1 .0)) ∙ only-clean (H.decodedAs 0xEE0E0008 8) (read-1 .1)
+settles-bad : settling oneHeaderSettles (readings allBad (0 ∷ [])) ≡ S.Settled (commonBits 8)
+settles-bad = ap (settling oneHeaderSettles) (head-bad ∙ ap (λ (h : Header). h ∷ []) (read-1 .0)) ∙ only-clean oneHeaderSettles (H.decodedAs 0xEE0E0008 8) refl (read-1 .1)
 
 fails-bad : each (pairFails (received allBad (0 ∷ []))) 12 ≡ replicate 12 true
 unfolding pairFails fields field right alike crc after xor
@@ -477,33 +495,32 @@ unfolding onlyOne
 only-lost [] h = refl
 only-lost (x ∷ hs) h = subst (λ (y : Header). onlyOne (y ∷ hs) ≡ S.Unsettled) (sym (h 0 (omega arith))) refl
 
-lost-unsettled : (n : ℕ) → settling (each (λ k. Lost) n) ≡ S.Unsettled
-unfolding settling
-lost-unsettled n =
+lost-unsettled : (ch : Choices) (n : ℕ) → settling ch (each (λ k. Lost) n) ≡ S.Unsettled
+lost-unsettled ch n =
     let h : (k : ℕ) → k < length (each (λ k. Lost) n) → getD (each (λ k. Lost) n) k Lost ≡ Lost = λ k l. each-at (λ k. Lost) n k Lost (omega (arith, length-each (λ (k : ℕ). Lost) n)) in
-    rw (all-lost (each (λ k. Lost) n) h [], only-lost (each (λ k. Lost) n) h)
+    neither ch (each (λ k. Lost) n) (all-lost (each (λ k. Lost) n) h []) (only-lost (each (λ k. Lost) n) h)
 
 word-lost : (n k : ℕ) → k < n → H.reading (wordIn (again n (headed lost)) k) ≡ Lost
 unfolding value fields field
 word-lost n k h = ap (λ (l : List ℕ). H.reading (value (bits l))) (part-again (headed lost) refl n k 2 4 h (lit< tt)) ∙ read-lost
 
-many-lost : (n : ℕ) → 0 < n → n ≤ mostMultiframes → Always (again n (headed lost)) 16 0
-many-lost n h few =
+many-lost : (ch : Choices) (n : ℕ) → 0 < n → n ≤ mostMultiframes → Always ch (again n (headed lost)) 16 0
+many-lost ch n h few =
     let s = again n (headed lost) in
     let z : (k : ℕ) → 144 * k ≡ 144 * k + 0 = λ k. omega arith in
-    is-16 s (rowOf n)
+    is-16 ch s (rowOf n)
     (cut-is s n few (length-again (headed lost) refl n) (λ k l. ap (λ (i : ℕ). part i 2 s) (z k) ∙ part-again (headed lost) refl n k 0 2 l (lit< tt)))
     (λ e. omega (arith, every-length 0 n))
-    (ap settling (readings-are s n ∙ same-each (λ k. H.reading (wordIn s k)) (λ k. Lost) n (word-lost n)) ∙ lost-unsettled n)
+    (ap (settling ch) (readings-are s n ∙ same-each (λ k. H.reading (wordIn s k)) (λ k. Lost) n (word-lost n)) ∙ lost-unsettled ch n)
 
 -- ---- success, by the theorem "reads back"
 speaks : (rate kind : ℕ) (h : List ℕ) → header rate kind 1 ≡ h → verdict (settings rate kind) (lone 1) (needed (lone 1)) ≡ Written (needed (lone 1))
-    → Succeeds (spokenBehind h) (rate ∷ kind ∷ 1 ∷ 1 ∷ 0 ∷ 1 ∷ []) (1 ∷ replicate 167 0) (replicate 13 0)
+    → Succeeds oneHeaderSettles (spokenBehind h) (rate ∷ kind ∷ 1 ∷ 1 ∷ 0 ∷ 1 ∷ []) (1 ∷ replicate 167 0) (replicate 13 0)
 speaks rate kind h x w tables sc st index report hi hr =
     let u : Utterance = record { settings = settings rate kind; indices = lone 1; small = small-lone 1 (lit< tt); written = w } in
     let e =
-    ap (λ (i : List ℕ). reading i tables index report) (sym (spoken-image rate kind h x))
-    ∙ reads-image u tables index report record { codebook-size = sc; thresholds-size = st; index-room = hi; report-room = hr } in
+    ap (λ (i : List ℕ). reading oneHeaderSettles i tables index report) (sym (spoken-image rate kind h x))
+    ∙ reads-image oneHeaderSettles u (inr refl) tables index report record { codebook-size = sc; thresholds-size = st; index-room = hi; report-room = hr } in
     record {
       number-is = ap (λ (o : Outcome). answerNumber (o .answer)) e;
       values-are = ap (λ (o : Outcome). answerValues (o .answer)) e;
@@ -512,68 +529,133 @@ speaks rate kind h x w tables sc st index report hi hr =
     }
 
 -- ---- the lines
-flipped-16 : Always (headed flipped) 16 0
-flipped-16 = is-16 (headed flipped) (0 ∷ []) (cut-one 0x09 0x00 0x0E 0xEE) (λ e. omega arith) settles-flipped
+flipped-16 : (ch : Choices) → Always ch (headed flipped) 16 0
+flipped-16 ch = is-16 ch (headed flipped) (0 ∷ []) (cut-one 0x09 0x00 0x0E 0xEE) (λ e. omega arith) (settles-flipped ch)
 
-rate-17 : Always (headed rate2) 17 0
+-- an only multiframe with any header, by default
+default-16 : (s : List ℕ) (a b c d : ℕ) → headed (a ∷ b ∷ c ∷ d ∷ []) ≡ s → Always byDefault s 16 0
+default-16 s a b c d e =
+    subst (λ (x : List ℕ). Always byDefault x 16 0) e
+    (is-16 byDefault (headed (a ∷ b ∷ c ∷ d ∷ [])) (0 ∷ []) (cut-one a b c d) (λ e. omega arith)
+    (one-default byDefault (readings (headed (a ∷ b ∷ c ∷ d ∷ [])) (0 ∷ [])) refl (length-readings (headed (a ∷ b ∷ c ∷ d ∷ [])) (0 ∷ []))))
+
+rate-17 : Always oneHeaderSettles (headed rate2) 17 0
 rate-17 =
     let m = message (settings 2 0) 1 0 in
-    is-17-rate (headed rate2) (0 ∷ []) (cut-one 0x0A 0x00 0x0D 0x9D) (λ e. omega arith) (commonBits m) settles-rate-2 (common-rate m ∙ rate-back (settings 2 0) 1 0)
+    is-17-rate oneHeaderSettles (headed rate2) (0 ∷ []) (cut-one 0x0A 0x00 0x0D 0x9D) (λ e. omega arith) (commonBits m) settles-rate-2 (common-rate m ∙ rate-back (settings 2 0) 1 0)
 
-exp-17 : Always (headed exp9) 17 0
+-- twice the same header settles, whatever the caller chose
+cut-twice : cutting (headed rate2 ++ headed rate2) ≡ record { places = 0 ∷ 144 ∷ []; ending = whole }
+unfolding walk pieceBy syncMet lastMet
+cut-twice = refl
+
+heads-twice : readings (headed rate2 ++ headed rate2) (0 ∷ 144 ∷ []) ≡ H.reading 0x9D0D000A ∷ H.reading 0x9D0D000A ∷ []
+unfolding readings value fields field
+heads-twice = refl
+
+rate-17-twice : (ch : Choices) → Always ch (headed rate2 ++ headed rate2) 17 0
+rate-17-twice ch =
+    let m = message (settings 2 0) 1 0 in
+    let h = Codeword (H.decodedAs 0x9D0D000A m) in
+    is-17-rate ch (headed rate2 ++ headed rate2) (0 ∷ 144 ∷ []) cut-twice (λ e. omega arith) (commonBits m)
+    (ap (settling ch) (heads-twice ∙ ap (λ (x : Header). x ∷ x ∷ []) (read-rate-2 .0)) ∙ all-agree ch (h ∷ h ∷ []) (commonBits m) (omega arith) (refl, (refl, tt)))
+    (common-rate m ∙ rate-back (settings 2 0) 1 0)
+
+exp-17 : Always oneHeaderSettles (headed exp9) 17 0
 exp-17 =
-    is-17-exp (headed exp9) (0 ∷ []) (cut-one 0x00 0x80 0x80 0xE8) (λ e. omega arith) (commonBits 32768) settles-exp
+    is-17-exp oneHeaderSettles (headed exp9) (0 ∷ []) (cut-one 0x00 0x80 0x80 0xE8) (λ e. omega arith) (commonBits 32768) settles-exp
     (λ e. let z : _≡_ {A = ℕ} 0 2 = rate-masked 32768 ∙ sym (common-rate 32768) ∙ e in omega arith)
     (λ e. let z : _≡_ {A = ℕ} 256 0 = exp-shifted 32768 (lit< tt) ∙ sym (common-exp 32768) ∙ e in omega arith)
 
-one-18 : (i r : ℕ) → i < 168 → Sized one i r 18 168
-one-18 i r = is-18 one (0 ∷ []) (cut-one 0x08 0x00 0x0E 0xEE) (λ e. omega arith) (commonBits 8) settles-one usable-8 i r
+cut-exp-twice : cutting (headed exp9 ++ headed exp9) ≡ record { places = 0 ∷ 144 ∷ []; ending = whole }
+unfolding walk pieceBy syncMet lastMet
+cut-exp-twice = refl
 
-bad-19 : Sized allBad 168 12 19 13
-bad-19 = is-19 allBad (0 ∷ []) cut-bad (λ e. omega arith) (commonBits 8) settles-bad usable-8 168 12 (lit< tt) (lit< tt)
+heads-exp-twice : readings (headed exp9 ++ headed exp9) (0 ∷ 144 ∷ []) ≡ H.reading 0xE8808000 ∷ H.reading 0xE8808000 ∷ []
+unfolding readings value fields field
+heads-exp-twice = refl
 
-pub table : Table
+exp-17-twice : (ch : Choices) → Always ch (headed exp9 ++ headed exp9) 17 0
+exp-17-twice ch =
+    let h = Codeword (H.decodedAs 0xE8808000 32768) in
+    is-17-exp ch (headed exp9 ++ headed exp9) (0 ∷ 144 ∷ []) cut-exp-twice (λ e. omega arith) (commonBits 32768)
+    (ap (settling ch) (heads-exp-twice ∙ ap (λ (x : Header). x ∷ x ∷ []) (read-exp .0)) ∙ all-agree ch (h ∷ h ∷ []) (commonBits 32768) (omega arith) (refl, (refl, tt)))
+    (λ e. let z : _≡_ {A = ℕ} 0 2 = rate-masked 32768 ∙ sym (common-rate 32768) ∙ e in omega arith)
+    (λ e. let z : _≡_ {A = ℕ} 256 0 = exp-shifted 32768 (lit< tt) ∙ sym (common-exp 32768) ∙ e in omega arith)
+
+cut-bad-twice : cutting (allBad ++ allBad) ≡ record { places = 0 ∷ 144 ∷ []; ending = whole }
+unfolding walk pieceBy syncMet lastMet
+cut-bad-twice = refl
+
+heads-bad-twice : readings (allBad ++ allBad) (0 ∷ 144 ∷ []) ≡ H.reading 0xEE0E0008 ∷ H.reading 0xEE0E0008 ∷ []
+unfolding readings value fields field
+heads-bad-twice = refl
+
+settles-bad-twice : (ch : Choices) → settling ch (readings (allBad ++ allBad) (0 ∷ 144 ∷ [])) ≡ S.Settled (commonBits 8)
+settles-bad-twice ch =
+    let h = Codeword (H.decodedAs 0xEE0E0008 8) in
+    ap (settling ch) (heads-bad-twice ∙ ap (λ (x : Header). x ∷ x ∷ []) (read-1 .0)) ∙ all-agree ch (h ∷ h ∷ []) (commonBits 8) (omega arith) (refl, (refl, tt))
+
+one-18 : (i r : ℕ) → i < 168 → Sized oneHeaderSettles one i r 18 168
+one-18 i r = is-18 oneHeaderSettles one (0 ∷ []) (cut-one 0x08 0x00 0x0E 0xEE) (λ e. omega arith) (commonBits 8) settles-one usable-8 i r
+
+bad-19 : Sized oneHeaderSettles allBad 168 12 19 13
+bad-19 = is-19 oneHeaderSettles allBad (0 ∷ []) cut-bad (λ e. omega arith) (commonBits 8) settles-bad usable-8 168 12 (lit< tt) (lit< tt)
+
+pub table : (ch : Choices) → Table ch
 unfolding walk pieceBy syncMet lastMet verdict roomAnswer firstFrom zeroFrame
-table = record {
-  codebook-1279 = λ s. no-codebook s 1279 14 (λ e. omega arith);
-  codebook-1281 = λ s. no-codebook s 1281 14 (λ e. omega arith);
-  thresholds-13 = λ s. no-thresholds s 13 (λ e. omega arith);
-  thresholds-15 = λ s. no-thresholds s 15 (λ e. omega arith);
-  unknown-at-0 = is-cut (0x00 ∷ []) _ refl;
-  half-sync = is-cut (0x87 ∷ 0x00 ∷ []) _ refl;
-  half-inverse = is-cut (0x78 ∷ 0x00 ∷ []) _ refl;
-  unknown-at-2 = is-cut (0x78 ∷ 0x4D ∷ 0x00 ∷ []) _ refl;
-  unknown-at-144 = is-cut (one ++ (0x00 ∷ [])) _ refl;
-  octets-143 = is-cut (0x87 ∷ 0xB2 ∷ replicate 141 0x00) _ refl;
-  lone-87 = is-cut (0x87 ∷ []) _ refl;
-  lone-78-at-2 = is-cut (0x78 ∷ 0x4D ∷ 0x78 ∷ []) _ refl;
-  cut-at-144 = is-cut (one ++ (0x87 ∷ 0xB2 ∷ [])) _ refl;
-  nothing = is-14 [] [] refl refl;
-  only-inverse = is-14 (0x78 ∷ 0x4D ∷ 0x78 ∷ 0x4D ∷ []) [] refl refl;
-  multiframe-256 = is-cut (again 255 one ++ one) _ (behind count1 refl 255 one (lit< tt));
-  cut-256 = is-cut (again 255 one ++ (0x87 ∷ 0xB2 ∷ [])) _ (behind count1 refl 255 (0x87 ∷ 0xB2 ∷ []) (lit< tt));
-  one-flip = flipped-16;
+table ch = record {
+  codebook-1279 = λ s. no-codebook ch s 1279 14 (λ e. omega arith);
+  codebook-1281 = λ s. no-codebook ch s 1281 14 (λ e. omega arith);
+  thresholds-13 = λ s. no-thresholds ch s 13 (λ e. omega arith);
+  thresholds-15 = λ s. no-thresholds ch s 15 (λ e. omega arith);
+  unknown-at-0 = is-cut ch (0x00 ∷ []) _ refl;
+  half-sync = is-cut ch (0x87 ∷ 0x00 ∷ []) _ refl;
+  half-inverse = is-cut ch (0x78 ∷ 0x00 ∷ []) _ refl;
+  unknown-at-2 = is-cut ch (0x78 ∷ 0x4D ∷ 0x00 ∷ []) _ refl;
+  unknown-at-144 = is-cut ch (one ++ (0x00 ∷ [])) _ refl;
+  octets-143 = is-cut ch (0x87 ∷ 0xB2 ∷ replicate 141 0x00) _ refl;
+  lone-87 = is-cut ch (0x87 ∷ []) _ refl;
+  lone-78-at-2 = is-cut ch (0x78 ∷ 0x4D ∷ 0x78 ∷ []) _ refl;
+  cut-at-144 = is-cut ch (one ++ (0x87 ∷ 0xB2 ∷ [])) _ refl;
+  nothing = is-14 ch [] [] refl refl;
+  only-inverse = is-14 ch (0x78 ∷ 0x4D ∷ 0x78 ∷ 0x4D ∷ []) [] refl refl;
+  multiframe-256 = is-cut ch (again 255 one ++ one) _ (behind count1 refl 255 one (lit< tt));
+  cut-256 = is-cut ch (again 255 one ++ (0x87 ∷ 0xB2 ∷ [])) _ (behind count1 refl 255 (0x87 ∷ 0xB2 ∷ []) (lit< tt));
+  one-flip = flipped-16 ch;
+  one-by-default = default-16 one 0x08 0x00 0x0E 0xEE refl;
+  lost-by-default = default-16 (headed lost) 0x01 0x00 0x01 0x01 refl;
+  between-by-default = is-16 byDefault (0x78 ∷ 0x4D ∷ (one ++ (0x78 ∷ 0x4D ∷ []))) (2 ∷ []) refl (λ e. omega arith)
+      (one-default byDefault (readings (0x78 ∷ 0x4D ∷ (one ++ (0x78 ∷ 0x4D ∷ []))) (2 ∷ [])) refl (length-readings (0x78 ∷ 0x4D ∷ (one ++ (0x78 ∷ 0x4D ∷ []))) (2 ∷ [])));
   settled-rate-2 = rate-17;
   settled-exp-9 = exp-17;
+  rate-2-twice = rate-17-twice ch;
+  exp-9-twice = exp-17-twice ch;
   index-167 = one-18 167 13 (lit< tt);
-  index-335 = is-18 two (0 ∷ 144 ∷ []) cut-two (λ e. omega arith) (commonBits 8) settles-two usable-8 335 26 (lit< tt);
-  report-12 = is-19 one (0 ∷ []) (cut-one 0x08 0x00 0x0E 0xEE) (λ e. omega arith) (commonBits 8) settles-one usable-8 168 12 (lit< tt) (lit< tt);
-  report-25 = is-19 two (0 ∷ 144 ∷ []) cut-two (λ e. omega arith) (commonBits 8) settles-two usable-8 336 25 (lit< tt) (lit< tt);
-  every-pair-bad = is-20 allBad (0 ∷ []) cut-bad (λ e. omega arith) (commonBits 8) settles-bad usable-8 168 13 (lit< tt) (lit< tt) bad-bad;
-  first-before-12 = no-codebook (0x00 ∷ []) 1279 14 (λ e. omega arith);
-  first-before-13 = no-codebook (0x87 ∷ []) 1279 14 (λ e. omega arith);
-  first-before-14 = no-thresholds [] 13 (λ e. omega arith);
-  at-2-before-3 = is-cut (0x78 ∷ 0x4D ∷ 0x00 ∷ 0x87 ∷ []) _ refl;
-  at-0-before-2 = is-cut (0x87 ∷ 0xB2 ∷ 0x00 ∷ []) _ refl;
-  cut-after-255 = is-cut (again 255 (headed lost) ++ (0x87 ∷ 0xB2 ∷ [])) _ (behind lost refl 255 (0x87 ∷ 0xB2 ∷ []) (lit< tt));
-  lone-after-255 = is-cut (again 255 (headed lost) ++ (0x87 ∷ [])) _ (behind lost refl 255 (0x87 ∷ []) (lit< tt));
-  unsettled-255 = many-lost 255 (lit< tt) (lit< tt);
-  unknown-before-16 = sized (is-cut (headed flipped ++ (0x00 ∷ [])) _ refl) 0 0;
-  short-before-16 = sized (is-cut (headed flipped ++ (0x87 ∷ [])) _ refl) 0 0;
-  unsettled-before-18 = sized flipped-16 0 0;
-  unfit-before-18 = sized exp-17 0 0;
+  index-335 = is-18 ch two (0 ∷ 144 ∷ []) cut-two (λ e. omega arith) (commonBits 8) (settles-two ch) usable-8 335 26 (lit< tt);
+  report-12 = is-19 oneHeaderSettles one (0 ∷ []) (cut-one 0x08 0x00 0x0E 0xEE) (λ e. omega arith) (commonBits 8) settles-one usable-8 168 12 (lit< tt) (lit< tt);
+  report-25 = is-19 ch two (0 ∷ 144 ∷ []) cut-two (λ e. omega arith) (commonBits 8) (settles-two ch) usable-8 336 25 (lit< tt) (lit< tt);
+  every-pair-bad = is-20 oneHeaderSettles allBad (0 ∷ []) cut-bad (λ e. omega arith) (commonBits 8) settles-bad usable-8 168 13 (lit< tt) (lit< tt) bad-bad;
+  first-before-12 = no-codebook ch (0x00 ∷ []) 1279 14 (λ e. omega arith);
+  first-before-13 = no-codebook ch (0x87 ∷ []) 1279 14 (λ e. omega arith);
+  first-before-14 = no-thresholds ch [] 13 (λ e. omega arith);
+  at-2-before-3 = is-cut ch (0x78 ∷ 0x4D ∷ 0x00 ∷ 0x87 ∷ []) _ refl;
+  at-0-before-2 = is-cut ch (0x87 ∷ 0xB2 ∷ 0x00 ∷ []) _ refl;
+  cut-after-255 = is-cut ch (again 255 (headed lost) ++ (0x87 ∷ 0xB2 ∷ [])) _ (behind lost refl 255 (0x87 ∷ 0xB2 ∷ []) (lit< tt));
+  lone-after-255 = is-cut ch (again 255 (headed lost) ++ (0x87 ∷ [])) _ (behind lost refl 255 (0x87 ∷ []) (lit< tt));
+  unsettled-255 = many-lost ch 255 (lit< tt) (lit< tt);
+  unknown-before-16 = sized ch (is-cut ch (headed flipped ++ (0x00 ∷ [])) _ refl) 0 0;
+  short-before-16 = sized ch (is-cut ch (headed flipped ++ (0x87 ∷ [])) _ refl) 0 0;
+  unsettled-before-18 = sized ch (flipped-16 ch) 0 0;
+  unfit-before-18 = sized oneHeaderSettles exp-17 0 0;
+  default-before-18 = sized byDefault (default-16 one 0x08 0x00 0x0E 0xEE refl) 0 0;
+  default-not-17 = default-16 (headed rate2) 0x0A 0x00 0x0D 0x9D refl;
+  default-not-20 = is-16 byDefault allBad (0 ∷ []) cut-bad (λ e. omega arith) (one-default byDefault (readings allBad (0 ∷ [])) refl (length-readings allBad (0 ∷ [])));
   index-before-19 = one-18 167 12 (lit< tt);
   report-before-20 = bad-19;
+  unfit-before-18-twice = sized ch (exp-17-twice ch) 0 0;
+  index-before-19-of-two = is-18 ch two (0 ∷ 144 ∷ []) cut-two (λ e. omega arith) (commonBits 8) (settles-two ch) usable-8 335 25 (lit< tt);
+  report-before-20-of-two = is-19 ch (allBad ++ allBad) (0 ∷ 144 ∷ []) cut-bad-twice (λ e. omega arith) (commonBits 8) (settles-bad-twice ch) usable-8 336 25 (lit< tt) (lit< tt);
   rate-0-type-0 = speaks 0 0 (0x08 ∷ 0x00 ∷ 0x0E ∷ 0xEE ∷ []) (Headers.table .header-0-0) refl;
   rate-1-type-0 = speaks 1 0 (0x09 ∷ 0x00 ∷ 0x0F ∷ 0x3F ∷ []) (Headers.table .header-1-0) refl;
   rate-3-type-0 = speaks 3 0 (0x0B ∷ 0x00 ∷ 0x0C ∷ 0x4C ∷ []) (Headers.table .header-3-0) refl;

@@ -2,20 +2,23 @@
 -- prints them, which no theorem would notice if definition, laws and code were changed alike. The numbers stand bare here, as they do there.
 -- Assumes nothing.
 use mathlib.Core.Path.{_≡_, refl, sym, ap, _∙_}
-use mathlib.Core.Bool.{Bool, true, false}
+use mathlib.Core.Bool.{true, false}
 use mathlib.Core.List.{List, [], _∷_, _++_}
 use Prim.Native.Nat.{ℕ, zero, suc, _+_}
 use native.Mathlib.Omega.{arith}
 use lib.IntN.{ℤ, pos, negsuc}
 use lib.ListN.{replicate}
 use borrow.Author.Tests.{eq-eqb, ne-eqb}
+use Rattle.choices.specs.Choices.{byDefault, oneHeaderSettles}
+use Rattle.choices.specs.declared.Choices.{Choices}
 use Rattle.settings.specs.Settings.{settings as set}
 use Rattle.frames.specs.Frames.{zeroFrame}
-use Rattle.message.specs.Message.{message, rateOf, countOf, commonBits}
+use Rattle.message.specs.Message.{message, rateOf, commonBits}
 use Rattle.message.specs.Message.Laws.{rate-back, count-back, common-rate, common-message, message-counts, message-rate-1}
 use Rattle.header.specs.declared.Header.{Header}
 use Rattle.header.specs.declared.Header.the-variants.{Codeword, Lost}
 use Rattle.settling.specs.Settling.{firstAgreeing, onlyOne, settling, headerNote}
+use Rattle.settling.specs.Laws.{two-or-more, only-mended}
 use Rattle.settling.specs.declared.Settlement.the-variants.{Settled, Unsettled}
 use Rattle.consistency.specs.Consistency.{exceeding, risen, flagged, flags, inconsistent}
 use Rattle.replacing.specs.Replacing.{source, sourceBy, runStart, leading}
@@ -200,16 +203,17 @@ notes =
     }
 
 -- ---- settings: "the first readable header that agrees in them with an earlier readable one", not only with the one just before it
-pub record Settings : Type 0 where
-  pub around-another : settling (readWith 8 0 ∷ readWith 1 0 ∷ readWith 8 0 ∷ []) ≡ Settled (commonBits 8)
-  pub around-a-lost-one : settling (readWith 8 0 ∷ Lost ∷ readWith 8 0 ∷ []) ≡ Settled (commonBits 8)
+pub record Settings (ch : Choices) : Type 0 where
+  pub around-another : settling ch (readWith 8 0 ∷ readWith 1 0 ∷ readWith 8 0 ∷ []) ≡ Settled (commonBits 8)
+  pub around-a-lost-one : settling ch (readWith 8 0 ∷ Lost ∷ readWith 8 0 ∷ []) ≡ Settled (commonBits 8)
   -- the third agrees with the second before the fourth agrees with the first
-  pub first-to-agree : settling (readWith 8 0 ∷ readWith 1 0 ∷ readWith 1 0 ∷ readWith 8 0 ∷ []) ≡ Settled (commonBits 1)
-  pub none-agrees : settling (readWith 8 0 ∷ readWith 1 0 ∷ []) ≡ Unsettled
-  pub one-is-lost : settling (readWith 8 0 ∷ Lost ∷ []) ≡ Unsettled
-  -- "an only multiframe whose header is itself a codeword settles them (house)"
-  pub only-clean : settling (readWith 8 0 ∷ []) ≡ Settled (commonBits 8)
-  pub only-mended : settling (readWith 8 1 ∷ []) ≡ Unsettled
+  pub first-to-agree : settling ch (readWith 8 0 ∷ readWith 1 0 ∷ readWith 1 0 ∷ readWith 8 0 ∷ []) ≡ Settled (commonBits 1)
+  pub none-agrees : settling ch (readWith 8 0 ∷ readWith 1 0 ∷ []) ≡ Unsettled
+  pub one-is-lost : settling ch (readWith 8 0 ∷ Lost ∷ []) ≡ Unsettled
+  -- "an only multiframe whose header is itself a codeword settles them (house)", where the caller asks for it; by default it does not (02, C-20)
+  pub only-clean : settling oneHeaderSettles (readWith 8 0 ∷ []) ≡ Settled (commonBits 8)
+  pub only-by-default : settling byDefault (readWith 8 0 ∷ []) ≡ Unsettled
+  pub only-mended : settling ch (readWith 8 1 ∷ []) ≡ Unsettled
 
 -- 8 is 8 kHz with counter 1, and 1 is 11 kHz with counter 0
 eight-is : 8 ≡ message (set 0 0) 1 0
@@ -225,9 +229,9 @@ apart e =
     let z : _≡_ {A = ℕ} 1 0 = sym a ∙ ap rateOf e ∙ b in
     omega arith
 
-pub settings : Settings
+pub settings : (ch : Choices) → Settings ch
 unfolding settling firstAgreeing onlyOne
-settings =
+settings ch =
     let x = ne-eqb (commonBits 1) (commonBits 8) apart in
     let y = ne-eqb (commonBits 8) (commonBits 1) (λ e. apart (sym e)) in
     let s = eq-eqb (commonBits 8) (commonBits 8) refl in
@@ -236,8 +240,9 @@ settings =
       around-another = rw (x, y, s);
       around-a-lost-one = rw s;
       first-to-agree = rw (x, t);
-      none-agrees = rw x;
-      one-is-lost = refl;
+      none-agrees = two-or-more ch (readWith 8 0 ∷ readWith 1 0 ∷ []) (omega arith) ∙ rw x;
+      one-is-lost = two-or-more ch (readWith 8 0 ∷ Lost ∷ []) (omega arith);
       only-clean = refl;
-      only-mended = refl;
+      only-by-default = refl;
+      only-mended = only-mended ch (record { message = 8; flips = 1 }) (λ e. omega arith);
     }

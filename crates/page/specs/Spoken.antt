@@ -17,6 +17,7 @@ use Rattle.polynomials.specs.Light.{ones-in}
 use Rattle.lists.specs.Tests.{when, true-false}
 use Rattle.lists.specs.Parts.{part}
 use Rattle.layout.specs.Layout.{packetBits, frameIndices, firstFrame, secondFrame, firstPair, multiframePairs, multiframeFrames, multiframeOctets, mostFrames}
+use Rattle.choices.specs.declared.Choices.{Choices}
 use Rattle.settings.specs.declared.Settings.{Settings}
 use Rattle.settings.specs.Settings.{settings, settingsRight}
 use Rattle.frames.specs.Frames.{zeroFrame, speaks}
@@ -123,17 +124,17 @@ longest =
     record { settings = s .0; indices = s .1; multiframes = m; octets = ap (λ (k : ℕ). multiframeOctets * k) m }
 
 -- READS BACK and NAMES THE DAMAGE speak of it
-pub back6119 : R.Back says6119 zeroTables (replicate (needed (says6119 .indices)) 0) (indexFor (multiframesOf says6119)) (reportFor (multiframesOf says6119))
-back6119 =
-    R.reads-back says6119 zeroTables (replicate (needed (says6119 .indices)) 0) (indexFor (multiframesOf says6119)) (reportFor (multiframesOf says6119))
-    (reads-back-met says6119)
+pub back6119 : (ch : Choices) → R.Back ch says6119 zeroTables (replicate (needed (says6119 .indices)) 0) (indexFor (multiframesOf says6119)) (reportFor (multiframesOf says6119))
+back6119 ch =
+    R.reads-back ch says6119 zeroTables (replicate (needed (says6119 .indices)) 0) (indexFor (multiframesOf says6119)) (reportFor (multiframesOf says6119))
+    (reads-back-met ch says6119 (inl (omega (arith, longest .multiframes))))
 
-pub names-says6119 : N.Premises says6119 (hurtImage says6119) zeroTables (indexFor (multiframesOf says6119)) (reportFor (multiframesOf says6119))
-names-says6119 = names-met says6119 (omega (arith, longest .multiframes))
+pub names-says6119 : (ch : Choices) → N.Premises ch says6119 (hurtImage says6119) zeroTables (indexFor (multiframesOf says6119)) (reportFor (multiframesOf says6119))
+names-says6119 ch = names-met says6119 ch (omega (arith, longest .multiframes))
 
-pub named6119 : N.Named says6119 (hurtImage says6119) zeroTables (indexFor (multiframesOf says6119)) (reportFor (multiframesOf says6119))
-named6119 =
-    N.names-the-damage says6119 (hurtImage says6119) zeroTables (indexFor (multiframesOf says6119)) (reportFor (multiframesOf says6119)) names-says6119
+pub named6119 : (ch : Choices) → N.Named ch says6119 (hurtImage says6119) zeroTables (indexFor (multiframesOf says6119)) (reportFor (multiframesOf says6119))
+named6119 ch =
+    N.names-the-damage ch says6119 (hurtImage says6119) zeroTables (indexFor (multiframesOf says6119)) (reportFor (multiframesOf says6119)) (names-says6119 ch)
 
 -- ---- and that damage is in every one of its multiframes: two flips in the header, and its first two pairs
 module _ (u : Utterance) (k : ℕ) (h : k < multiframesOf u) where
@@ -176,34 +177,34 @@ module _ (u : Utterance) (k : ℕ) (h : k < multiframesOf u) where
       ∙ ap (λ (w : ℕ). flipsTo w (sentMessage u k)) (made-word (hurtWord u) (hurtStream u) (multiframesOf u) k h l) ∙ flips-of (sentMessage u k) 3 ∙ e
 
 -- the report of that reading
-abbrev pub report6119 : List ℕ
-report6119 = N.result says6119 (hurtImage says6119) zeroTables (indexFor (multiframesOf says6119)) (reportFor (multiframesOf says6119)) .report
+abbrev pub report6119 : (ch : Choices) → List ℕ
+report6119 ch = N.result ch says6119 (hurtImage says6119) zeroTables (indexFor (multiframesOf says6119)) (reportFor (multiframesOf says6119)) .report
 
 -- it names all of it and no other pair, in each of the 255 multiframes
-pub record Noted (k : ℕ) : Type 0 where
-  pub header : headerNoteIn report6119 k ≡ 2
-  pub first : pairNoteIn report6119 (firstPair k) ≡ 1
-  pub second : pairNoteIn report6119 (firstPair k + 1) ≡ 1
-  pub others : (r : ℕ) → 1 < r → r < multiframePairs → pairNoteIn report6119 (firstPair k + r) ≡ 0
+pub record Noted (ch : Choices) (k : ℕ) : Type 0 where
+  pub header : headerNoteIn (report6119 ch) k ≡ 2
+  pub first : pairNoteIn (report6119 ch) (firstPair k) ≡ 1
+  pub second : pairNoteIn (report6119 ch) (firstPair k + 1) ≡ 1
+  pub others : (r : ℕ) → 1 < r → r < multiframePairs → pairNoteIn (report6119 ch) (firstPair k + r) ≡ 0
 
 -- with tables of zeros no rule makes a pair bad
-unruled : (q : ℕ) → q < pairsOf says6119 → (Touched (imageOf says6119) (hurtImage says6119) q → ⊥) → pairNoteIn report6119 q ≡ 0
-unruled q h n =
-    elim (ℕ-discrete (pairNoteIn report6119 q) 0) [
+unruled : (ch : Choices) (q : ℕ) → q < pairsOf says6119 → (Touched (imageOf says6119) (hurtImage says6119) q → ⊥) → pairNoteIn (report6119 ch) q ≡ 0
+unruled ch q h n =
+    elim (ℕ-discrete (pairNoteIn (report6119 ch) q) 0) [
       | yes e ↦ e
       | no d ↦
-          absurd (true-false (sym (named6119 .names .others q h n .0 d .0) ∙ zero-consistent (frameAt (says6119 .indices) (firstFrame q)) (frameAt (says6119 .indices) (secondFrame q))))
+          absurd (true-false (sym (named6119 ch .names .others q h n .0 d .0) ∙ zero-consistent (frameAt (says6119 .indices) (firstFrame q)) (frameAt (says6119 .indices) (secondFrame q))))
     ]
 
-pub noted6119 : (k : ℕ) → k < 255 → Noted k
-noted6119 k h =
+pub noted6119 : (ch : Choices) (k : ℕ) → k < 255 → Noted ch k
+noted6119 ch k h =
     let l : k < multiframesOf says6119 = omega (arith, longest .multiframes) in
     let z : 12 * k + 0 ≡ 12 * k = omega arith in
     record {
-      header = named6119 .names .flips k l ∙ header-hurt says6119 k l;
-      first = subst (λ (q : ℕ). pairNoteIn report6119 q ≡ 1) z (named6119 .names .damaged (12 * k + 0) (omega arith) .1 (first-hurt says6119 k l));
-      second = named6119 .names .damaged (12 * k + 1) (omega arith) .1 (second-hurt says6119 k l);
-      others = λ r o b. unruled (12 * k + r) (omega arith) (λ t. t (others-whole says6119 k l r o b));
+      header = named6119 ch .names .flips k l ∙ header-hurt says6119 k l;
+      first = subst (λ (q : ℕ). pairNoteIn (report6119 ch) q ≡ 1) z (named6119 ch .names .damaged (12 * k + 0) (omega arith) .1 (first-hurt says6119 k l));
+      second = named6119 ch .names .damaged (12 * k + 1) (omega arith) .1 (second-hurt says6119 k l);
+      others = λ r o b. unruled ch (12 * k + r) (omega arith) (λ t. t (others-whole says6119 k l r o b));
     }
 
 -- ---- and counts it: two bad pairs in each multiframe, 510 in all
@@ -244,7 +245,7 @@ module _ (u : Utterance) where
       subst (λ (n : ℕ). Count Bad n (2 * suc k)) e
       (subst (Count Bad (suc (suc 10) + 12 * k)) f (hurt-on k 10 (omega arith) (omega arith) (hurt-count k (omega arith))))
 
-pub bad6119 : named6119 .given .bad ≡ 510
-bad6119 =
-    count-once (Bad says6119) (pairsOf says6119) (named6119 .given .bad) (2 * multiframesOf says6119) (named6119 .names .counted) (hurt-count says6119 (multiframesOf says6119) (omega arith))
+pub bad6119 : (ch : Choices) → named6119 ch .given .bad ≡ 510
+bad6119 ch =
+    count-once (Bad says6119) (pairsOf says6119) (named6119 ch .given .bad) (2 * multiframesOf says6119) (named6119 ch .names .counted) (hurt-count says6119 (multiframesOf says6119) (omega arith))
     ∙ omega (arith, longest .multiframes)

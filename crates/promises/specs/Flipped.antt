@@ -20,6 +20,7 @@ use Rattle.lists.specs.Tests.{when, by-test, true-false}
 use Rattle.lists.specs.Parts.{over}
 use Rattle.lists.specs.Rows.{each, length-each, each-at, joined, length-joined, joined-part, same-joined}
 use Rattle.layout.specs.Layout.{frameIndices, dataBits, packetBits, multiframePairs, streamOctets, indexOctets, reportOctets, multiframeOf, firstPair, firstFrame, secondFrame}
+use Rattle.choices.specs.declared.Choices.{Choices}
 use Rattle.consistency.specs.Tables.{Tables, zeroTables}
 use Rattle.settings.specs.Settings.{settings, settingsRight}
 use Rattle.crc.specs.Crc.{right, flip, Damaged}
@@ -327,7 +328,7 @@ pub usable : (u : Utterance) → Usable (sentCommon u)
 usable u = record { rate = λ e. rate-not-2 u (sym (rate-sent u) ∙ e); exp = exp-sent u }
 
 -- ---- a reading with any headers that settle settings, and a good pair
-module _ (u : Utterance) (s : List ℕ) (size : length s ≡ length (imageOf u)) (syncs : (k : ℕ) → k < multiframesOf u → syncIn s k ≡ syncIn (imageOf u) k)
+module _ (ch : Choices) (u : Utterance) (s : List ℕ) (size : length s ≡ length (imageOf u)) (syncs : (k : ℕ) → k < multiframesOf u → syncIn s k ≡ syncIn (imageOf u) k)
     (tables : Tables) (index report : List ℕ) (lent : Lent (multiframesOf u) tables index report) (c : ℕ) where
   abbrev m : ℕ
   m = multiframesOf u
@@ -336,15 +337,15 @@ module _ (u : Utterance) (s : List ℕ) (size : length s ≡ length (imageOf u))
   ns = receivedNotes s (rowOf m) tables
 
   -- it succeeds, and this is what it gives
-  pub reads-settled : settling (readings s (rowOf (multiframesOf u))) ≡ Settled c → Usable c → Good (receivedNotes s (rowOf (multiframesOf u)) tables)
-      → reading s tables index report
+  pub reads-settled : settling ch (readings s (rowOf (multiframesOf u))) ≡ Settled c → Usable c → Good (receivedNotes s (rowOf (multiframesOf u)) tables)
+      → reading ch s tables index report
       ≡ outcome (Read (summary s (rowOf (multiframesOf u)) (receivedNotes s (rowOf (multiframesOf u)) tables) c))
       (over index 0 (indexOctets * length (rowOf (multiframesOf u))) (indexPart s (rowOf (multiframesOf u)) (receivedNotes s (rowOf (multiframesOf u)) tables)))
       (over report 0 (reportOctets * length (rowOf (multiframesOf u))) (reportPart s (rowOf (multiframesOf u)) (receivedNotes s (rowOf (multiframesOf u)) tables) c))
   reads-settled settled usable good =
       let rows : length (rowOf m) ≡ m = every-length 0 m in
       reads-as s m (few-multiframes (u .settings) (u .indices) (is-accepted u .sizes)) (size ∙ length-image (u .settings) (u .indices) m)
-      (λ k h. syncs k h ∙ image-sync (u .settings) (u .indices) m k h) tables index report c (omega arith) lent
+      (λ k h. syncs k h ∙ image-sync (u .settings) (u .indices) m k h) ch tables index report c (omega arith) lent
       record {
         settles = settled;
         usable = usable;
@@ -356,8 +357,8 @@ module _ (u : Utterance) (s : List ℕ) (size : length s ≡ length (imageOf u))
       }
 
 -- ---- tables of zeros, and just enough room
-abbrev pub zeroRead : Utterance → List ℕ → Outcome
-zeroRead u s = reading s zeroTables (indexFor (multiframesOf u)) (reportFor (multiframesOf u))
+abbrev pub zeroRead : (ch : Choices) → Utterance → List ℕ → Outcome
+zeroRead ch u s = reading ch s zeroTables (indexFor (multiframesOf u)) (reportFor (multiframesOf u))
 
 abbrev pub zeroNotes : Utterance → List ℕ → List ℕ
 zeroNotes u s = receivedNotes s (rowOf (multiframesOf u)) zeroTables
@@ -396,10 +397,10 @@ module _ (u : Utterance) (s : List ℕ) (q : ℕ) (whole : packetIn s q ≡ pack
   pub zero-not-bad : BadPair u s zeroTables q → ⊥
   zero-not-bad b = ⊎-elim (λ t. t whole) never-ruled b
 
-  pub zero-unnamed : q < pairsOf u → N.Wider u s zeroTables (indexFor (multiframesOf u)) (reportFor (multiframesOf u)) → pairNoteIn (zeroRead u s .report) q ≡ 0
-  zero-unnamed h p =
-      let x = N.names-wider u s zeroTables (indexFor (multiframesOf u)) (reportFor (multiframesOf u)) p in
-      elim (ℕ-discrete (pairNoteIn (zeroRead u s .report) q) 0) [
+  pub zero-unnamed : (ch : Choices) → q < pairsOf u → N.Wider ch u s zeroTables (indexFor (multiframesOf u)) (reportFor (multiframesOf u)) → pairNoteIn (zeroRead ch u s .report) q ≡ 0
+  zero-unnamed ch h p =
+      let x = N.names-wider ch u s zeroTables (indexFor (multiframesOf u)) (reportFor (multiframesOf u)) p in
+      elim (ℕ-discrete (pairNoteIn (zeroRead ch u s .report) q) 0) [
         | yes y ↦ y
         | no n ↦ absurd (never-ruled (x .names .others q h (λ t. t whole) .0 n))
       ]

@@ -10,6 +10,7 @@ use lib.ListN.{length}
 use Rattle.lists.specs.Tests.{when}
 use Rattle.lists.specs.Parts.{over}
 use Rattle.layout.specs.Layout.{multiframeFrames, indexOctets, reportOctets, pairOf, firstPair}
+use Rattle.choices.specs.declared.Choices.{Choices}
 use Rattle.consistency.specs.Tables.{Tables}
 use Rattle.frames.specs.Frames.{allZero, zeroFrame}
 use Rattle.cutting.specs.Laws.{every-length}
@@ -36,9 +37,9 @@ same-place l r i zero same = refl
 same-place l r i (suc n) same =
     ap₂ (λ (t : Bool) (x : ℕ). when t x (suc n)) (same n (omega arith)) (same-place l r i n (λ k h. same k (omega arith)))
 
-module _ (u : Utterance) (s : List ℕ) (tables : Tables) (index report : List ℕ) (p : N.Wider u s tables index report) where
+module _ (ch : Choices) (u : Utterance) (s : List ℕ) (tables : Tables) (index report : List ℕ) (p : N.Wider ch u s tables index report) where
   abbrev result : Outcome
-  result = reading s tables index report
+  result = reading ch s tables index report
 
   -- a pair that is not named is as it was sent
   unnamed : (q : ℕ) → q < pairsOf u → pairNoteIn (result .report) q ≡ 0 → packetIn s q ≡ packetIn (imageOf u) q
@@ -47,18 +48,18 @@ module _ (u : Utterance) (s : List ℕ) (tables : Tables) (index report : List �
       by : Fate u s (p .damage) q h → packetIn s q ≡ packetIn (imageOf u) q
       by (whole e r) = e ∙ sym (image-packet (u .settings) (u .indices) (multiframesOf u) q h)
       by (hit t r) =
-          let y : _≡_ {A = ℕ} 0 1 = sym z ∙ N.pair-note u s tables index report p q h ∙ touched-note u s (p .damage) tables q h t in
+          let y : _≡_ {A = ℕ} 0 1 = sym z ∙ N.pair-note ch u s tables index report p q h ∙ touched-note u s (p .damage) tables q h t in
           absurd (omega arith)
 
   -- HEARD WHOLE: "frames, then zeros, speech = n, end = 1"; the header notes are the flips, three for a lost one
-  pub heard-whole : ((q : ℕ) → q < pairsOf u → pairNoteIn (reading s tables index report .report) q ≡ 0)
-      → reading s tables index report
+  pub heard-whole : ((q : ℕ) → q < pairsOf u → pairNoteIn (reading ch s tables index report .report) q ≡ 0)
+      → reading ch s tables index report
       ≡ outcome (Read (spoken u)) (over index 0 (indexOctets * multiframesOf u) (padded u)) (over report 0 (reportOctets * multiframesOf u) (mendedReport u s))
-  heard-whole none = reads-undamaged u s (p .damage) (λ q h. unnamed q h (none q h)) (p .headers) tables index report (p .lent)
+  heard-whole none = reads-undamaged ch u s (p .damage) (λ q h. unnamed q h (none q h)) (p .headers) tables index report (p .lent)
 
   -- ---- "the last multiframe wholly unnamed"
   abbrev pub LastUnnamed : Type 0
-  LastUnnamed = (q : ℕ) → firstPair (multiframesOf u - 1) ≤ q → q < pairsOf u → pairNoteIn (reading s tables index report .report) q ≡ 0
+  LastUnnamed = (q : ℕ) → firstPair (multiframesOf u - 1) ≤ q → q < pairsOf u → pairNoteIn (reading ch s tables index report .report) q ≡ 0
 
   abbrev m : ℕ
   m = multiframesOf u
@@ -74,8 +75,8 @@ module _ (u : Utterance) (s : List ℕ) (tables : Tables) (index report : List �
   last-zero none k l h =
       let q : k / 2 < pairsOf u = omega arith in
       ap allZero
-      (N.index-frame u s tables index report p k h
-      (sym (N.pair-note u s tables index report p (pairOf k) q) ∙ none (pairOf k) (omega arith) q)
+      (N.index-frame ch u s tables index report p k h
+      (sym (N.pair-note ch u s tables index report p (pairOf k) q) ∙ none (pairOf k) (omega arith) q)
       ∙ sym (padded-frame u k h))
 
   last-speech : LastUnnamed → speechOf (length (rowOf m)) all ≡ frameCount (u .indices)
@@ -91,10 +92,10 @@ module _ (u : Utterance) (s : List ℕ) (tables : Tables) (index report : List �
       ∙ ap (λ (t : Bool). when t 1 0) (last-zero none (multiframeFrames * m - 1) (omega arith) (omega arith)) ∙ end-is-1 u
 
   -- LAST HEARD: speech and end are as sent, whatever was named before
-  pub last-heard : LastUnnamed → (given : Summary) → reading s tables index report .answer ≡ Read given
+  pub last-heard : LastUnnamed → (given : Summary) → reading ch s tables index report .answer ≡ Read given
       → (given .speech ≡ frameCount (u .indices)) × (given .end ≡ 1)
   last-heard none given e =
       let r : Read given ≡ Read (summary s (rowOf m) (receivedNotes s (rowOf m) tables) (sentCommon u)) =
-      sym e ∙ ap (λ (o : Outcome). o .answer) (N.read-is u s tables index report p) in
+      sym e ∙ ap (λ (o : Outcome). o .answer) (N.read-is ch u s tables index report p) in
       let g : given ≡ summary s (rowOf m) (receivedNotes s (rowOf m) tables) (sentCommon u) = cc in
       (ap (λ (x : Summary). x .speech) g ∙ last-speech none, ap (λ (x : Summary). x .end) g ∙ last-end none)

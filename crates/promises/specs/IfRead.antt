@@ -2,8 +2,8 @@
 -- says. The premises on headers and on a good pair, which no caller can see, follow from the success: 16 and 20 would have come else.
 -- Assumes nothing.
 use mathlib.Core.Path.{_≡_, sym, ap, _∙_, subst}
-use mathlib.Core.List.{List, [], _∷_}
-use mathlib.Core.Logic.{inl, inr}
+use mathlib.Core.List.{List, []}
+use mathlib.Core.Logic.{inl, inr, ⊎-elim}
 use Prim.Native.Nat.{ℕ, _*_, _≤_, _<_}
 use native.Mathlib.Decide.{ℕ-discrete, decLt}
 use native.Mathlib.Omega.{arith}
@@ -11,6 +11,7 @@ use lib.ListN.{length, getD}
 use Rattle.lists.specs.Tests.{true-false}
 use Rattle.lists.specs.Parts.{over}
 use Rattle.layout.specs.Layout.{indexOctets, reportOctets, sync}
+use Rattle.choices.specs.declared.Choices.{Choices}
 use Rattle.consistency.specs.Tables.{Tables}
 use Rattle.cutting.specs.Cutting.{Cutting, cutting}
 use Rattle.cutting.specs.Laws.{every-length}
@@ -30,7 +31,7 @@ use Rattle.writer.specs.Writing.{frameCount}
 use Rattle.writer.specs.Laws.{few-multiframes}
 use Rattle.writer.specs.Utterance.{Utterance, multiframesOf, pairsOf, imageOf, is-accepted}
 use Rattle.demands.specs.Damage.{DamageUpTo, headerFlips}
-use Rattle.demands.specs.Headers.{Settling, settled-readable, touched-unsettles}
+use Rattle.demands.specs.Headers.{sent-enough, Settling, settled-readable, touched-unsettles}
 use Rattle.demands.specs.Received.{BadPair, Tells, is-so, not-so, tells-bad}
 use Rattle.demands.specs.Whole.{rowOf, cut-is, pairNoteIn}
 use Rattle.demands.specs.NamesTheDamage as N
@@ -38,13 +39,13 @@ use Rattle.demands.specs.ReadsBack.{spoken, padded, mendedReport}
 use Rattle.demands.specs.WritesAgain as A
 use Rattle.promises.specs.Heard as H
 
-module _ (u : Utterance) (s : List ℕ) (d : DamageUpTo 3 (multiframesOf u) (imageOf u) s) (tables : Tables) (index report : List ℕ) (given : Summary)
-    (e : reading s tables index report .answer ≡ Read given) where
+module _ (ch : Choices) (u : Utterance) (s : List ℕ) (d : DamageUpTo 3 (multiframesOf u) (imageOf u) s) (tables : Tables) (index report : List ℕ) (given : Summary)
+    (e : reading ch s tables index report .answer ≡ Read given) where
   abbrev m : ℕ
   m = multiframesOf u
 
-  w : A.WasRead s tables index report [] given
-  w = A.was-read s tables index report [] given e
+  w : A.WasRead ch s tables index report [] given
+  w = A.was-read ch s tables index report [] given e
 
   syncs : (k : ℕ) → k < m → syncIn s k ≡ sync
   syncs k h = d .syncs k h ∙ image-sync (u .settings) (u .indices) m k h
@@ -57,18 +58,18 @@ module _ (u : Utterance) (s : List ℕ) (d : DamageUpTo 3 (multiframesOf u) (ima
   rows : length (cutting s .places) ≡ m
   rows = ap length cut ∙ every-length 0 m
 
-  settled : settling (readings s (rowOf m)) ≡ Settled (w .common)
-  settled = sym (ap (λ (ps : List ℕ). settling (readings s ps)) cut) ∙ w .reader-accepts .fitting .settles
+  settled : settling ch (readings s (rowOf m)) ≡ Settled (w .common)
+  settled = sym (ap (λ (ps : List ℕ). settling ch (readings s ps)) cut) ∙ w .reader-accepts .fitting .settles
 
   -- what settled them
-  heads : Settling u s
+  heads : Settling ch u s
   heads =
       elim (decLt m 2) [
-        | no n ↦ inl (settled-readable u s (d .headers) (w .common) (omega arith) settled)
+        | no n ↦ inl (settled-readable u s (d .headers) ch (w .common) (omega arith) settled)
         | yes l ↦
             elim (ℕ-discrete (headerFlips (imageOf u) s 0) 0) [
-              | yes z ↦ inr (omega arith, z)
-              | no n ↦ let x = sym (touched-unsettles u s (d .headers) (omega arith) n) ∙ settled in let z : _≡_ {A = ℕ} 0 1 = cc in absurd (omega arith)
+              | yes z ↦ ⊎-elim (λ two. absurd (omega arith)) (λ asked. inr (asked, (omega arith, z))) (sent-enough ch u s (w .common) settled)
+              | no n ↦ let x = sym (touched-unsettles u s (d .headers) ch (omega arith) n) ∙ settled in let z : _≡_ {A = ℕ} 0 1 = cc in absurd (omega arith)
             ]
       ]
 
@@ -97,7 +98,7 @@ module _ (u : Utterance) (s : List ℕ) (d : DamageUpTo 3 (multiframesOf u) (ima
       by (not-so n t) = n b
 
   -- so the premises hold
-  pub wider-if-read : N.Wider u s tables index report
+  pub wider-if-read : N.Wider ch u s tables index report
   wider-if-read = record {
     damage = d;
     headers = heads;
@@ -113,22 +114,22 @@ module _ (u : Utterance) (s : List ℕ) (d : DamageUpTo 3 (multiframesOf u) (ima
   }
 
   abbrev result : Outcome
-  result = reading s tables index report
+  result = reading ch s tables index report
 
   -- NAMES THE DAMAGE, IF IT IS READ
-  pub names-if-read : N.Names u s tables given (reading s tables index report .index) (reading s tables index report .report)
+  pub names-if-read : N.Names u s tables given (reading ch s tables index report .index) (reading ch s tables index report .report)
   names-if-read =
-      let n = N.names-wider u s tables index report wider-if-read in
+      let n = N.names-wider ch u s tables index report wider-if-read in
       let r : Read (n .given) ≡ Read given = sym (n .succeeds) ∙ e in
       let g : n .given ≡ given = cc in
       subst (λ (x : Summary). N.Names u s tables x (result .index) (result .report)) g (n .names)
 
   -- HEARD WHOLE, IF IT IS READ: no pair named
-  pub heard-if-read : ((q : ℕ) → q < pairsOf u → pairNoteIn (reading s tables index report .report) q ≡ 0)
-      → reading s tables index report
+  pub heard-if-read : ((q : ℕ) → q < pairsOf u → pairNoteIn (reading ch s tables index report .report) q ≡ 0)
+      → reading ch s tables index report
       ≡ outcome (Read (spoken u)) (over index 0 (indexOctets * multiframesOf u) (padded u)) (over report 0 (reportOctets * multiframesOf u) (mendedReport u s))
-  heard-if-read = H.heard-whole u s tables index report wider-if-read
+  heard-if-read = H.heard-whole ch u s tables index report wider-if-read
 
   -- LAST HEARD, IF IT IS READ: no pair of the last multiframe named
-  pub last-if-read : H.LastUnnamed u s tables index report wider-if-read → (given .speech ≡ frameCount (u .indices)) × (given .end ≡ 1)
-  last-if-read none = H.last-heard u s tables index report wider-if-read none given e
+  pub last-if-read : H.LastUnnamed ch u s tables index report wider-if-read → (given .speech ≡ frameCount (u .indices)) × (given .end ≡ 1)
+  last-if-read none = H.last-heard ch u s tables index report wider-if-read none given e

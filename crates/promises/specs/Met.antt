@@ -10,13 +10,14 @@ use native.Mathlib.Decide.{ℕ-discrete}
 use native.Mathlib.Omega.{arith}
 use lib.Bits.{bitXor}
 use lib.Count.{ones}
-use lib.Dec.{eqb, ltb, lit<}
-use lib.ListN.{length, getD, replicate, length-replicate}
+use lib.Dec.{eqb, ltb, lit<, lit≤}
+use lib.ListN.{take, length, getD, replicate, length-replicate}
 use borrow.Author.Tests.{ne-eqb, lt-ltb, le-ltb}
 use Rattle.lists.specs.Tests.{when, by-test}
 use Rattle.lists.specs.Parts.{over}
 use Rattle.lists.specs.Rows.{same-joined}
-use Rattle.layout.specs.Layout.{widths, frameIndices, dataBits, packetBits, multiframePairs, indexOctets, reportOctets, firstFrame, secondFrame, firstPair}
+use Rattle.layout.specs.Layout.{multiframeOctets, widths, frameIndices, dataBits, packetBits, multiframePairs, indexOctets, reportOctets, firstFrame, secondFrame, firstPair}
+use Rattle.choices.specs.declared.Choices.{Choices}
 use Rattle.consistency.specs.Tables.{Tables, zeroTables}
 use Rattle.settings.specs.declared.Settings.{Settings}
 use Rattle.settings.specs.Settings.{settings}
@@ -32,7 +33,7 @@ use Rattle.message.specs.Message.{message}
 use Rattle.header.specs.Reading.{decodedAs}
 use Rattle.header.specs.declared.Header.the-variants.{Codeword, Lost}
 use Rattle.settling.specs.Settling.{readings, settling, headerNote}
-use Rattle.settling.specs.Laws.{two-settle}
+use Rattle.settling.specs.Laws.{Enough, two-settle}
 use Rattle.carrier.specs.Carrier.{received, pairCount}
 use Rattle.settling.specs.declared.Settlement.the-variants.{Settled}
 use Rattle.notes.specs.Laws.{length-notes}
@@ -45,6 +46,7 @@ use Rattle.image.specs.Laws.{image-packet}
 use Rattle.writer.specs.Writing.{verdict, roomAnswer, firstFrom, frameCount, needed}
 use Rattle.writer.specs.Utterance.{Utterance, multiframesOf, pairsOf, imageOf}
 use Rattle.writer.specs.declared.Answer.the-variants.{Written}
+use Rattle.recordings.specs.CutOff as C
 use Rattle.demands.specs.Damage.{DamageUpTo, Damage, headerBits, Touched, differs, headerFlips, sentMessage, header-near, header-read}
 use Rattle.demands.specs.Damages.{unharmed}
 use Rattle.demands.specs.Headers.{sentCommon, others-sent, TwoReadable}
@@ -119,14 +121,14 @@ incident u f two = record {
 }
 
 -- a second header that is read as one of 11 kHz is harmless alone: the reading succeeds with what was sent, and its note has 8 added
-pub record Harmless (u : Utterance) (s : List ℕ) (note : ℕ) : Type 0 where
+pub record Harmless (ch : Choices) (u : Utterance) (s : List ℕ) (note : ℕ) : Type 0 where
   pub given : Summary
-  pub succeeds : zeroRead u s .answer ≡ Read given
+  pub succeeds : zeroRead ch u s .answer ≡ Read given
   pub sent : M.AsSent u s given
-  pub noted : headerNoteIn (zeroRead u s .report) 1 ≡ note + 8
+  pub noted : headerNoteIn (zeroRead ch u s .report) 1 ≡ note + 8
 
 -- of three multiframes or more, with at most two flips in the other headers, tables of zeros and one packet that is right
-module _ (u : Utterance) (b c : ℕ) (lb : b < 2 ^ 32) (lc : c < 2 ^ 32) (f : ℕ → List Bool) (eight : u .settings .rate ≡ 0) (three : 3 ≤ multiframesOf u) (few : ones c ≤ 2)
+module _ (ch : Choices) (u : Utterance) (b c : ℕ) (lb : b < 2 ^ 32) (lc : c < 2 ^ 32) (f : ℕ → List Bool) (eight : u .settings .rate ≡ 0) (three : 3 ≤ multiframesOf u) (few : ones c ≤ 2)
     (n : ℕ) (near : ones (bitXor b rateBits) ≡ n) (mended : n ≤ 2) (q : ℕ) (within : q < pairsOf u) (whole : right dataBits (packetIn (flipped u (inSecond b c) f) q) ≡ true) where
   abbrev s : List ℕ
   s = flipped u (inSecond b c) f
@@ -138,9 +140,9 @@ module _ (u : Utterance) (b c : ℕ) (lb : b < 2 ^ 32) (lc : c < 2 ^ 32) (f : �
   others k h n = omega (arith, flips-in-others u b c lb lc f k h n)
 
   -- the first header and the third settle the settings
-  settled : settling (readings s (rowOf m)) ≡ Settled (sentCommon u)
+  settled : settling ch (readings s (rowOf m)) ≡ Settled (sentCommon u)
   settled =
-      two-settle (readings s (rowOf m)) (sentCommon u) 1 (others-sent u s 1 (λ k h n. omega (arith, others k h n))) 0 2 (lit< tt)
+      two-settle (readings s (rowOf m)) (sentCommon u) 1 (others-sent u s 1 (λ k h n. omega (arith, others k h n))) ch 0 2 (lit< tt)
       (has-common u s 0 (omega arith) (others 0 (omega arith) (λ e. omega arith))) (has-common u s 2 (omega arith) (others 2 (omega arith) (λ e. omega arith)))
 
   -- the second is read as one of 11 kHz
@@ -150,18 +152,18 @@ module _ (u : Utterance) (b c : ℕ) (lb : b < 2 ^ 32) (lc : c < 2 ^ 32) (f : �
   second : getD (readings s (rowOf m)) 1 Lost ≡ Codeword (decodedAs (wordIn s 1) (sentMessage (at11 u) 1))
   second = header-at s m 1 (omega arith) ∙ header-read (at11 u) s 1 (omega arith) (omega (arith, far-11))
 
-  read-is : zeroRead u s
+  read-is : zeroRead ch u s
       ≡ outcome (Read (summary s (rowOf m) (zeroNotes u s) (sentCommon u))) (over (indexFor m) 0 (indexOctets * length (rowOf m)) (indexPart s (rowOf m) (zeroNotes u s)))
       (over (reportFor m) 0 (reportOctets * length (rowOf m)) (reportPart s (rowOf m) (zeroNotes u s) (sentCommon u)))
   read-is =
-      reads-settled u s (flipped-size u (inSecond b c) f) (flipped-syncs u (inSecond b c) f) zeroTables (indexFor m) (reportFor m) (lent-zeros m) (sentCommon u)
+      reads-settled ch u s (flipped-size u (inSecond b c) f) (flipped-syncs u (inSecond b c) f) zeroTables (indexFor m) (reportFor m) (lent-zeros m) (sentCommon u)
       settled (usable u) (good-pair s m q within whole)
 
-  pub harmless : Harmless u (flipped u (inSecond b c) f) n
+  pub harmless : Harmless ch u (flipped u (inSecond b c) f) n
   harmless = record {
     given = summary s (rowOf m) (zeroNotes u s) (sentCommon u);
     succeeds = ap (λ (o : Outcome). o .answer) read-is;
-    sent = M.never-misled u s (misled-met u b c lb lc f (omega arith) (omega arith)) zeroTables (indexFor m) (reportFor m)
+    sent = M.never-misled ch u s (misled-met u b c lb lc f (omega arith) (omega arith)) zeroTables (indexFor m) (reportFor m)
         (summary s (rowOf m) (zeroNotes u s) (sentCommon u)) (ap (λ (o : Outcome). o .answer) read-is);
     noted = ap (λ (o : Outcome). headerNoteIn (o .report) 1) read-is
         ∙ header-note-is s (rowOf m) (zeroNotes u s) (reportFor m) (sentCommon u) (reportOctets * length (rowOf m)) (length-notes (received s (rowOf m)) (pairCount (rowOf m)) zeroTables) 1
@@ -170,11 +172,11 @@ module _ (u : Utterance) (b c : ℕ) (lb : b < 2 ^ 32) (lc : c < 2 ^ 32) (f : �
   }
 
 -- so the incident's header: 48 frames, two flips in each other header, any bits for the first packet, and all other packets as they were sent
-pub incident-48 : (p : List Bool) → length p ≡ packetBits → Harmless says48 (flipped says48 (inSecond rateBits 3) (butOne says48 0 p)) 0
-incident-48 p size =
+pub incident-48 : (ch : Choices) (p : List Bool) → length p ≡ packetBits → Harmless ch says48 (flipped says48 (inSecond rateBits 3) (butOne says48 0 p)) 0
+incident-48 ch p size =
     let f = butOne says48 0 p in
     let h : 1 < pairsOf says48 = omega (arith, three-multiframes) in
-    harmless says48 rateBits 3 (lit< tt) (lit< tt) f rate-48 (omega (arith, three-multiframes)) (le-of-eq two-flipped) 0 none-flipped (omega arith) 1 h
+    harmless ch says48 rateBits 3 (lit< tt) (lit< tt) f rate-48 (omega (arith, three-multiframes)) (le-of-eq two-flipped) 0 none-flipped (omega arith) 1 h
     (ap (right dataBits) (packets-are says48 (inSecond rateBits 3) f (in-second-lt rateBits 3 (lit< tt) (lit< tt)) (length-but-one says48 0 p size) 1 h ∙ elsewhere says48 0 p 1 (λ e. omega arith))
     ∙ packetOf-good (says48 .indices) 1)
 
@@ -191,12 +193,13 @@ module _ (u : Utterance) (single : multiframesOf u ≡ 1) (e : ℕ) (small : e <
 pub only-five : (f : ℕ → List Bool) → M.Premises says1 (flipped says1 (λ k. 31) f) × (headerFlips (imageOf says1) (flipped says1 (λ k. 31) f) 0 ≡ 5)
 only-five f = (only-met says1 refl 31 (lit< tt) f (le-of-eq five-flipped), flips-are says1 (λ k. 31) f (λ k. lit< tt) 0 (lit< tt) ∙ five-flipped)
 
--- ---- TRUSTED: every image as it was written is read without a warning, whatever the tables; the theorem says that no other damaged image is
-module _ (u : Utterance) (tables : Tables) (index report : List ℕ) (lent : Lent (multiframesOf u) tables index report) where
-  pub without-warning : T.WithoutWarning (imageOf u) tables index report (spoken u)
+-- ---- TRUSTED: every image as it was written, of two multiframes or more or by the old rule, is read without a warning, whatever the tables; the
+-- theorem says that no other damaged image is
+module _ (ch : Choices) (u : Utterance) (sent : Enough ch (multiframesOf u)) (tables : Tables) (index report : List ℕ) (lent : Lent (multiframesOf u) tables index report) where
+  pub without-warning : T.WithoutWarning ch (imageOf u) tables index report (spoken u)
   without-warning =
       let n = reportOctets * multiframesOf u in
-      let r = reads-image u tables index report lent in
+      let r = reads-image ch u sent tables index report lent in
       record {
         succeeds = ap (λ (o : Outcome). o .answer) r;
         notes-0 = λ i h.
@@ -204,9 +207,9 @@ module _ (u : Utterance) (tables : Tables) (index report : List ℕ) (lent : Len
       }
 
 -- both premises, with tables of zeros
-pub trusted-met : (u : Utterance) → Damage (multiframesOf u) (imageOf u) (imageOf u)
-    × T.WithoutWarning (imageOf u) zeroTables (indexFor (multiframesOf u)) (reportFor (multiframesOf u)) (spoken u)
-trusted-met u = (unharmed u, without-warning u zeroTables (indexFor (multiframesOf u)) (reportFor (multiframesOf u)) (lent-zeros (multiframesOf u)))
+pub trusted-met : (ch : Choices) (u : Utterance) → Enough ch (multiframesOf u) → Damage (multiframesOf u) (imageOf u) (imageOf u)
+    × T.WithoutWarning ch (imageOf u) zeroTables (indexFor (multiframesOf u)) (reportFor (multiframesOf u)) (spoken u)
+trusted-met ch u sent = (unharmed u, without-warning ch u sent zeroTables (indexFor (multiframesOf u)) (reportFor (multiframesOf u)) (lent-zeros (multiframesOf u)))
 
 -- the premises of trusted-by-one alone leave more: one header has five flips and the others seven, and every pair is damaged
 abbrev pub fiveElse : ℕ → ℕ
@@ -258,22 +261,22 @@ abbrev pub lostOne : Utterance → List ℕ
 lostOne u = flipped u lostSecond (packetOf (u .indices))
 
 -- so it is heard whole: the frames, then zeros, speech n, end 1; and the notes of the headers are 2, 3 and 1
-pub record Heard (u : Utterance) (tables : Tables) (index report : List ℕ) : Type 0 where
-  pub succeeds : reading (lostOne u) tables index report .answer ≡ Read (spoken u)
-  pub frames : reading (lostOne u) tables index report .index ≡ over index 0 (indexOctets * multiframesOf u) (padded u)
-  pub first : headerNoteIn (reading (lostOne u) tables index report .report) 0 ≡ 2
-  pub second : headerNoteIn (reading (lostOne u) tables index report .report) 1 ≡ 3
-  pub third : headerNoteIn (reading (lostOne u) tables index report .report) 2 ≡ 1
+pub record Heard (ch : Choices) (u : Utterance) (tables : Tables) (index report : List ℕ) : Type 0 where
+  pub succeeds : reading ch (lostOne u) tables index report .answer ≡ Read (spoken u)
+  pub frames : reading ch (lostOne u) tables index report .index ≡ over index 0 (indexOctets * multiframesOf u) (padded u)
+  pub first : headerNoteIn (reading ch (lostOne u) tables index report .report) 0 ≡ 2
+  pub second : headerNoteIn (reading ch (lostOne u) tables index report .report) 1 ≡ 3
+  pub third : headerNoteIn (reading ch (lostOne u) tables index report .report) 2 ≡ 1
 
 -- whatever the tables
-module _ (u : Utterance) (three : 3 ≤ multiframesOf u) (tables : Tables) (index report : List ℕ) (lent : Lent (multiframesOf u) tables index report) where
+module _ (ch : Choices) (u : Utterance) (three : 3 ≤ multiframesOf u) (tables : Tables) (index report : List ℕ) (lent : Lent (multiframesOf u) tables index report) where
   damage-3 : DamageUpTo 3 (multiframesOf u) (imageOf u) (lostOne u)
   damage-3 = sent-damage u lostSecond lost-lt 3 (λ k h. lost-three k)
 
   not-one-bad : (q : ℕ) → q < pairsOf u → BadPair u (lostOne u) tables q → ⊥
-  not-one-bad = never-bad u (lostOne u) damage-3 (sent-whole u lostSecond lost-lt) (inl (two-readable u three (packetOf (u .indices)))) tables index report lent
+  not-one-bad = never-bad ch u (lostOne u) damage-3 (sent-whole u lostSecond lost-lt) (inl (two-readable u three (packetOf (u .indices)))) tables index report lent
 
-  pub heard-met : N.Wider u (lostOne u) tables index report
+  pub heard-met : N.Wider ch u (lostOne u) tables index report
   heard-met = record {
     damage = damage-3;
     headers = inl (two-readable u three (packetOf (u .indices)));
@@ -283,19 +286,19 @@ module _ (u : Utterance) (three : 3 ≤ multiframesOf u) (tables : Tables) (inde
     lent = lent;
   }
 
-  named : N.Named u (lostOne u) tables index report
-  named = N.names-wider u (lostOne u) tables index report heard-met
+  named : N.Named ch u (lostOne u) tables index report
+  named = N.names-wider ch u (lostOne u) tables index report heard-met
 
-  pub none-named : (q : ℕ) → q < pairsOf u → pairNoteIn (reading (lostOne u) tables index report .report) q ≡ 0
+  pub none-named : (q : ℕ) → q < pairsOf u → pairNoteIn (reading ch (lostOne u) tables index report .report) q ≡ 0
   none-named q h =
-      elim (ℕ-discrete (pairNoteIn (reading (lostOne u) tables index report .report) q) 0) [
+      elim (ℕ-discrete (pairNoteIn (reading ch (lostOne u) tables index report .report) q) 0) [
         | yes y ↦ y
         | no n ↦ absurd (not-one-bad q h (inr (named .names .others q h (λ t. t (sent-whole u lostSecond lost-lt q h)) .0 n)))
       ]
 
-  pub heard : Heard u tables index report
+  pub heard : Heard ch u tables index report
   heard =
-      let r = S.heard-whole u (lostOne u) tables index report heard-met none-named in
+      let r = S.heard-whole ch u (lostOne u) tables index report heard-met none-named in
       let note = named .names .flips in
       let flips = lost-flips u three (packetOf (u .indices)) in
       record {
@@ -307,8 +310,8 @@ module _ (u : Utterance) (three : 3 ≤ multiframesOf u) (tables : Tables) (inde
       }
 
 -- so of 48 frames
-pub heard-48 : Heard says48 zeroTables (indexFor (multiframesOf says48)) (reportFor (multiframesOf says48))
-heard-48 = heard says48 (le-of-eq (sym three-multiframes)) zeroTables (indexFor (multiframesOf says48)) (reportFor (multiframesOf says48)) (lent-zeros (multiframesOf says48))
+pub heard-48 : (ch : Choices) → Heard ch says48 zeroTables (indexFor (multiframesOf says48)) (reportFor (multiframesOf says48))
+heard-48 ch = heard ch says48 (le-of-eq (sym three-multiframes)) zeroTables (indexFor (multiframesOf says48)) (reportFor (multiframesOf says48)) (lent-zeros (multiframesOf says48))
 
 -- ---- NAMES THE DAMAGE WIDER: the same headers, a burst in the first packet of every multiframe, and two flips at distance 14 in the second
 module _ (u : Utterance) (q : ℕ) where
@@ -348,13 +351,13 @@ abbrev pub allHurt : Utterance → List ℕ
 allHurt u = flipped u lostSecond (hurtPacket u)
 
 -- so its damage is named: the lost header by 3, the first two pairs by 1; the third is good
-pub record Hurt (u : Utterance) : Type 0 where
-  pub lost : headerNoteIn (zeroRead u (allHurt u) .report) 1 ≡ 3
-  pub first : pairNoteIn (zeroRead u (allHurt u) .report) 0 ≡ 1
-  pub second : pairNoteIn (zeroRead u (allHurt u) .report) 1 ≡ 1
-  pub third : pairNoteIn (zeroRead u (allHurt u) .report) 2 ≡ 0
+pub record Hurt (ch : Choices) (u : Utterance) : Type 0 where
+  pub lost : headerNoteIn (zeroRead ch u (allHurt u) .report) 1 ≡ 3
+  pub first : pairNoteIn (zeroRead ch u (allHurt u) .report) 0 ≡ 1
+  pub second : pairNoteIn (zeroRead ch u (allHurt u) .report) 1 ≡ 1
+  pub third : pairNoteIn (zeroRead ch u (allHurt u) .report) 2 ≡ 0
 
-module _ (u : Utterance) (three : 3 ≤ multiframesOf u) where
+module _ (ch : Choices) (u : Utterance) (three : 3 ≤ multiframesOf u) where
   packet-is : (q : ℕ) → q < pairsOf u → packetIn (allHurt u) q ≡ hurtPacket u q
   packet-is q h = packets-are u lostSecond (hurtPacket u) lost-lt (length-hurt u) q h
 
@@ -367,7 +370,7 @@ module _ (u : Utterance) (three : 3 ≤ multiframesOf u) where
   touched : (q : ℕ) → q < pairsOf u → Damaged (packetOf (u .indices) q) (hurtPacket u q) → Touched (imageOf u) (allHurt u) q
   touched q h d e = differs (packetOf (u .indices) q) (hurtPacket u q) d (sym (packet-is q h) ∙ e ∙ sent q h)
 
-  pub wider-met : N.Wider u (allHurt u) zeroTables (indexFor (multiframesOf u)) (reportFor (multiframesOf u))
+  pub wider-met : N.Wider ch u (allHurt u) zeroTables (indexFor (multiframesOf u)) (reportFor (multiframesOf u))
   wider-met = record {
     damage = flipped-damage u lostSecond (hurtPacket u) lost-lt (length-hurt u) 3 (λ k h. lost-three k) (λ q h. fates u q);
     headers = inl (two-readable u three (hurtPacket u));
@@ -377,19 +380,19 @@ module _ (u : Utterance) (three : 3 ≤ multiframesOf u) where
     lent = lent-zeros (multiframesOf u);
   }
 
-  pub hurt : Hurt u
+  pub hurt : Hurt ch u
   hurt =
-      let names = N.names-wider u (allHurt u) zeroTables (indexFor (multiframesOf u)) (reportFor (multiframesOf u)) wider-met .names in
+      let names = N.names-wider ch u (allHurt u) zeroTables (indexFor (multiframesOf u)) (reportFor (multiframesOf u)) wider-met .names in
       record {
         lost = names .flips 1 (omega arith) ∙ lost-flips u three (hurtPacket u) 1 (omega arith) ∙ three-flipped;
         first = names .damaged 0 (omega arith) .1 (touched 0 (omega arith) (burst-hurts u 0));
         second = names .damaged 1 (omega arith) .1 (touched 1 (omega arith) (double-hurts u 1));
-        third = zero-unnamed u (allHurt u) 2 third-whole (omega arith) wider-met;
+        third = zero-unnamed u (allHurt u) 2 third-whole ch (omega arith) wider-met;
       }
 
 -- so of 48 frames
-pub hurt-48 : Hurt says48
-hurt-48 = hurt says48 (le-of-eq (sym three-multiframes))
+pub hurt-48 : (ch : Choices) → Hurt ch says48
+hurt-48 ch = hurt ch says48 (le-of-eq (sym three-multiframes))
 
 -- ---- LAST HEARD: of two multiframes or more every header has two flips, and every pair is damaged but those of the last multiframe
 abbrev pub earlier : Utterance → ℕ → Bool
@@ -399,21 +402,21 @@ abbrev pub earlierHurt : Utterance → List ℕ
 earlierHurt u = flipped u (λ k. 3) (hit u (earlier u))
 
 -- they are named, and yet speech and end are as sent
-pub record LastHeard (u : Utterance) : Type 0 where
-  pub named : (q : ℕ) → q < firstPair (multiframesOf u - 1) → pairNoteIn (zeroRead u (earlierHurt u) .report) q ≡ 1
+pub record LastHeard (ch : Choices) (u : Utterance) : Type 0 where
+  pub named : (q : ℕ) → q < firstPair (multiframesOf u - 1) → pairNoteIn (zeroRead ch u (earlierHurt u) .report) q ≡ 1
   pub given : Summary
-  pub succeeds : zeroRead u (earlierHurt u) .answer ≡ Read given
+  pub succeeds : zeroRead ch u (earlierHurt u) .answer ≡ Read given
   pub speech : given .speech ≡ frameCount (u .indices)
   pub end : given .end ≡ 1
 
-module _ (u : Utterance) (two : 2 ≤ multiframesOf u) where
+module _ (ch : Choices) (u : Utterance) (two : 2 ≤ multiframesOf u) where
   last-whole : (q : ℕ) → firstPair (multiframesOf u - 1) ≤ q → q < pairsOf u → packetIn (earlierHurt u) q ≡ packetIn (imageOf u) q
   last-whole q l h = untold-whole u (earlier u) (λ k. 3) (λ k. lit< tt) q h (le-ltb q (firstPair (multiframesOf u - 1)) l)
 
   flips : (k : ℕ) → k < multiframesOf u → headerFlips (imageOf u) (earlierHurt u) k ≡ 2
   flips k h = flips-are u (λ k. 3) (hit u (earlier u)) (λ k. lit< tt) k h ∙ two-flipped
 
-  pub last-met : N.Wider u (earlierHurt u) zeroTables (indexFor (multiframesOf u)) (reportFor (multiframesOf u))
+  pub last-met : N.Wider ch u (earlierHurt u) zeroTables (indexFor (multiframesOf u)) (reportFor (multiframesOf u))
   last-met = record {
     damage = flipped-damage u (λ k. 3) (hit u (earlier u)) (λ k. lit< tt) (length-hit u (earlier u)) 3 (λ k h. omega (arith, two-flipped)) (λ q h. hit-fates u (earlier u) q);
     headers = inl (record {
@@ -430,13 +433,13 @@ module _ (u : Utterance) (two : 2 ≤ multiframesOf u) where
     lent = lent-zeros (multiframesOf u);
   }
 
-  pub last-unnamed : S.LastUnnamed u (earlierHurt u) zeroTables (indexFor (multiframesOf u)) (reportFor (multiframesOf u)) last-met
-  last-unnamed q l h = zero-unnamed u (earlierHurt u) q (last-whole q l h) h last-met
+  pub last-unnamed : S.LastUnnamed ch u (earlierHurt u) zeroTables (indexFor (multiframesOf u)) (reportFor (multiframesOf u)) last-met
+  last-unnamed q l h = zero-unnamed u (earlierHurt u) q (last-whole q l h) ch h last-met
 
-  pub last-is-heard : LastHeard u
+  pub last-is-heard : LastHeard ch u
   last-is-heard =
-      let x = N.names-wider u (earlierHurt u) zeroTables (indexFor (multiframesOf u)) (reportFor (multiframesOf u)) last-met in
-      let s = S.last-heard u (earlierHurt u) zeroTables (indexFor (multiframesOf u)) (reportFor (multiframesOf u)) last-met last-unnamed (x .given) (x .succeeds) in
+      let x = N.names-wider ch u (earlierHurt u) zeroTables (indexFor (multiframesOf u)) (reportFor (multiframesOf u)) last-met in
+      let s = S.last-heard ch u (earlierHurt u) zeroTables (indexFor (multiframesOf u)) (reportFor (multiframesOf u)) last-met last-unnamed (x .given) (x .succeeds) in
       record {
         named = λ q h.
             x .names .damaged q (omega arith) .1 (told-touched u (earlier u) (λ k. 3) (λ k. lit< tt) q (omega arith) (lt-ltb q (firstPair (multiframesOf u - 1)) h));
@@ -447,8 +450,8 @@ module _ (u : Utterance) (two : 2 ≤ multiframesOf u) where
       }
 
 -- so of 24 frames
-pub last-24 : LastHeard says24
-last-24 = last-is-heard says24 (le-of-eq (sym two-multiframes))
+pub last-24 : (ch : Choices) → LastHeard ch says24
+last-24 ch = last-is-heard ch says24 (le-of-eq (sym two-multiframes))
 
 -- ---- TOLD APART BY ONE HEADER: two utterances with the same settings that differ in their first pair alone, and a packet that is a damaged one
 -- of either. The first header has two flips, and every other seven. With the same settings both images have the same header, so the flips in it
@@ -593,3 +596,10 @@ near-24 = record {
   second = seven-of-others one24 hurtFirst hurt-size 1 (lit< tt) (lit< tt);
   different = λ e. let z : _≡_ {A = ℕ} 1 2 = ap (λ (l : List ℕ). getD l 0 0) e in omega arith;
 }
+
+-- ---- CUT OFF: of 48 frames, which are three multiframes, the first two came. They are read by either choice, with no end
+pub first-two-of-48 : (ch : Choices) → reading ch (take (multiframeOctets * 2) (imageOf says48)) zeroTables (indexFor 2) (reportFor 2) .answer ≡ Read (C.heard says48 2)
+first-two-of-48 ch = ap (λ (o : Outcome). o .answer) (C.cut-off-reads ch says48 2 (lit< tt) (omega (arith, three-multiframes)) (inl (lit≤ tt)) zeroTables (indexFor 2) (reportFor 2) (lent-zeros 2))
+
+pub no-end-of-48 : (ch : Choices) → C.heard says48 2 .end ≡ 0
+no-end-of-48 ch = C.cut-off-told ch says48 2 (omega (arith, three-multiframes)) zeroTables (indexFor 2) (reportFor 2) (C.heard says48 2) (first-two-of-48 ch)

@@ -10,16 +10,17 @@ use native.Mathlib.Decide.{ℕ-discrete, decLt}
 use native.Mathlib.Omega.{arith}
 use lib.Bits.{bitXor, xor-comm, xor-self}
 use lib.Count.{ones, onesIn}
-use lib.Dec.{eqb, leb, lit<}
+use lib.Dec.{eqb, leb, lit<, lit≤}
 use borrow.Author.Tests.{eq-eqb, ne-eqb, le-leb, lt-leb}
-use lib.ListN.{length, getD, drop, replicate, length-append}
-use lib.Seq.{getD-take}
+use lib.ListN.{take, length, getD, length-append}
 use Rattle.polynomials.specs.Light.{ones-in}
 use Rattle.polynomials.specs.Xor.{xor-twice}
 use Rattle.lists.specs.Tests.{when, by-test, true-false}
 use Rattle.lists.specs.Parts.{part, part-left, part-right}
 use Rattle.lists.specs.Rows.{each}
-use Rattle.layout.specs.Layout.{frameIndices, dataBits, multiframeFrames, multiframePairs, multiframeOctets, syncOctets, headerOctets, streamOctets, packetBits, pairOf, firstFrame, secondFrame, firstPair, sync, inverseFirst, inverseSecond}
+use Rattle.layout.specs.Layout.{frameIndices, dataBits, multiframeFrames, multiframePairs, multiframeOctets, syncOctets, headerOctets, pairOf, firstFrame, secondFrame, firstPair, inverseFirst, inverseSecond}
+use Rattle.choices.specs.Choices.{byDefault, oneHeaderSettles}
+use Rattle.choices.specs.declared.Choices.{Choices}
 use Rattle.consistency.specs.Tables.{Tables, zeroTables}
 use Rattle.settings.specs.Settings.{settings}
 use Rattle.settings.specs.declared.Settings.{Settings}
@@ -28,63 +29,61 @@ use Rattle.bits.specs.Bits.{value, bits}
 use Rattle.crc.specs.Crc.{right}
 use Rattle.packet.specs.Packet.{frameAt, packetOf}
 use Rattle.packet.specs.Laws.{getD-row, row-past, packetOf-good}
-use Rattle.cutting.specs.Cutting.{Cutting, whole, cutting}
-use Rattle.cutting.specs.Laws.{every-length, multiframe, inverse, octetsOf, placesOf, Proper, cut-chunks}
+use Rattle.cutting.specs.Cutting.{Cutting, cutting}
+use Rattle.cutting.specs.Laws.{every-length}
 use Rattle.header_code.specs.Code.{codeword}
 use Rattle.message.specs.Message.{message}
 use Rattle.header.specs.Reading.{decodedAs}
 use Rattle.header.specs.declared.Decoded.{Decoded}
 use Rattle.header.specs.declared.Header.{Header}
 use Rattle.header.specs.declared.Header.the-variants.{Codeword, Lost}
-use Rattle.settling.specs.Settling.{readings, settling, firstAgreeing, onlyOne}
-use Rattle.settling.specs.Laws.{only-clean}
+use Rattle.settling.specs.Settling.{readings, settling, firstAgreeing}
+use Rattle.settling.specs.Laws.{Enough, two-or-more}
 use Rattle.carrier.specs.Carrier.{received, pairCount}
 use Rattle.settling.specs.declared.Settlement.the-variants as Set
 use Rattle.notes.specs.Laws.{length-notes, length-all}
-use Rattle.bad_pairs.specs.BadPairs.{badPairs}
-use Rattle.bad_pairs.specs.Laws.{Good, none-good}
+use Rattle.bad_pairs.specs.Laws.{Good}
 use Rattle.replacing.specs.Replacing.{frameBefore, frameAfter, source}
 use Rattle.replacing.specs.Laws.{Run, at-the-end, first-half, second-half, frame-replaced}
 use Rattle.replacing.specs.Speech.{lastNonzero, speechOf, endOf, place-le, zero-behind, nonzero-at, place-stop}
-use Rattle.deciding.specs.Deciding.{receivedNotes}
-use Rattle.reader.specs.Reading.{indexPart, summary, finished, Outcome, outcome, reading, receivedFrames}
-use Rattle.deciding.specs.Laws.{Fitting}
-use Rattle.reader.specs.ReadingLaws.{accepting}
-use Rattle.deciding.specs.declared.Verdict.{Verdict}
+use Rattle.reader.specs.Reading.{indexPart, summary, Outcome, outcome, reading, receivedFrames}
 use Rattle.reader.specs.declared.Summary.{Summary}
 use Rattle.refusals.specs.declared.Reading.the-variants.{Unsettled}
 use Rattle.reader.specs.declared.Answer.the-variants.{Read, Refused}
-use Rattle.image.specs.Image.{image}
 use Rattle.image.specs.Made.{syncIn, wordIn, packetIn}
 use Rattle.image.specs.Laws.{length-image, image-sync, image-word, image-packet, image-small}
 use Rattle.writer.specs.Writing.{frameCount, needed}
 use Rattle.writer.specs.Laws.{few-multiframes}
 use Rattle.writer.specs.Utterance.{last-speaks, Utterance, multiframesOf, pairsOf, imageOf, is-accepted, whole-frames}
-use Rattle.demands.specs.Damage.{DamageUpTo, headerBits, loosened, headerFlips, sentMessage, header-near, header-read}
-use Rattle.demands.specs.Whole.{rowOf, Lent, headerNoteIn, pairNoteIn, readings-are, refuses-16}
-use Rattle.demands.specs.Headers.{sentCommon, common-sent, TwoReadable, heardAs, heard-read, heard-lost, headers-read}
+use Rattle.demands.specs.Damage.{DamageUpTo, headerBits, loosened, headerFlips, sentMessage, header-near}
+use Rattle.demands.specs.Whole.{rowOf, Lent, headerNoteIn, pairNoteIn, refuses-16}
+use Rattle.demands.specs.Headers.{sentCommon, TwoReadable, heardAs, heard-read, heard-lost, headers-read}
 use Rattle.demands.specs.Received.{BadPair, touched-note}
 use Rattle.demands.specs.NamesTheDamage as N
 use Rattle.demands.specs.ReadsBack.{spoken, reads-image, reads-mended}
 use Rattle.demands.specs.ToldApart.{Alike}
 use Rattle.demands.specs.Instances.{lone, says1}
 use Rattle.demands.specs.Met.{indexFor, reportFor, lent-zeros, says24, two-multiframes, settings-24, frames-24}
-use Rattle.demands.specs.Needed.{eighth, saysEighth, Passes15, passes-15, halfway}
+use Rattle.demands.specs.Damages.{unharmed}
+use Rattle.recordings.specs.First as F
+use Rattle.recordings.specs.CutOff as C
+use Rattle.recordings.specs.Inverse.{inverses, inverses-length, inverses-behind}
+use Rattle.demands.specs.Needed.{default-unsettled, eighth, saysEighth, Passes15, passes-15, halfway}
 use Rattle.promises.specs.Misled as M
 use Rattle.promises.specs.Trusted as T
 use Rattle.promises.specs.Flipped.{flipped, flipped-size, flipped-syncs, flips-are, flipped-damage, sent-whole, sent-damage, at11, rateBits, none-flipped}
 use Rattle.promises.specs.Flipped.{two-flipped, three-flipped, six-flipped, word-11, seen-at-11, flips-at-11, hit, length-hit, hit-fates, told-touched, untold-whole}
-use Rattle.promises.specs.Flipped.{zeroRead, zeroNotes, right-good, good-pair, usable, zero-not-bad, zero-unnamed}
+use Rattle.promises.specs.Flipped.{zeroRead, zeroNotes, right-good, zero-not-bad, zero-unnamed}
 use Rattle.promises.specs.Met.{says48, three-multiframes, rate-48, without-warning, lostOne, heard-met, none-named, heard, inSecond, in-second-lt, flips-in-second, flips-in-others, Harmless, harmless}
 
 -- ---- NEVER MISLED NEEDS ITS LIMITS ON FLIPS: all premises hold but that on headers, not even a packet is damaged, and 8 kHz is read as 11 kHz
-pub record Misleads (u : Utterance) (s : List ℕ) (flips : ℕ) (tables : Tables) (index report : List ℕ) : Type 0 where
+pub record Misleads (ch : Choices) (u : Utterance) (s : List ℕ) (flips : ℕ) (tables : Tables) (index report : List ℕ) : Type 0 where
   pub size : length s ≡ length (imageOf u)
   pub syncs : (k : ℕ) → k < multiframesOf u → syncIn s k ≡ syncIn (imageOf u) k
   pub packets : (q : ℕ) → q < pairsOf u → packetIn s q ≡ packetIn (imageOf u) q
   pub each-header : (k : ℕ) → k < multiframesOf u → headerFlips (imageOf u) s k ≡ flips
   pub unmet : M.AllButOne u s ⊎ M.OnlyFive u s → ⊥
-  pub succeeds : reading s tables index report .answer ≡ Read (spoken (at11 u))
+  pub succeeds : reading ch s tables index report .answer ≡ Read (spoken (at11 u))
   pub misled : M.AsSent u s (spoken (at11 u)) → ⊥
 
 -- four of the six bits in which the two rates differ: so two are left to 11 kHz
@@ -102,23 +101,23 @@ four-to-11 = sym (ones-in 32 0xC0000000 (lit< tt))
 abbrev pub fourOff : Utterance → List ℕ
 fourOff u = flipped u (λ k. fourBits) (packetOf (u .indices))
 
-module _ (u : Utterance) (eight : u .settings .rate ≡ 0) where
+module _ (ch : Choices) (u : Utterance) (eight : u .settings .rate ≡ 0) where
   -- what is then read as 11 kHz is not as sent
   not-sent : (s : List ℕ) → M.AsSent u s (spoken (at11 u)) → ⊥
   not-sent s x = let z : _≡_ {A = ℕ} 1 0 = ap (λ (s : Settings). s .rate) (x .settings) ∙ eight in omega arith
 
   module _ (tables : Tables) (index report : List ℕ) (lent : Lent (multiframesOf u) tables index report) where
-    four-read : 2 ≤ multiframesOf u → reading (fourOff u) tables index report .answer ≡ Read (spoken (at11 u))
+    four-read : 2 ≤ multiframesOf u → reading ch (fourOff u) tables index report .answer ≡ Read (spoken (at11 u))
     four-read two =
         let e : ℕ → ℕ = λ k. bitXor fourBits rateBits in
         let lt : (k : ℕ) → e k < 2 ^ 32 = λ k. lit< tt in
-        ap (λ (s : List ℕ). reading s tables index report .answer) (seen-at-11 u eight (λ k. fourBits) (packetOf (u .indices)))
+        ap (λ (s : List ℕ). reading ch s tables index report .answer) (seen-at-11 u eight (λ k. fourBits) (packetOf (u .indices)))
         ∙ ap (λ (o : Outcome). o .answer)
-        (reads-mended (at11 u) (flipped (at11 u) e (packetOf (u .indices))) (sent-damage (at11 u) e lt 2 (λ k h. le-of-eq four-to-11)) (sent-whole (at11 u) e lt) (inl two)
+        (reads-mended ch (at11 u) (flipped (at11 u) e (packetOf (u .indices))) (sent-damage (at11 u) e lt 2 (λ k h. le-of-eq four-to-11)) (sent-whole (at11 u) e lt) (inl two)
         tables index report lent)
 
     -- HEADERS OF FOUR FLIPS MISLEAD: two multiframes or more
-    pub four-mislead : 2 ≤ multiframesOf u → Misleads u (fourOff u) 4 tables index report
+    pub four-mislead : 2 ≤ multiframesOf u → Misleads ch u (fourOff u) 4 tables index report
     four-mislead two =
         let size = flipped-size u (λ k. fourBits) (packetOf (u .indices)) in
         let syncs = flipped-syncs u (λ k. fourBits) (packetOf (u .indices)) in
@@ -129,13 +128,13 @@ module _ (u : Utterance) (eight : u .settings .rate ≡ 0) where
           each-header = λ k h. flips-are u (λ k. fourBits) (packetOf (u .indices)) (λ k. lit< tt) k h ∙ four-flipped;
           unmet = λ x.
               not-sent (fourOff u)
-              (M.never-misled u (fourOff u) (record { size = size; syncs = syncs; headers = x }) tables index report (spoken (at11 u)) (four-read two));
+              (M.never-misled ch u (fourOff u) (record { size = size; syncs = syncs; headers = x }) tables index report (spoken (at11 u)) (four-read two));
           succeeds = four-read two;
           misled = not-sent (fourOff u);
         }
 
-    six-read : reading (imageOf (at11 u)) tables index report .answer ≡ Read (spoken (at11 u))
-    six-read = ap (λ (o : Outcome). o .answer) (reads-image (at11 u) tables index report lent)
+    six-read : Enough ch (multiframesOf u) → reading ch (imageOf (at11 u)) tables index report .answer ≡ Read (spoken (at11 u))
+    six-read sent = ap (λ (o : Outcome). o .answer) (reads-image ch (at11 u) sent tables index report lent)
 
     six-each : (k : ℕ) → k < multiframesOf u → headerFlips (imageOf u) (imageOf (at11 u)) k ≡ 6
     six-each k h =
@@ -145,8 +144,8 @@ module _ (u : Utterance) (eight : u .settings .rate ≡ 0) where
         ∙ ap ones (ap (λ (x : ℕ). bitXor x a) (xor-comm a rateBits) ∙ xor-twice rateBits a) ∙ six-flipped
 
     -- HEADERS OF SIX FLIPS MISLEAD: the image of 11 kHz itself, six flips from that of 8 kHz in each header and else the same
-    pub six-mislead : Misleads u (imageOf (at11 u)) 6 tables index report
-    six-mislead =
+    pub six-mislead : Enough ch (multiframesOf u) → Misleads ch u (imageOf (at11 u)) 6 tables index report
+    six-mislead sent =
         let m = multiframesOf u in
         let idx = u .indices in
         let size = length-image (at11 u .settings) idx m ∙ sym (length-image (u .settings) idx m) in
@@ -159,28 +158,32 @@ module _ (u : Utterance) (eight : u .settings .rate ≡ 0) where
           each-header = six-each;
           unmet = λ x.
               not-sent (imageOf (at11 u))
-              (M.never-misled u (imageOf (at11 u)) (record { size = size; syncs = syncs; headers = x }) tables index report (spoken (at11 u)) six-read);
-          succeeds = six-read;
+              (M.never-misled ch u (imageOf (at11 u)) (record { size = size; syncs = syncs; headers = x }) tables index report (spoken (at11 u)) (six-read sent));
+          succeeds = six-read sent;
           misled = not-sent (imageOf (at11 u));
         }
 
 -- so two headers of four flips do, of two multiframes
-pub two-of-four : Misleads says24 (fourOff says24) 4 zeroTables (indexFor (multiframesOf says24)) (reportFor (multiframesOf says24))
-two-of-four =
-    four-mislead says24 (ap (λ (s : Settings). s .rate) settings-24) zeroTables (indexFor (multiframesOf says24)) (reportFor (multiframesOf says24)) (lent-zeros (multiframesOf says24)) (le-of-eq (sym two-multiframes))
+pub two-of-four : (ch : Choices) → Misleads ch says24 (fourOff says24) 4 zeroTables (indexFor (multiframesOf says24)) (reportFor (multiframesOf says24))
+two-of-four ch =
+    four-mislead ch says24 (ap (λ (s : Settings). s .rate) settings-24) zeroTables (indexFor (multiframesOf says24)) (reportFor (multiframesOf says24)) (lent-zeros (multiframesOf says24)) (le-of-eq (sym two-multiframes))
 
--- and an only header of six
-pub one-of-six : Misleads says1 (imageOf (at11 says1)) 6 zeroTables (indexFor 1) (reportFor 1)
-one-of-six = six-mislead says1 refl zeroTables (indexFor 1) (reportFor 1) (lent-zeros 1)
+-- and, where the caller asks for the old rule, an only header of six
+pub one-of-six : Misleads oneHeaderSettles says1 (imageOf (at11 says1)) 6 zeroTables (indexFor 1) (reportFor 1)
+one-of-six = six-mislead oneHeaderSettles says1 refl zeroTables (indexFor 1) (reportFor 1) (lent-zeros 1) (inr refl)
+
+-- which by default misleads nobody: "a codeword can be the wrong codeword" (02, C-20)
+pub six-refused : reading byDefault (imageOf (at11 says1)) zeroTables (indexFor 1) (reportFor 1) ≡ outcome (Refused Unsettled) (indexFor 1) (reportFor 1)
+six-refused = default-unsettled byDefault (at11 says1) (imageOf (at11 says1)) (unharmed (at11 says1)) zeroTables (indexFor 1) (reportFor 1) (lent-zeros 1) refl refl
 
 -- ---- NEVER MISLED NEEDS THE LENGTH: the image of a longer utterance with the same settings. All other premises hold, and it has more multiframes
-pub record Lengthens (u v : Utterance) (tables : Tables) (index report : List ℕ) : Type 0 where
+pub record Lengthens (ch : Choices) (u v : Utterance) (tables : Tables) (index report : List ℕ) : Type 0 where
   pub syncs : (k : ℕ) → k < multiframesOf u → syncIn (imageOf v) k ≡ syncIn (imageOf u) k
   pub headers : M.AllButOne u (imageOf v) ⊎ M.OnlyFive u (imageOf v)
-  pub succeeds : reading (imageOf v) tables index report .answer ≡ Read (spoken v)
+  pub succeeds : reading ch (imageOf v) tables index report .answer ≡ Read (spoken v)
   pub misled : M.AsSent u (imageOf v) (spoken v) → ⊥
 
-module _ (u v : Utterance) (same : u .settings ≡ v .settings) (longer : multiframesOf u < multiframesOf v) (tables : Tables) (index report : List ℕ)
+module _ (ch : Choices) (u v : Utterance) (same : u .settings ≡ v .settings) (longer : multiframesOf u < multiframesOf v) (tables : Tables) (index report : List ℕ)
     (lent : Lent (multiframesOf v) tables index report) where
   same-headers : (k : ℕ) → k < multiframesOf u → headerFlips (imageOf u) (imageOf v) k ≡ 0
   same-headers k h =
@@ -192,31 +195,31 @@ module _ (u v : Utterance) (same : u .settings ≡ v .settings) (longer : multif
   near-headers (yes l) = inr (record { single = omega arith; five = omega (arith, same-headers 0 (omega arith)) })
   near-headers (no n) = inl (record { two = omega arith; but = 0; others = λ k h d. omega (arith, same-headers k h) })
 
-  pub length-misleads : Lengthens u v tables index report
+  pub length-misleads : Lengthens ch u v tables index report
   length-misleads = record {
     syncs = λ k h. image-sync (v .settings) (v .indices) (multiframesOf v) k (omega arith) ∙ sym (image-sync (u .settings) (u .indices) (multiframesOf u) k h);
     headers = near-headers (decLt (multiframesOf u) 2);
-    succeeds = ap (λ (o : Outcome). o .answer) (reads-image v tables index report lent);
+    succeeds = ap (λ (o : Outcome). o .answer) (reads-image ch v (inl (omega arith)) tables index report lent);
     misled = λ x. let e = x .multiframes in omega arith;
   }
 
 -- so one multiframe is taken for two
-pub longer-24 : Lengthens says1 says24 zeroTables (indexFor (multiframesOf says24)) (reportFor (multiframesOf says24))
-longer-24 =
-    length-misleads says1 says24 (sym settings-24) (omega (arith, two-multiframes)) zeroTables (indexFor (multiframesOf says24)) (reportFor (multiframesOf says24))
+pub longer-24 : (ch : Choices) → Lengthens ch says1 says24 zeroTables (indexFor (multiframesOf says24)) (reportFor (multiframesOf says24))
+longer-24 ch =
+    length-misleads ch says1 says24 (sym settings-24) (omega (arith, two-multiframes)) zeroTables (indexFor (multiframesOf says24)) (reportFor (multiframesOf says24))
     (lent-zeros (multiframesOf says24))
 
 -- ---- TRUSTED NEEDS ITS LIMITS: read without a warning, and not of the image as written
-pub record Mistrusted (u : Utterance) (s : List ℕ) (given : Summary) : Type 0 where
-  pub warned-of-nothing : T.WithoutWarning s zeroTables (indexFor (multiframesOf u)) (reportFor (multiframesOf u)) given
-  pub not-written : T.AsWritten u s zeroTables (indexFor (multiframesOf u)) (reportFor (multiframesOf u)) given → ⊥
+pub record Mistrusted (ch : Choices) (u : Utterance) (s : List ℕ) (given : Summary) : Type 0 where
+  pub warned-of-nothing : T.WithoutWarning ch s zeroTables (indexFor (multiframesOf u)) (reportFor (multiframesOf u)) given
+  pub not-written : T.AsWritten ch u s zeroTables (indexFor (multiframesOf u)) (reportFor (multiframesOf u)) given → ⊥
 
 -- FIVE: with six flips in each header, and no other damage
-pub six-mistrusted : (u : Utterance) → u .settings .rate ≡ 0
-    → DamageUpTo 6 (multiframesOf u) (imageOf u) (imageOf (at11 u)) × Mistrusted u (imageOf (at11 u)) (spoken (at11 u))
-six-mistrusted u eight =
+pub six-mistrusted : (ch : Choices) (u : Utterance) → Enough ch (multiframesOf u) → u .settings .rate ≡ 0
+    → DamageUpTo 6 (multiframesOf u) (imageOf u) (imageOf (at11 u)) × Mistrusted ch u (imageOf (at11 u)) (spoken (at11 u))
+six-mistrusted ch u sent eight =
     let m = multiframesOf u in
-    let x = six-mislead u eight zeroTables (indexFor m) (reportFor m) (lent-zeros m) in (
+    let x = six-mislead ch u eight zeroTables (indexFor m) (reportFor m) (lent-zeros m) sent in (
       record {
         size = x .size;
         small = image-small (at11 u .settings) (u .indices) m;
@@ -225,17 +228,17 @@ six-mistrusted u eight =
         packets = λ q h. inl (x .packets q h);
       },
       record {
-        warned-of-nothing = without-warning (at11 u) zeroTables (indexFor m) (reportFor m) (lent-zeros m);
+        warned-of-nothing = without-warning ch (at11 u) sent zeroTables (indexFor m) (reportFor m) (lent-zeros m);
         not-written = λ w. let z : _≡_ {A = ℕ} 1 0 = ap (λ (g : Summary). g .settings .rate) (w .sent) ∙ eight in omega arith;
       },
     )
 
--- DEMAND 3'S DAMAGE TO PAIRS: with two flips at distance 15 in one packet, and no other damage
-pub fifteen-mistrusted : Passes15 × Mistrusted says1 (imageOf saysEighth) (spoken saysEighth)
+-- DEMAND 3'S DAMAGE TO PAIRS: with two flips at distance 15 in one packet, and no other damage, of one multiframe by the old rule
+pub fifteen-mistrusted : Passes15 × Mistrusted oneHeaderSettles says1 (imageOf saysEighth) (spoken saysEighth)
 fifteen-mistrusted = (
   passes-15,
   record {
-    warned-of-nothing = without-warning saysEighth zeroTables (indexFor 1) (reportFor 1) (lent-zeros 1);
+    warned-of-nothing = without-warning oneHeaderSettles saysEighth (inr refl) zeroTables (indexFor 1) (reportFor 1) (lent-zeros 1);
     not-written = λ w.
         passes-15 .different
         (sym (image-packet (settings 0 0) eighth 1 0 (lit< tt)) ∙ ap (λ (s : List ℕ). packetIn s 0) (w .image) ∙ image-packet (settings 0 0) (lone 1) 1 0 (lit< tt));
@@ -243,22 +246,22 @@ fifteen-mistrusted = (
 )
 
 -- THE HEADER NOTES: no pair is damaged and all pair notes are 0, but headers are mended or lost and so not as written
-pub record Unlooked (u : Utterance) : Type 0 where
+pub record Unlooked (ch : Choices) (u : Utterance) : Type 0 where
   pub premises : T.Premises u (lostOne u)
-  pub succeeds : zeroRead u (lostOne u) .answer ≡ Read (spoken u)
-  pub pair-notes : (q : ℕ) → q < pairsOf u → pairNoteIn (zeroRead u (lostOne u) .report) q ≡ 0
-  pub not-written : T.AsWritten u (lostOne u) zeroTables (indexFor (multiframesOf u)) (reportFor (multiframesOf u)) (spoken u) → ⊥
+  pub succeeds : zeroRead ch u (lostOne u) .answer ≡ Read (spoken u)
+  pub pair-notes : (q : ℕ) → q < pairsOf u → pairNoteIn (zeroRead ch u (lostOne u) .report) q ≡ 0
+  pub not-written : T.AsWritten ch u (lostOne u) zeroTables (indexFor (multiframesOf u)) (reportFor (multiframesOf u)) (spoken u) → ⊥
 
-pub headers-unlooked : (u : Utterance) → 3 ≤ multiframesOf u → Unlooked u
-headers-unlooked u three =
+pub headers-unlooked : (ch : Choices) (u : Utterance) → 3 ≤ multiframesOf u → Unlooked ch u
+headers-unlooked ch u three =
     let m = multiframesOf u in
-    let wider = heard-met u three zeroTables (indexFor m) (reportFor m) (lent-zeros m) in
-    let note = heard u three zeroTables (indexFor m) (reportFor m) (lent-zeros m) in
-    let flips = N.names-wider u (lostOne u) zeroTables (indexFor m) (reportFor m) wider .names .flips 0 (omega arith) in
+    let wider = heard-met ch u three zeroTables (indexFor m) (reportFor m) (lent-zeros m) in
+    let note = heard ch u three zeroTables (indexFor m) (reportFor m) (lent-zeros m) in
+    let flips = N.names-wider ch u (lostOne u) zeroTables (indexFor m) (reportFor m) wider .names .flips 0 (omega arith) in
     record {
       premises = record { damage = loosened (lit< tt) (wider .damage); header = 0; within = omega arith; five = let l = wider .damage .headers 0 (omega arith) in omega arith };
       succeeds = note .succeeds;
-      pair-notes = none-named u three zeroTables (indexFor m) (reportFor m) (lent-zeros m);
+      pair-notes = none-named ch u three zeroTables (indexFor m) (reportFor m) (lent-zeros m);
       not-written = λ w.
           let z : _≡_ {A = ℕ} 2 0 =
           sym (sym flips ∙ note .first) ∙ ap (λ (s : List ℕ). headerFlips (imageOf u) s 0) (w .image) ∙ ap ones (xor-self (wordIn (imageOf u) 0)) ∙ none-flipped in
@@ -279,19 +282,19 @@ one-three k = by-test (λ (n : ℕ). ones n ≤ 3) (eqb k 0) (λ t. omega (arith
 abbrev pub otherLost : Utterance → List ℕ
 otherLost u = flipped u oneReadable (packetOf (u .indices))
 
-pub record Unsettles (u : Utterance) (s : List ℕ) : Type 0 where
+pub record Unsettles (ch : Choices) (u : Utterance) (s : List ℕ) : Type 0 where
   pub damage : DamageUpTo 3 (multiframesOf u) (imageOf u) s
   pub first : headerFlips (imageOf u) s 0 ≡ 2
   pub second : headerFlips (imageOf u) s 1 ≡ 3
   pub none-bad : (q : ℕ) → q < pairsOf u → BadPair u s zeroTables q → ⊥
-  pub refused : zeroRead u s ≡ outcome (Refused Unsettled) (indexFor (multiframesOf u)) (reportFor (multiframesOf u))
-  pub not-named : N.Named u s zeroTables (indexFor (multiframesOf u)) (reportFor (multiframesOf u)) → ⊥
+  pub refused : zeroRead ch u s ≡ outcome (Refused Unsettled) (indexFor (multiframesOf u)) (reportFor (multiframesOf u))
+  pub not-named : N.Named ch u s zeroTables (indexFor (multiframesOf u)) (reportFor (multiframesOf u)) → ⊥
 
-one-settles-nothing : (d : Decoded) → settling (Codeword d ∷ Lost ∷ []) ≡ Set.Unsettled
-unfolding settling firstAgreeing onlyOne
-one-settles-nothing d = refl
+one-settles-nothing : (ch : Choices) (d : Decoded) → settling ch (Codeword d ∷ Lost ∷ []) ≡ Set.Unsettled
+unfolding firstAgreeing
+one-settles-nothing ch d = two-or-more ch (Codeword d ∷ Lost ∷ []) (omega arith)
 
-module _ (u : Utterance) (two : multiframesOf u ≡ 2) where
+module _ (ch : Choices) (u : Utterance) (two : multiframesOf u ≡ 2) where
   abbrev s : List ℕ
   s = otherLost u
 
@@ -310,18 +313,18 @@ module _ (u : Utterance) (two : multiframesOf u ≡ 2) where
   three-heard : heardAs (wordIn s 1) (sentMessage u 1) ≡ Lost
   three-heard = heard-lost (wordIn s 1) (sentMessage u 1) (omega (arith, header-near u s 1 (omega arith), flips 1 (omega arith), three-flipped))
 
-  unsettled : settling (readings s (rowOf m)) ≡ Set.Unsettled
+  unsettled : settling ch (readings s (rowOf m)) ≡ Set.Unsettled
   unsettled =
-      ap settling (headers-read u s (damaged .headers))
-      ∙ ap (λ (n : ℕ). settling (each (λ k. heardAs (wordIn s k) (sentMessage u k)) n)) two
-      ∙ ap₂ (λ (a b : Header). settling (a ∷ b ∷ [])) two-heard three-heard ∙ one-settles-nothing (decodedAs (wordIn s 0) (sentMessage u 0))
+      ap (settling ch) (headers-read u s (damaged .headers))
+      ∙ ap (λ (n : ℕ). settling ch (each (λ k. heardAs (wordIn s k) (sentMessage u k)) n)) two
+      ∙ ap₂ (λ (a b : Header). settling ch (a ∷ b ∷ [])) two-heard three-heard ∙ one-settles-nothing ch (decodedAs (wordIn s 0) (sentMessage u 0))
 
-  refused : zeroRead u s ≡ outcome (Refused Unsettled) (indexFor m) (reportFor m)
+  refused : zeroRead ch u s ≡ outcome (Refused Unsettled) (indexFor m) (reportFor m)
   refused =
-      refuses-16 s m (few-multiframes (u .settings) (u .indices) (is-accepted u .sizes)) (damaged .size ∙ length-image (u .settings) (u .indices) m)
+      refuses-16 ch s m (few-multiframes (u .settings) (u .indices) (is-accepted u .sizes)) (damaged .size ∙ length-image (u .settings) (u .indices) m)
       (λ k h. damaged .syncs k h ∙ image-sync (u .settings) (u .indices) m k h) zeroTables (indexFor m) (reportFor m) (omega arith) (lent-zeros m) unsettled
 
-  pub one-readable-unsettles : Unsettles u (otherLost u)
+  pub one-readable-unsettles : Unsettles ch u (otherLost u)
   one-readable-unsettles = record {
     damage = damaged;
     first = flips 0 (omega arith) ∙ two-flipped;
@@ -335,35 +338,35 @@ module _ (u : Utterance) (two : multiframesOf u ≡ 2) where
       not-read g e = let z : _≡_ {A = ℕ} 0 1 = cc in omega arith
 
 -- so of 24 frames
-pub unsettled-24 : Unsettles says24 (otherLost says24)
-unsettled-24 = one-readable-unsettles says24 two-multiframes
+pub unsettled-24 : (ch : Choices) → Unsettles ch says24 (otherLost says24)
+unsettled-24 ch = one-readable-unsettles ch says24 two-multiframes
 
 -- ---- NAMES THE DAMAGE WIDER NEEDS THREE: of three multiframes or more the second header has four flips and is read as one of 11 kHz, and no pair is damaged.
 -- All other premises hold and the settings are those sent, and yet that header's note is 10 and not its number of flips
-pub record Misnotes (u : Utterance) (s : List ℕ) : Type 0 where
+pub record Misnotes (ch : Choices) (u : Utterance) (s : List ℕ) : Type 0 where
   pub damage : DamageUpTo 4 (multiframesOf u) (imageOf u) s
   pub headers : TwoReadable u s
   pub none-bad : (q : ℕ) → q < pairsOf u → BadPair u s zeroTables q → ⊥
   pub four : headerFlips (imageOf u) s 1 ≡ 4
-  pub note-is-10 : headerNoteIn (zeroRead u s .report) 1 ≡ 10
+  pub note-is-10 : headerNoteIn (zeroRead ch u s .report) 1 ≡ 10
   pub given : Summary
-  pub succeeds : zeroRead u s .answer ≡ Read given
+  pub succeeds : zeroRead ch u s .answer ≡ Read given
   pub sent : M.AsSent u s given
-  pub not-named : N.Named u s zeroTables (indexFor (multiframesOf u)) (reportFor (multiframesOf u)) → ⊥
+  pub not-named : N.Named ch u s zeroTables (indexFor (multiframesOf u)) (reportFor (multiframesOf u)) → ⊥
 
 abbrev pub secondFour : Utterance → List ℕ
 secondFour u = flipped u (inSecond fourBits 0) (packetOf (u .indices))
 
-module _ (u : Utterance) (eight : u .settings .rate ≡ 0) (three : 3 ≤ multiframesOf u) where
+module _ (ch : Choices) (u : Utterance) (eight : u .settings .rate ≡ 0) (three : 3 ≤ multiframesOf u) where
   lt : (k : ℕ) → inSecond fourBits 0 k < 2 ^ 32
   lt = in-second-lt fourBits 0 (lit< tt) (lit< tt)
 
   not-hurt : (q : ℕ) → q < pairsOf u → packetIn (secondFour u) q ≡ packetIn (imageOf u) q
   not-hurt = sent-whole u (inSecond fourBits 0) lt
 
-  harmless-four : Harmless u (secondFour u) 2
+  harmless-four : Harmless ch u (secondFour u) 2
   harmless-four =
-      harmless u fourBits 0 (lit< tt) (lit< tt) (packetOf (u .indices)) eight three (omega (arith, none-flipped)) 2 four-to-11 (omega arith) 0 (omega arith)
+      harmless ch u fourBits 0 (lit< tt) (lit< tt) (packetOf (u .indices)) eight three (omega (arith, none-flipped)) 2 four-to-11 (omega arith) 0 (omega arith)
       (ap (right dataBits) (not-hurt 0 (omega arith) ∙ image-packet (u .settings) (u .indices) (multiframesOf u) 0 (omega arith)) ∙ packetOf-good (u .indices) 0)
 
   none : (k : ℕ) → k < multiframesOf u → (k ≡ 1 → ⊥) → headerFlips (imageOf u) (secondFour u) k ≡ 0
@@ -372,7 +375,7 @@ module _ (u : Utterance) (eight : u .settings .rate ≡ 0) (three : 3 ≤ multif
   four-there : headerFlips (imageOf u) (secondFour u) 1 ≡ 4
   four-there = flips-in-second u fourBits 0 (lit< tt) (lit< tt) (packetOf (u .indices)) (omega arith) ∙ four-flipped
 
-  pub four-misnotes : Misnotes u (secondFour u)
+  pub four-misnotes : Misnotes ch u (secondFour u)
   four-misnotes = record {
     damage = sent-damage u (inSecond fourBits 0) lt 4 (λ k h. by-test (λ (n : ℕ). ones n ≤ 4) (eqb k 1) (λ t. le-of-eq four-flipped) (λ t. omega (arith, none-flipped)));
     headers = record {
@@ -393,8 +396,8 @@ module _ (u : Utterance) (eight : u .settings .rate ≡ 0) (three : 3 ≤ multif
   }
 
 -- so of 48 frames
-pub misnoted-48 : Misnotes says48 (secondFour says48)
-misnoted-48 = four-misnotes says48 rate-48 (le-of-eq (sym three-multiframes))
+pub misnoted-48 : (ch : Choices) → Misnotes ch says48 (secondFour says48)
+misnoted-48 ch = four-misnotes ch says48 rate-48 (le-of-eq (sym three-multiframes))
 
 -- ---- TOLD APART BY ONE HEADER NEEDS FIVE: the same frames at 8 and at 11 kHz, and octets whose headers are halfway between. All other premises
 -- hold, each header's flips add up to six, and the settings are not equal
@@ -452,7 +455,7 @@ speaks u k e = by (allZero (frameAt (u .indices) k)) refl
 abbrev pub lastFirst : Utterance → ℕ
 lastFirst u = firstPair (multiframesOf u - 1)
 
-module _ (u : Utterance) (two : 2 ≤ multiframesOf u) (full : frameCount (u .indices) ≡ multiframeFrames * (multiframesOf u - 1)) (t : ℕ → Bool) (b : ℕ)
+module _ (ch : Choices) (u : Utterance) (two : 2 ≤ multiframesOf u) (full : frameCount (u .indices) ≡ multiframeFrames * (multiframesOf u - 1)) (t : ℕ → Bool) (b : ℕ)
     (some : lastFirst u < b) (most : b ≤ pairsOf u) (inside : (q : ℕ) → lastFirst u ≤ q → q < b → t q ≡ true) (before : (q : ℕ) → q < lastFirst u → t q ≡ false)
     (behind : (q : ℕ) → b ≤ q → q < pairsOf u → t q ≡ false) where
   abbrev got : List ℕ
@@ -476,7 +479,7 @@ module _ (u : Utterance) (two : 2 ≤ multiframesOf u) (full : frameCount (u .in
   as-sent : (q : ℕ) → q < pairsOf u → t q ≡ false → packetIn got q ≡ packetIn (imageOf u) q
   as-sent = untold-whole u t (λ k. 0) (λ k. lit< tt)
 
-  wide : N.Wider u (flipped u (λ k. 0) (hit u t)) zeroTables (indexFor (multiframesOf u)) (reportFor (multiframesOf u))
+  wide : N.Wider ch u (flipped u (λ k. 0) (hit u t)) zeroTables (indexFor (multiframesOf u)) (reportFor (multiframesOf u))
   wide = record {
     damage = flipped-damage u (λ k. 0) (hit u t) (λ k. lit< tt) (length-hit u t) 3 (λ k h. omega (arith, none-flipped)) (λ q h. hit-fates u t q);
     headers = inl (record {
@@ -527,7 +530,7 @@ module _ (u : Utterance) (two : 2 ≤ multiframesOf u) (full : frameCount (u .in
       let z : frameBefore r ≡ secondFrame (r - 1) = omega arith in
       ap allZero
       (frame-is i h ∙ ap (λ (k : ℕ). part (frameIndices * k) frameIndices (receivedFrames got (rowOf ms))) (e ∙ z)
-      ∙ N.frame-in-pair u got zeroTables (indexFor ms) (reportFor ms) wide (r - 1) (omega arith) (good-at (r - 1) (omega arith) (before (r - 1) (omega arith))) .1)
+      ∙ N.frame-in-pair ch u got zeroTables (indexFor ms) (reportFor ms) wide (r - 1) (omega arith) (good-at (r - 1) (omega arith) (before (r - 1) (omega arith))) .1)
       ∙ speaks u (secondFrame (r - 1)) (omega arith)
 
   -- and zero where it is taken from behind, or is a good pair's
@@ -536,18 +539,18 @@ module _ (u : Utterance) (two : 2 ≤ multiframesOf u) (full : frameCount (u .in
   from-behind i h e l =
       ap allZero
       (frame-is i h ∙ ap (λ (k : ℕ). part (frameIndices * k) frameIndices (receivedFrames got (rowOf ms))) e
-      ∙ N.frame-in-pair u got zeroTables (indexFor ms) (reportFor ms) wide b l (good-at b l (behind b (omega arith) l)) .0
+      ∙ N.frame-in-pair ch u got zeroTables (indexFor ms) (reportFor ms) wide b l (good-at b l (behind b (omega arith) l)) .0
       ∙ row-past (u .indices) (frameIndices * firstFrame b) frameIndices (omega (arith, whole-frames u)))
 
   good-silent : (i : ℕ) → firstFrame b ≤ i → i < multiframeFrames * ms → zeroFrame all i ≡ true
   unfolding zeroFrame
   good-silent i l h =
       ap allZero
-      (N.index-frame u got zeroTables (indexFor ms) (reportFor ms) wide i h (good-at (pairOf i) (omega arith) (behind (pairOf i) (omega arith) (omega arith)))
+      (N.index-frame ch u got zeroTables (indexFor ms) (reportFor ms) wide i h (good-at (pairOf i) (omega arith) (behind (pairOf i) (omega arith) (omega arith)))
       ∙ row-past (u .indices) (frameIndices * i) frameIndices (omega (arith, whole-frames u)))
 
-  given-is : zeroRead u got .answer ≡ Read (summary got (rowOf ms) ns (sentCommon u))
-  given-is = ap (λ (o : Outcome). o .answer) (N.read-is u got zeroTables (indexFor ms) (reportFor ms) wide)
+  given-is : zeroRead ch u got .answer ≡ Read (summary got (rowOf ms) ns (sentCommon u))
+  given-is = ap (λ (o : Outcome). o .answer) (N.read-is ch u got zeroTables (indexFor ms) (reportFor ms) wide)
 
   speech-is : (n : ℕ) → lastNonzero all (multiframeFrames * (ms - 1)) multiframeFrames ≡ n → summary got (rowOf ms) ns (sentCommon u) .speech ≡ frameCount (u .indices) + n
   speech-is n e =
@@ -579,25 +582,25 @@ module _ (u : Utterance) (two : 2 ≤ multiframesOf u) (full : frameCount (u .in
 abbrev pub endHurt : Utterance → List ℕ
 endHurt u = flipped u (λ k. 0) (hit u (λ q. eqb q (lastFirst u)))
 
-pub record OneMore (u : Utterance) : Type 0 where
-  pub wider : N.Wider u (endHurt u) zeroTables (indexFor (multiframesOf u)) (reportFor (multiframesOf u))
-  pub named : pairNoteIn (zeroRead u (endHurt u) .report) (lastFirst u) ≡ 1
-  pub others : (q : ℕ) → q < pairsOf u → (q ≡ lastFirst u → ⊥) → pairNoteIn (zeroRead u (endHurt u) .report) q ≡ 0
+pub record OneMore (ch : Choices) (u : Utterance) : Type 0 where
+  pub wider : N.Wider ch u (endHurt u) zeroTables (indexFor (multiframesOf u)) (reportFor (multiframesOf u))
+  pub named : pairNoteIn (zeroRead ch u (endHurt u) .report) (lastFirst u) ≡ 1
+  pub others : (q : ℕ) → q < pairsOf u → (q ≡ lastFirst u → ⊥) → pairNoteIn (zeroRead ch u (endHurt u) .report) q ≡ 0
   pub given : Summary
-  pub succeeds : zeroRead u (endHurt u) .answer ≡ Read given
+  pub succeeds : zeroRead ch u (endHurt u) .answer ≡ Read given
   pub speech : given .speech ≡ frameCount (u .indices) + 1
 
-module _ (u : Utterance) (two : 2 ≤ multiframesOf u) (full : frameCount (u .indices) ≡ multiframeFrames * (multiframesOf u - 1)) where
+module _ (ch : Choices) (u : Utterance) (two : 2 ≤ multiframesOf u) (full : frameCount (u .indices) ≡ multiframeFrames * (multiframesOf u - 1)) where
   -- ONE FRAME MORE IS HEARD
-  pub one-more : OneMore u
+  pub one-more : OneMore ch u
   one-more = record {
     wider = w;
-    named = N.names-wider u (endHurt u) zeroTables (indexFor (multiframesOf u)) (reportFor (multiframesOf u)) w .names .damaged (lastFirst u) (omega arith) .1
+    named = N.names-wider ch u (endHurt u) zeroTables (indexFor (multiframesOf u)) (reportFor (multiframesOf u)) w .names .damaged (lastFirst u) (omega arith) .1
         (told-touched u is (λ k. 0) (λ k. lit< tt) (lastFirst u) (omega arith) (eq-eqb (lastFirst u) (lastFirst u) refl));
-    others = λ q h n. zero-unnamed u (endHurt u) q (untold-whole u is (λ k. 0) (λ k. lit< tt) q h (ne-eqb q (lastFirst u) n)) h w;
+    others = λ q h n. zero-unnamed u (endHurt u) q (untold-whole u is (λ k. 0) (λ k. lit< tt) q h (ne-eqb q (lastFirst u) n)) ch h w;
     given = summary (endHurt u) (rowOf (multiframesOf u)) (zeroNotes u (endHurt u)) (sentCommon u);
-    succeeds = given-is u two full is b some most inside before behind;
-    speech = speech-is u two full is b some most inside before behind 1 (one-heard u two full is b some most inside before behind refl);
+    succeeds = given-is ch u two full is b some most inside before behind;
+    speech = speech-is ch u two full is b some most inside before behind 1 (one-heard ch u two full is b some most inside before behind refl);
   }
     where
       is : ℕ → Bool
@@ -621,43 +624,43 @@ module _ (u : Utterance) (two : 2 ≤ multiframesOf u) (full : frameCount (u .in
       behind : (q : ℕ) → b ≤ q → q < pairsOf u → is q ≡ false
       behind q h l = ne-eqb q (lastFirst u) (λ e. omega arith)
 
-      w : N.Wider u (endHurt u) zeroTables (indexFor (multiframesOf u)) (reportFor (multiframesOf u))
-      w = wide u two full is b some most inside before behind
+      w : N.Wider ch u (endHurt u) zeroTables (indexFor (multiframesOf u)) (reportFor (multiframesOf u))
+      w = wide ch u two full is b some most inside before behind
 
 -- so of 24 frames 25 are heard
 filled-24 : frameCount (says24 .indices) ≡ multiframeFrames * (multiframesOf says24 - 1)
 filled-24 = frames-24 ∙ ap (λ (m : ℕ). multiframeFrames * (m - 1)) (sym two-multiframes)
 
-pub more-24 : OneMore says24
-more-24 = one-more says24 (le-of-eq (sym two-multiframes)) filled-24
+pub more-24 : (ch : Choices) → OneMore ch says24
+more-24 ch = one-more ch says24 (le-of-eq (sym two-multiframes)) filled-24
 
-pub heard-25 : more-24 .given .speech ≡ 25
-heard-25 = more-24 .speech ∙ ap (λ (n : ℕ). n + 1) frames-24
+pub heard-25 : (ch : Choices) → more-24 ch .given .speech ≡ 25
+heard-25 ch = more-24 ch .speech ∙ ap (λ (n : ℕ). n + 1) frames-24
 
 -- one flip in each packet of the last multiframe: all of it is named, speech is a multiframe more than was sent, and the end is gone
 abbrev pub endGone : Utterance → List ℕ
 endGone u = flipped u (λ k. 0) (hit u (λ q. leb (lastFirst u) q))
 
-pub record NoEnd (u : Utterance) : Type 0 where
-  pub wider : N.Wider u (endGone u) zeroTables (indexFor (multiframesOf u)) (reportFor (multiframesOf u))
-  pub others : (q : ℕ) → q < lastFirst u → pairNoteIn (zeroRead u (endGone u) .report) q ≡ 0
+pub record NoEnd (ch : Choices) (u : Utterance) : Type 0 where
+  pub wider : N.Wider ch u (endGone u) zeroTables (indexFor (multiframesOf u)) (reportFor (multiframesOf u))
+  pub others : (q : ℕ) → q < lastFirst u → pairNoteIn (zeroRead ch u (endGone u) .report) q ≡ 0
   pub given : Summary
-  pub succeeds : zeroRead u (endGone u) .answer ≡ Read given
+  pub succeeds : zeroRead ch u (endGone u) .answer ≡ Read given
   pub speech : given .speech ≡ frameCount (u .indices) + multiframeFrames
   pub end : given .end ≡ 0
 
-module _ (u : Utterance) (two : 2 ≤ multiframesOf u) (full : frameCount (u .indices) ≡ multiframeFrames * (multiframesOf u - 1)) where
+module _ (ch : Choices) (u : Utterance) (two : 2 ≤ multiframesOf u) (full : frameCount (u .indices) ≡ multiframeFrames * (multiframesOf u - 1)) where
   -- THE END IS NOT HEARD
-  pub no-end : NoEnd u
+  pub no-end : NoEnd ch u
   no-end = record {
     wider = w;
-    others = λ q h. zero-unnamed u (endGone u) q (untold-whole u is (λ k. 0) (λ k. lit< tt) q (omega arith) (before q h)) (omega arith) w;
+    others = λ q h. zero-unnamed u (endGone u) q (untold-whole u is (λ k. 0) (λ k. lit< tt) q (omega arith) (before q h)) ch (omega arith) w;
     given = summary (endGone u) (rowOf (multiframesOf u)) (zeroNotes u (endGone u)) (sentCommon u);
-    succeeds = given-is u two full is b some most inside before behind;
-    speech = speech-is u two full is b some most inside before behind multiframeFrames
+    succeeds = given-is ch u two full is b some most inside before behind;
+    speech = speech-is ch u two full is b some most inside before behind multiframeFrames
         (place-stop (indexPart (endGone u) (rowOf (multiframesOf u)) (zeroNotes u (endGone u))) (multiframeFrames * (multiframesOf u - 1)) multiframeFrames (lit< tt)
         (last (multiframeFrames * (multiframesOf u - 1) + (multiframeFrames - 1)) (omega arith) (omega arith)));
-    end = end-is u two full is b some most inside before behind false (last (multiframeFrames * multiframesOf u - 1) (omega arith) (omega arith));
+    end = end-is ch u two full is b some most inside before behind false (last (multiframeFrames * multiframesOf u - 1) (omega arith) (omega arith));
   }
     where
       is : ℕ → Bool
@@ -683,138 +686,88 @@ module _ (u : Utterance) (two : 2 ≤ multiframesOf u) (full : frameCount (u .in
 
       last : (i : ℕ) → firstFrame (lastFirst u) ≤ i → i < multiframeFrames * multiframesOf u
           → zeroFrame (indexPart (endGone u) (rowOf (multiframesOf u)) (zeroNotes u (endGone u))) i ≡ false
-      last = all-heard u two full is b some most inside before behind refl
+      last = all-heard ch u two full is b some most inside before behind refl
 
-      w : N.Wider u (endGone u) zeroTables (indexFor (multiframesOf u)) (reportFor (multiframesOf u))
-      w = wide u two full is b some most inside before behind
+      w : N.Wider ch u (endGone u) zeroTables (indexFor (multiframesOf u)) (reportFor (multiframesOf u))
+      w = wide ch u two full is b some most inside before behind
 
 -- so of 24 frames 48 are heard, and no end
-pub gone-24 : NoEnd says24
-gone-24 = no-end says24 (le-of-eq (sym two-multiframes)) filled-24
+pub gone-24 : (ch : Choices) → NoEnd ch says24
+gone-24 ch = no-end ch says24 (le-of-eq (sym two-multiframes)) filled-24
 
--- ---- NEVER MISLED NEEDS THE SYNCS: of two multiframes the second is overwritten by inverse syncs. All other premises hold, and one multiframe
--- less is counted
-abbrev pub inverses : ℕ → List ℕ
-inverses n = octetsOf (replicate n inverse)
+-- ---- NEVER MISLED NEEDS THE SYNCS: the last multiframe is overwritten by inverse syncs. All other premises hold, and one multiframe less is
+-- counted. 72 inverse syncs are as long as a multiframe; k multiframes are left
+abbrev pub overwritten : Utterance → ℕ → List ℕ
+overwritten u k = take (multiframeOctets * k) (imageOf u) ++ inverses 72
 
-length-inverses : (n : ℕ) → length (inverses n) ≡ syncOctets * n
-length-inverses zero = refl
-length-inverses (suc n) = ap (λ (k : ℕ). suc (suc k)) (length-inverses n) ∙ omega arith
-
-no-places : (p n : ℕ) → placesOf p (replicate n inverse) ≡ []
-no-places p zero = refl
-no-places p (suc n) = no-places (p + syncOctets) n
-
-proper-inverses : (n : ℕ) → Proper (replicate n inverse)
-proper-inverses zero = tt
-proper-inverses (suc n) = proper-inverses n
-
--- 72 of them are as long as a multiframe
-abbrev pub overwritten : Utterance → List ℕ
-overwritten u = image (u .settings) (u .indices) 1 ++ inverses 72
-
-pub record Miscounts (u : Utterance) (s : List ℕ) : Type 0 where
+pub record Miscounts (ch : Choices) (u : Utterance) (k : ℕ) (s : List ℕ) : Type 0 where
   pub size : length s ≡ length (imageOf u)
   pub headers : M.AllButOne u s
-  pub first-sync : syncIn s 0 ≡ syncIn (imageOf u) 0
-  pub second-sync : syncIn s 1 ≡ inverseFirst ∷ inverseSecond ∷ []
+  pub syncs : (i : ℕ) → i < k → syncIn s i ≡ syncIn (imageOf u) i
+  pub last-sync : syncIn s k ≡ inverseFirst ∷ inverseSecond ∷ []
   pub given : Summary
-  pub succeeds : zeroRead u s .answer ≡ Read given
-  pub count : given .multiframes ≡ 1
+  pub succeeds : zeroRead ch u s .answer ≡ Read given
+  pub count : given .multiframes ≡ k
   pub misled : M.AsSent u s given → ⊥
 
-module _ (u : Utterance) (twice : multiframesOf u ≡ 2) where
+module _ (ch : Choices) (u : Utterance) (k : ℕ) (some : 0 < k) (last : multiframesOf u ≡ k + 1) (enough : Enough ch k) where
   abbrev front : List ℕ
-  front = image (u .settings) (u .indices) 1
+  front = take (multiframeOctets * k) (imageOf u)
 
-  abbrev cutUp : List ℕ
-  cutUp = overwritten u
+  abbrev gone : List ℕ
+  gone = overwritten u k
 
-  front-size : length front ≡ multiframeOctets
-  front-size = length-image (u .settings) (u .indices) 1
+  within : k ≤ multiframesOf u
+  within = omega arith
 
-  front-part : (a v : ℕ) → a + v ≤ multiframeOctets → part a v cutUp ≡ part a v front
-  front-part a v h = part-left front (inverses 72) a v (omega (arith, front-size))
+  front-size : length front ≡ multiframeOctets * k
+  front-size = F.size-first u (imageOf u) (unharmed u) k within
 
-  front-octet : (i : ℕ) → i < 2 → getD front i 0 ≡ getD sync i 0
-  front-octet i h = sym (getD-take 2 (drop 0 front) i 0 h) ∙ ap (λ (l : List ℕ). getD l i 0) (image-sync (u .settings) (u .indices) 1 0 (lit< tt))
+  front-part : (a v : ℕ) → a + v ≤ multiframeOctets * k → part a v gone ≡ part a v (imageOf u)
+  front-part a v h = part-left front (inverses 72) a v (omega (arith, front-size)) ∙ F.part-first u (imageOf u) (unharmed u) k within a v h
 
-  -- it is cut into one multiframe
-  cut-once : cutting cutUp ≡ record { places = rowOf 1; ending = whole }
-  cut-once =
-      cut-chunks (multiframe front ∷ replicate 72 inverse) (front-size, front-octet 0 (lit< tt), front-octet 1 (lit< tt), proper-inverses 72)
-      (omega (arith, ap length (no-places multiframeOctets 72)))
-      ∙ ap (λ (l : List ℕ). record { places = 0 ∷ l; ending = whole }) (no-places multiframeOctets 72)
+  no-flip : (i : ℕ) → i < k → headerFlips (imageOf u) gone i ≡ 0
+  no-flip i h =
+      ap (λ (l : List ℕ). ones (bitXor (value (bits l)) (wordIn (imageOf u) i))) (front-part (multiframeOctets * i + syncOctets) headerOctets (omega arith))
+      ∙ ap ones (xor-self (wordIn (imageOf u) i)) ∙ none-flipped
 
-  word-there : wordIn cutUp 0 ≡ wordIn (imageOf u) 0
-  word-there =
-      ap (λ (l : List ℕ). value (bits l)) (front-part syncOctets headerOctets (lit< tt)) ∙ image-word (u .settings) (u .indices) 1 0 (lit< tt)
-      ∙ sym (image-word (u .settings) (u .indices) (multiframesOf u) 0 (omega arith))
-
-  no-flip : headerFlips (imageOf u) cutUp 0 ≡ 0
-  no-flip = ap (λ (w : ℕ). ones (bitXor w (wordIn (imageOf u) 0))) word-there ∙ ap ones (xor-self (wordIn (imageOf u) 0)) ∙ none-flipped
-
-  packet-there : packetIn cutUp 0 ≡ packetOf (u .indices) 0
-  packet-there =
-      ap (λ (l : List ℕ). part 0 packetBits (bits l)) (front-part (syncOctets + headerOctets) streamOctets (lit< tt))
-      ∙ image-packet (u .settings) (u .indices) 1 0 (lit< tt)
-
-  settled-once : settling (readings cutUp (rowOf 1)) ≡ Set.Settled (sentCommon u)
-  settled-once =
-      ap settling (readings-are cutUp 1)
-      ∙ ap (λ (h : Header). settling (h ∷ [])) (header-read u cutUp 0 (omega arith) (omega (arith, no-flip)))
-      ∙ only-clean (decodedAs (wordIn cutUp 0) (sentMessage u 0)) (header-near u cutUp 0 (omega arith) ∙ no-flip) ∙ ap Set.Settled (common-sent u 0)
-
-  good-once : Good (receivedNotes cutUp (rowOf 1) zeroTables)
-  good-once = good-pair cutUp 1 0 (lit< tt) (ap (right dataBits) packet-there ∙ packetOf-good (u .indices) 0)
-
-  read-once : zeroRead u cutUp .answer ≡ Read (summary cutUp (rowOf 1) (receivedNotes cutUp (rowOf 1) zeroTables) (sentCommon u))
-  unfolding reading
-  read-once =
+  -- it is read as the first k multiframes alone are
+  read-gone : zeroRead ch u gone .answer ≡ Read (C.heard u k)
+  read-gone =
       let i = indexFor (multiframesOf u) in
       let r = reportFor (multiframesOf u) in
+      let c = F.cut-first u (imageOf u) (unharmed u) k within in
+      let n : length (cutting front .places) ≡ k = ap (λ (w : Cutting). length (w .places)) c ∙ every-length 0 k in
       let lent = lent-zeros (multiframesOf u) in
-      let pl : cutting cutUp .places ≡ rowOf 1 = ap (λ (w : Cutting). w .places) cut-once in
-      let ns = receivedNotes cutUp (rowOf 1) zeroTables in
-      let fit : Fitting 1 (badPairs ns) (pairCount (rowOf 1)) (length i) (length r) (settling (readings cutUp (rowOf 1))) (sentCommon u) =
-      record {
-        settles = settled-once;
-        usable = usable u;
-        roomy = record {
-          index-room = omega (arith, lent .index-room);
-          report-room = omega (arith, lent .report-room);
-          not-all = λ e. none-good ns (e ∙ sym (length-notes (received cutUp (rowOf 1)) (pairCount (rowOf 1)) zeroTables)) (good-once .pair) (good-once .within) (good-once .good);
-        };
-      } in
-      ap₂ (λ (ps : List ℕ) (v : Verdict). finished cutUp zeroTables i r ps v .answer) pl
-      (accepting cutUp zeroTables (length i) (length r) (sentCommon u)
-      record {
+      ap (λ (o : Outcome). o .answer)
+      (inverses-behind ch front (ap (λ (w : Cutting). w .ending) c) (omega (arith, n)) (omega (arith, n, F.few u (imageOf u) (unharmed u) k within)) 72 zeroTables i r
+      ∙ C.cut-off-reads ch u k some (omega arith) enough zeroTables i r
+      (record {
         codebook-size = lent .codebook-size;
         thresholds-size = lent .thresholds-size;
-        uncut = ap (λ (w : Cutting). w .ending) cut-once;
-        some = λ e. omega (arith, ap length pl);
-        fitting = subst
-            (λ (ps : List ℕ). Fitting (length ps) (badPairs (receivedNotes cutUp ps zeroTables)) (pairCount ps) (length i) (length r) (settling (readings cutUp ps)) (sentCommon u))
-            (sym pl) fit;
-      })
+        index-room = omega (arith, lent .index-room);
+        report-room = omega (arith, lent .report-room);
+      }))
 
-  pub syncs-miscount : Miscounts u (overwritten u)
+  pub syncs-miscount : Miscounts ch u k (overwritten u k)
   syncs-miscount = record {
-    size = length-append front (inverses 72) ∙ omega (arith, front-size, length-inverses 72, length-image (u .settings) (u .indices) (multiframesOf u));
+    size = length-append front (inverses 72) ∙ omega (arith, front-size, inverses-length 72, length-image (u .settings) (u .indices) (multiframesOf u));
     headers = record {
       two = omega arith;
-      but = 1;
-      others = λ k h n. let z : k ≡ 0 = omega arith in subst (λ (i : ℕ). headerFlips (imageOf u) cutUp i ≤ 3) (sym z) (omega (arith, no-flip));
+      but = k;
+      others = λ i h n. omega (arith, no-flip i (omega arith));
     };
-    first-sync = front-part 0 syncOctets (lit< tt) ∙ image-sync (u .settings) (u .indices) 1 0 (lit< tt)
-        ∙ sym (image-sync (u .settings) (u .indices) (multiframesOf u) 0 (omega arith));
-    second-sync = part-right front (inverses 72) multiframeOctets syncOctets front-size;
-    given = summary cutUp (rowOf 1) (receivedNotes cutUp (rowOf 1) zeroTables) (sentCommon u);
-    succeeds = read-once;
+    syncs = λ i h. front-part (multiframeOctets * i) syncOctets (omega arith);
+    last-sync = part-right front (inverses 72) (multiframeOctets * k) syncOctets front-size;
+    given = C.heard u k;
+    succeeds = read-gone;
     count = refl;
-    misled = λ x. let e : 1 ≡ multiframesOf u = x .multiframes in omega arith;
+    misled = λ x. let e : k ≡ multiframesOf u = x .multiframes in omega arith;
   }
 
--- so of 24 frames
-pub miscounted-24 : Miscounts says24 (overwritten says24)
-miscounted-24 = syncs-miscount says24 two-multiframes
+-- so of 24 frames, where the caller asks for the old rule, and of 48 by either choice
+pub miscounted-24 : Miscounts oneHeaderSettles says24 1 (overwritten says24 1)
+miscounted-24 = syncs-miscount oneHeaderSettles says24 1 (lit< tt) two-multiframes (inr refl)
+
+pub miscounted-48 : (ch : Choices) → Miscounts ch says48 2 (overwritten says48 2)
+miscounted-48 ch = syncs-miscount ch says48 2 (lit< tt) three-multiframes (inl (lit≤ tt))

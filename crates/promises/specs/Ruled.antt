@@ -1,5 +1,5 @@
 -- PAIRS THAT THE CONSISTENCY RULE MAKES BAD (01, "Bad pairs"), where one pair is damaged: the inconsistent pair before it, and the inconsistent pairs behind
--- it, one after the other, up to the first consistent one. The premises of `names-the-damage` are met with such pairs, of one multiframe and of two, and a
+-- it, one after the other, up to the first consistent one. The premises of `names-the-damage` are met with such pairs, of one multiframe (by the old rule, 02, C-20) and of two, and a
 -- pair that is only undamaged is not enough for them. The tables are not zero, and no threshold is negative.
 -- Assumes nothing.
 use mathlib.Core.Path.{_≡_, refl, sym, _∙_, subst}
@@ -8,14 +8,17 @@ use mathlib.Core.Logic.{inl, inr, ⊎-elim}
 use Prim.Native.Nat.{ℕ, zero, suc, _+_, _-_, _≤_, _<_}
 use native.Mathlib.Decide.{ℕ-discrete, decLt}
 use native.Mathlib.Omega.{arith}
+use Rattle.choices.specs.Choices.{oneHeaderSettles}
+use Rattle.choices.specs.declared.Choices.{Choices}
 use Rattle.lists.specs.Tests.{true-false}
 use Rattle.consistency.specs.Tables.{Tables}
-use Rattle.bad_pairs.specs.BadPairs.{bad}
 use Rattle.reader.specs.Reading.{outcome, reading}
 use Rattle.reader.specs.declared.Summary.{Summary}
 use Rattle.refusals.specs.declared.Reading.the-variants.{AllBad}
 use Rattle.reader.specs.declared.Answer.the-variants.{Read, Refused}
+use Rattle.settling.specs.Laws.{Enough}
 use Rattle.writer.specs.Utterance.{Utterance, multiframesOf, pairsOf, imageOf}
+use Rattle.demands.specs.Headers.{can-settle}
 use Rattle.demands.specs.Damage.{Touched}
 use Rattle.demands.specs.Whole.{Lent, pairNoteIn}
 use Rattle.demands.specs.Received.{Inconsistent, BadBefore, ByRule, BadPair, Count, count-once, count-one, count-none}
@@ -76,10 +79,11 @@ module _ (u : Utterance) (p : ℕ) (inside : p < pairsOf u) (tables : Tables) wh
   unfolding BadBefore
   good-past r h consistent q l i = none-past r h consistent (suc q) (omega arith) (omega arith)
 
-  -- any pair that is not bad meets the premises of NAMES THE DAMAGE, also of one multiframe, since no header is touched
-  pub met : (index report : List ℕ) → Lent (multiframesOf u) tables index report → (q : ℕ) → q < pairsOf u → (BadPair u s tables q → ⊥)
-      → N.Premises u s tables index report
-  met index report lent q h good = record { damage = hits u p; headers = inr (clean-header u p 0 (omega arith)); pair = q; within = h; not-bad = good; lent = lent }
+  -- any pair that is not bad meets the premises of NAMES THE DAMAGE, where the caller asks for the old rule also of one multiframe, since no header is
+  -- touched
+  pub met : (ch : Choices) → Enough ch (multiframesOf u) → (index report : List ℕ) → Lent (multiframesOf u) tables index report → (q : ℕ) → q < pairsOf u → (BadPair u s tables q → ⊥)
+      → N.Premises ch u s tables index report
+  met ch sent index report lent q h good = record { damage = hits u p; headers = can-settle ch (multiframesOf u) _ sent (clean-header u p 0 (omega arith)); pair = q; within = h; not-bad = good; lent = lent }
 
 -- the first a numbers are not so, and the b behind them are
 count-behind : (P : ℕ → Type 0) (a b : ℕ) → ((q : ℕ) → q < a → P q → ⊥) → ((q : ℕ) → a ≤ q → q < a + b → P q) → Count P (b + a) b
@@ -95,25 +99,25 @@ count-behind P a (suc b) f g =
     (count-one P (b + a) b (count-behind P a b f (λ q h l. g q h (omega arith))) (g (b + a) (omega arith) (omega arith)))
 
 -- ---- THE CHAIN, READ: every pair is inconsistent, and pair p alone is damaged
-pub record Chain (u : Utterance) (p : ℕ) (tables : Tables) (index report : List ℕ) : Type 0 where
+pub record Chain (ch : Choices) (u : Utterance) (p : ℕ) (tables : Tables) (index report : List ℕ) : Type 0 where
   pub alone : (q : ℕ) → q < pairsOf u → (q ≡ p → ⊥) → Touched (imageOf u) (hitImage u p) q → ⊥
-  pub premises : N.Premises u (hitImage u p) tables index report
+  pub premises : N.Premises ch u (hitImage u p) tables index report
   pub given : Summary
-  pub is-read : reading (hitImage u p) tables index report .answer ≡ Read given
+  pub is-read : reading ch (hitImage u p) tables index report .answer ≡ Read given
   -- the note of the damaged pair is 1
-  pub hit : pairNoteIn (reading (hitImage u p) tables index report .report) p ≡ 1
+  pub hit : pairNoteIn (reading ch (hitImage u p) tables index report .report) p ≡ 1
   -- that of the pair before it and of each pair behind it is 2: they are bad by the rule alone
-  pub before : (q : ℕ) → suc q ≡ p → pairNoteIn (reading (hitImage u p) tables index report .report) q ≡ 2
-  pub behind : (q : ℕ) → p < q → q < pairsOf u → pairNoteIn (reading (hitImage u p) tables index report .report) q ≡ 2
+  pub before : (q : ℕ) → suc q ≡ p → pairNoteIn (reading ch (hitImage u p) tables index report .report) q ≡ 2
+  pub behind : (q : ℕ) → p < q → q < pairsOf u → pairNoteIn (reading ch (hitImage u p) tables index report .report) q ≡ 2
   -- and that of every pair before those is 0: inconsistent too, and good
-  pub earlier : (q : ℕ) → suc q < p → pairNoteIn (reading (hitImage u p) tables index report .report) q ≡ 0
+  pub earlier : (q : ℕ) → suc q < p → pairNoteIn (reading ch (hitImage u p) tables index report .report) q ≡ 0
   -- `bad` counts the damaged pair, the one before it and all behind it
   pub count : p - 1 + given .bad ≡ pairsOf u
 
 -- if it is not one of the first two pairs, so that one is good
-pub chain : (u : Utterance) (p : ℕ) (tables : Tables) (index report : List ℕ) → ((q : ℕ) → q < pairsOf u → Inconsistent u (hitImage u p) tables q)
-    → 2 ≤ p → p < pairsOf u → Lent (multiframesOf u) tables index report → Chain u p tables index report
-chain u p tables index report inconsistent two inside lent = record {
+pub chain : (ch : Choices) (u : Utterance) → Enough ch (multiframesOf u) → (p : ℕ) (tables : Tables) (index report : List ℕ) → ((q : ℕ) → q < pairsOf u → Inconsistent u (hitImage u p) tables q)
+    → 2 ≤ p → p < pairsOf u → Lent (multiframesOf u) tables index report → Chain ch u p tables index report
+chain ch u sent p tables index report inconsistent two inside lent = record {
   alone = not-hit u p;
   premises = premises;
   given = named .given;
@@ -128,17 +132,17 @@ chain u p tables index report inconsistent two inside lent = record {
   count = omega (arith, count-once (BadPair u (hitImage u p) tables) (pairsOf u) (named .given .bad) (pairsOf u - (p - 1)) (named .names .counted) all-behind);
 }
   where
-    premises : N.Premises u (hitImage u p) tables index report
-    premises = met u p inside tables index report lent 0 (omega arith) (good-before u p inside tables 0 (omega arith))
+    premises : N.Premises ch u (hitImage u p) tables index report
+    premises = met u p inside tables ch sent index report lent 0 (omega arith) (good-before u p inside tables 0 (omega arith))
 
-    named : N.Named u (hitImage u p) tables index report
-    named = N.names-the-damage u (hitImage u p) tables index report premises
+    named : N.Named ch u (hitImage u p) tables index report
+    named = N.names-the-damage ch u (hitImage u p) tables index report premises
 
     note : ℕ → ℕ
-    note q = pairNoteIn (reading (hitImage u p) tables index report .report) q
+    note q = pairNoteIn (reading ch (hitImage u p) tables index report .report) q
 
     note-2 : (q : ℕ) → q < pairsOf u → (q ≡ p → ⊥) → ByRule u (hitImage u p) tables q
-        → pairNoteIn (reading (hitImage u p) tables index report .report) q ≡ 2
+        → pairNoteIn (reading ch (hitImage u p) tables index report .report) q ≡ 2
     note-2 q h n r = named .names .ruled q h (not-hit u p q h n) r
 
     bad-from : (q : ℕ) → p - 1 ≤ q → q < pairsOf u → BadPair u (hitImage u p) tables q
@@ -156,24 +160,24 @@ chain u p tables index report inconsistent two inside lent = record {
         (count-behind (BadPair u (hitImage u p) tables) (p - 1) (pairsOf u - (p - 1)) (λ q h. good-before u p inside tables q (omega arith))
         (λ q l h. bad-from q l (omega arith)))
 
--- it is so of one multiframe
-pub chain-23 : Chain rises23 5 stairs (indexFor 1) (reportFor 1)
-chain-23 = chain rises23 5 stairs (indexFor 1) (reportFor 1) inconsistent-23 (omega arith) (omega arith) (lent-stairs 1)
+-- it is so of one multiframe, where the caller asks for the old rule
+pub chain-23 : Chain oneHeaderSettles rises23 5 stairs (indexFor 1) (reportFor 1)
+chain-23 = chain oneHeaderSettles rises23 (inr refl) 5 stairs (indexFor 1) (reportFor 1) inconsistent-23 (omega arith) (omega arith) (lent-stairs 1)
 
 -- of two, where the chain runs on from the first into the second
-pub chain-47 : Chain rises47 10 stairs (indexFor 2) (reportFor 2)
-chain-47 = chain rises47 10 stairs (indexFor 2) (reportFor 2) inconsistent-47 (omega arith) (omega arith) (lent-stairs 2)
+pub chain-47 : (ch : Choices) → Chain ch rises47 10 stairs (indexFor 2) (reportFor 2)
+chain-47 ch = chain ch rises47 (inl (omega arith)) 10 stairs (indexFor 2) (reportFor 2) inconsistent-47 (omega arith) (omega arith) (lent-stairs 2)
 
 -- and a chain that stops: of 7 frames the first pair is damaged, the three behind it are bad by the rule, and the padding behind them is good
 pub record Stops : Type 0 where
-  pub premises : N.Premises rises7 (hitImage rises7 0) stairs (indexFor 1) (reportFor 1)
+  pub premises : N.Premises oneHeaderSettles rises7 (hitImage rises7 0) stairs (indexFor 1) (reportFor 1)
   pub hit : Touched (imageOf rises7) (hitImage rises7 0) 0
   pub ruled : (q : ℕ) → 0 < q → q < 4 → ByRule rises7 (hitImage rises7 0) stairs q
   pub good : (q : ℕ) → 4 ≤ q → q < 12 → BadPair rises7 (hitImage rises7 0) stairs q → ⊥
 
 pub stops-7 : Stops
 stops-7 = record {
-  premises = met rises7 0 (omega arith) stairs (indexFor 1) (reportFor 1) (lent-stairs 1) 4 (omega arith) (good 4 (omega arith) (omega arith));
+  premises = met rises7 0 (omega arith) stairs oneHeaderSettles (inr refl) (indexFor 1) (reportFor 1) (lent-stairs 1) 4 (omega arith) (good 4 (omega arith) (omega arith));
   hit = is-hit rises7 0 (omega arith);
   ruled = λ q h l. ruled-behind rises7 0 (omega arith) stairs q h (λ i a b. inconsistent-7 i (omega arith));
   good = good;
@@ -183,19 +187,22 @@ stops-7 = record {
     good = good-past rises7 0 (omega arith) stairs 4 (omega arith) (λ e. true-false (sym e ∙ consistent-7))
 
 -- ---- ONE UNDAMAGED PAIR IS NOT ENOUGH: only the first pair is damaged, every other is bad by the rule, and the reading is refused, 20
-pub undamaged-not-enough : (u : Utterance) (tables : Tables) (index report : List ℕ) → ((q : ℕ) → q < pairsOf u → Inconsistent u (hitImage u 0) tables q)
+pub undamaged-not-enough : (ch : Choices) (u : Utterance) → Enough ch (multiframesOf u) → (tables : Tables) (index report : List ℕ) → ((q : ℕ) → q < pairsOf u → Inconsistent u (hitImage u 0) tables q)
     → Lent (multiframesOf u) tables index report
     → ((q : ℕ) → 0 < q → q < pairsOf u → Touched (imageOf u) (hitImage u 0) q → ⊥)
-    × (reading (hitImage u 0) tables index report ≡ outcome (Refused AllBad) index report)
-undamaged-not-enough u tables index report inconsistent lent = (
+    × (reading ch (hitImage u 0) tables index report ≡ outcome (Refused AllBad) index report)
+undamaged-not-enough ch u sent tables index report inconsistent lent = (
   (λ q h l. not-hit u 0 q l (λ e. omega arith)),
-  all-bad-refuses u (hitImage u 0) (hits u 0) tables index report lent (inr (clean-header u 0 0 (omega arith))) every,
+  all-bad-refuses ch u (hitImage u 0) (hits u 0) tables index report lent (can-settle ch (multiframesOf u) _ sent (clean-header u 0 0 (omega arith))) every,
 )
   where
     every : (q : ℕ) → q < pairsOf u → BadPair u (hitImage u 0) tables q
     every zero h = inl (is-hit u 0 h)
     every (suc q) h = inr (ruled-behind u 0 (omega arith) tables (suc q) (omega arith) (λ i a b. inconsistent i (omega arith)))
 
--- it is so of one multiframe
-pub all-but-one : reading (hitImage rises23 0) stairs (indexFor 1) (reportFor 1) ≡ outcome (Refused AllBad) (indexFor 1) (reportFor 1)
-all-but-one = undamaged-not-enough rises23 stairs (indexFor 1) (reportFor 1) inconsistent-23 (lent-stairs 1) .1
+-- it is so of one multiframe, where the caller asks for the old rule, and of two
+pub all-but-one : reading oneHeaderSettles (hitImage rises23 0) stairs (indexFor 1) (reportFor 1) ≡ outcome (Refused AllBad) (indexFor 1) (reportFor 1)
+all-but-one = undamaged-not-enough oneHeaderSettles rises23 (inr refl) stairs (indexFor 1) (reportFor 1) inconsistent-23 (lent-stairs 1) .1
+
+pub all-but-one-47 : (ch : Choices) → reading ch (hitImage rises47 0) stairs (indexFor 2) (reportFor 2) ≡ outcome (Refused AllBad) (indexFor 2) (reportFor 2)
+all-but-one-47 ch = undamaged-not-enough ch rises47 (inl (omega arith)) stairs (indexFor 2) (reportFor 2) inconsistent-47 (lent-stairs 2) .1

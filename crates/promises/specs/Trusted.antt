@@ -3,7 +3,7 @@
 -- of them has at most five flips, since a header with note 0 is a codeword and two codewords are six bits apart.
 -- Assumes nothing.
 use mathlib.Core.Path.{_≡_, sym, ap, _∙_, subst}
-use mathlib.Core.List.{List, [], _∷_}
+use mathlib.Core.List.{List, []}
 use Prim.Native.Nat.{ℕ, _+_, _*_, _/_, _%_, _≤_, _<_}
 use native.Mathlib.Decide.{ℕ-discrete}
 use native.Mathlib.Omega.{arith}
@@ -14,6 +14,7 @@ use lib.ListN.{length, getD, replicate}
 use Rattle.lists.specs.Parts.{over}
 use Rattle.lists.specs.Rows.{each-at}
 use Rattle.layout.specs.Layout.{multiframePairs, multiframeOctets, indexOctets, reportOctets, sync}
+use Rattle.choices.specs.declared.Choices.{Choices}
 use Rattle.consistency.specs.Tables.{Tables}
 use Rattle.settings.specs.declared.Settings.{Settings}
 use Rattle.packet.specs.Packet.{packetOf}
@@ -36,6 +37,7 @@ use Rattle.reader.specs.declared.Summary.{Summary}
 use Rattle.reader.specs.declared.Answer.the-variants.{Read}
 use Rattle.image.specs.Made.{syncIn, wordIn, packetIn}
 use Rattle.image.specs.Laws.{length-image, image-sync}
+use Rattle.settling.specs.Laws.{length-readings, Enough, settled-enough}
 use Rattle.writer.specs.Laws.{few-multiframes}
 use Rattle.writer.specs.Utterance.{Utterance, multiframesOf, imageOf, is-accepted, settings-right}
 use Rattle.demands.specs.Damage.{DamageUpTo, Damage, headerBits, loosened, headerFlips, sentMessage, header-near, Fate, whole, hit, fate}
@@ -46,23 +48,23 @@ use Rattle.demands.specs.ReadsBack.{spoken, padded, reads-image}
 use Rattle.demands.specs.WritesAgain as A
 
 -- ---- "a reading that succeeds with all notes 0"
-module _ (s : List ℕ) (tables : Tables) (index report : List ℕ) (given : Summary) where
+module _ (ch : Choices) (s : List ℕ) (tables : Tables) (index report : List ℕ) (given : Summary) where
   abbrev pub result : Outcome
-  result = reading s tables index report
+  result = reading ch s tables index report
 
   pub record WithoutWarning : Type 0 where
     pub succeeds : result .answer ≡ Read given
     pub notes-0 : (i : ℕ) → i < reportOctets * given .multiframes → getD (result .report) i 0 ≡ 0
 
 -- ---- "is of the image as written: settings, frames, speech and end are those sent"
-module _ (u : Utterance) (s : List ℕ) (tables : Tables) (index report : List ℕ) (given : Summary) where
+module _ (ch : Choices) (u : Utterance) (s : List ℕ) (tables : Tables) (index report : List ℕ) (given : Summary) where
   pub record AsWritten : Type 0 where
     pub image : s ≡ imageOf u
     -- the same settings, m, speech equal to n, no bad pair, end 1
     pub sent : given ≡ spoken u
     -- the frames as written and zeros after them
-    pub frames : result s tables index report given .index ≡ over index 0 (indexOctets * multiframesOf u) (padded u)
-    pub notes : result s tables index report given .report ≡ over report 0 (reportOctets * multiframesOf u) (replicate (reportOctets * multiframesOf u) 0)
+    pub frames : result ch s tables index report given .index ≡ over index 0 (indexOctets * multiframesOf u) (padded u)
+    pub notes : result ch s tables index report given .report ≡ over report 0 (reportOctets * multiframesOf u) (replicate (reportOctets * multiframesOf u) 0)
 
 -- demand 3's damage to pairs, any damage to headers but for one, which has at most five flips
 pub record Premises (u : Utterance) (s : List ℕ) : Type 0 where
@@ -71,8 +73,8 @@ pub record Premises (u : Utterance) (s : List ℕ) : Type 0 where
   pub within : header < multiframesOf u
   pub five : headerFlips (imageOf u) s header ≤ 5
 
-module _ (u : Utterance) (s : List ℕ) (p : Premises u s) (tables : Tables) (index report : List ℕ) (given : Summary)
-    (x : WithoutWarning s tables index report given) where
+module _ (ch : Choices) (u : Utterance) (s : List ℕ) (p : Premises u s) (tables : Tables) (index report : List ℕ) (given : Summary)
+    (x : WithoutWarning ch s tables index report given) where
   abbrev m : ℕ
   m = multiframesOf u
 
@@ -88,8 +90,8 @@ module _ (u : Utterance) (s : List ℕ) (p : Premises u s) (tables : Tables) (in
   cut : cutting s .places ≡ rowOf m
   cut = ap (λ (w : Cutting). w .places) (cut-is s m (few-multiframes (u .settings) (u .indices) (is-accepted u .sizes)) size syncs)
 
-  w : A.WasRead s tables index report [] given
-  w = A.was-read s tables index report [] given (x .succeeds)
+  w : A.WasRead ch s tables index report [] given
+  w = A.was-read ch s tables index report [] given (x .succeeds)
 
   abbrev places : List ℕ
   places = cutting s .places
@@ -173,11 +175,15 @@ module _ (u : Utterance) (s : List ℕ) (p : Premises u s) (tables : Tables) (in
     report-room = subst (λ (n : ℕ). reportOctets * n ≤ length report) rows (w .reader-accepts .fitting .roomy .report-room);
   }
 
-  read-is : result s tables index report given
-      ≡ outcome (Read (spoken u)) (over index 0 (indexOctets * m) (padded u)) (over report 0 (reportOctets * m) (replicate (reportOctets * m) 0))
-  read-is = ap (λ (i : List ℕ). reading i tables index report) is-sent ∙ reads-image u tables index report lent
+  -- what was read had enough headers
+  enough : Enough ch m
+  enough = subst (Enough ch) (length-readings s places ∙ rows) (settled-enough ch (readings s places) c (w .reader-accepts .fitting .settles))
 
-  proof : AsWritten u s tables index report given
+  read-is : result ch s tables index report given
+      ≡ outcome (Read (spoken u)) (over index 0 (indexOctets * m) (padded u)) (over report 0 (reportOctets * m) (replicate (reportOctets * m) 0))
+  read-is = ap (λ (i : List ℕ). reading ch i tables index report) is-sent ∙ reads-image ch u enough tables index report lent
+
+  proof : AsWritten ch u s tables index report given
   proof = record {
     image = is-sent;
     sent = let r : Read given ≡ Read (spoken u) = sym (x .succeeds) ∙ ap (λ (o : Outcome). o .answer) read-is in cc;
@@ -186,13 +192,13 @@ module _ (u : Utterance) (s : List ℕ) (p : Premises u s) (tables : Tables) (in
   }
 
 -- TRUSTED BY ONE HEADER
-pub trusted-by-one : (u : Utterance) (s : List ℕ) → Premises u s → (tables : Tables) (index report : List ℕ) (given : Summary)
-    → WithoutWarning s tables index report given → AsWritten u s tables index report given
-trusted-by-one = proof
+pub trusted-by-one : (ch : Choices) (u : Utterance) (s : List ℕ) → Premises u s → (tables : Tables) (index report : List ℕ) (given : Summary)
+    → WithoutWarning ch s tables index report given → AsWritten ch u s tables index report given
+trusted-by-one ch = proof ch
 
 -- TRUSTED: demand 3's damage
-pub trusted : (u : Utterance) (s : List ℕ) → Damage (multiframesOf u) (imageOf u) s → (tables : Tables) (index report : List ℕ) (given : Summary)
-    → WithoutWarning s tables index report given → AsWritten u s tables index report given
-trusted u s d =
-    trusted-by-one u s
+pub trusted : (ch : Choices) (u : Utterance) (s : List ℕ) → Damage (multiframesOf u) (imageOf u) s → (tables : Tables) (index report : List ℕ) (given : Summary)
+    → WithoutWarning ch s tables index report given → AsWritten ch u s tables index report given
+trusted ch u s d =
+    trusted-by-one ch u s
     (record { damage = loosened (lit< tt) d; header = 0; within = omega arith; five = let l = d .headers 0 (omega arith) in omega arith })

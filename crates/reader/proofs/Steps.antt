@@ -10,6 +10,7 @@ use lib.Seq.{take-at}
 use Rattle.lists.specs.Tests.{when}
 use Rattle.lists.specs.Parts.{over, over-in, drop-over, part-left}
 use Rattle.layout.specs.Layout.{frameIndices, pairFrames, multiframeFrames, indexOctets, reportOctets}
+use Rattle.choices.specs.declared.Choices.{Choices}
 use Rattle.consistency.specs.Tables.{Tables}
 use Rattle.settings.specs.declared.Settings.{Settings}
 use Rattle.frames.specs.Frames.{allZero, zeroFrame}
@@ -94,10 +95,10 @@ pub record Ready (octets : List ℕ) (tables : Tables) (index report : ℕ) (pla
   pub index-room : indexOctets * length places ≤ index
   pub report-room : reportOctets * length places ≤ report
 
-pub ready : (octets : List ℕ) (tables : Tables) (index report : ℕ) (places : List ℕ) (c : ℕ)
-    → wholeVerdict octets tables index report places ≡ Accept c → Ready octets tables index report places
-ready octets tables index report places c e =
-    let h = whole-accepted octets tables index report places c e in
+pub ready : (ch : Choices) (octets : List ℕ) (tables : Tables) (index report : ℕ) (places : List ℕ) (c : ℕ)
+    → wholeVerdict ch octets tables index report places ≡ Accept c → Ready octets tables index report places
+ready ch octets tables index report places c e =
+    let h = whole-accepted ch octets tables index report places c e in
     let ns = receivedNotes octets places tables in
     let n = length-notes (received octets places) (pairCount places) tables in
     let roomy = h .1 .roomy in
@@ -146,10 +147,10 @@ has-front g l n e = rw length-append (omega arith)
 pub front-places : (ps l m : List ℕ) (n : ℕ) → m ≡ laid 0 ps l → n ≡ length ps → take n m ≡ ps
 front-places ps l m n em en = rw (em, en) (take-at ps (drop (0 + length ps) l) (length ps) refl)
 
-module _ (octets : List ℕ) (tables : Tables) (index report : List ℕ) where
+module _ (ch : Choices) (octets : List ℕ) (tables : Tables) (index report : List ℕ) where
   -- what `reading` says of answer and buffers, it says of 01's number and values
-  pub in-numbers : {o : Outcome} → o ≡ reading octets tables index report
-      → (o ≡ reading octets tables index report)
-      × ((answerNumber (o .answer) ≡ answerNumber (reading octets tables index report .answer))
-      × (answerValues (o .answer) ≡ answerValues (reading octets tables index report .answer)))
+  pub in-numbers : {o : Outcome} → o ≡ reading ch octets tables index report
+      → (o ≡ reading ch octets tables index report)
+      × ((answerNumber (o .answer) ≡ answerNumber (reading ch octets tables index report .answer))
+      × (answerValues (o .answer) ≡ answerValues (reading ch octets tables index report .answer)))
   in-numbers e = (e, (ap (λ (q : Outcome). answerNumber (q .answer)) e, ap (λ (q : Outcome). answerValues (q .answer)) e))

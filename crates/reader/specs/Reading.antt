@@ -1,5 +1,5 @@
--- One definition of what a reading answers and leaves in both buffers, for every input (01, "Reading"). Frames, pairs and multiframes
--- count from 0.
+-- One definition of what a reading answers and leaves in both buffers, for every input (01, "Reading"; 02, C-20). ch is what the caller chose.
+-- Frames, pairs and multiframes count from 0.
 -- Assumes nothing.
 use Prim.Native.Nat.{ℕ, _*_}
 use mathlib.Core.List.{List, [], _∷_}
@@ -7,6 +7,7 @@ use lib.ListN.{length}
 use Rattle.lists.specs.Tests.{when}
 use Rattle.lists.specs.Parts.{over}
 use Rattle.layout.specs.Layout.{indexOctets, reportOctets}
+use Rattle.choices.specs.declared.Choices.{Choices}
 use Rattle.consistency.specs.Tables.{Tables, tablesRight}
 use Rattle.refusals.specs.Refusals.{success, readingNumber, readingPlace}
 use Rattle.refusals.specs.declared.Reading.the-variants.{WrongTables}
@@ -56,10 +57,10 @@ summary octets places ns c =
     }
 
 -- ---- every refusal, in 01's order: 11, then what cutting meets, then `wholeVerdict`
-module _ (octets : List ℕ) (tables : Tables) (index report : ℕ) where
+module _ (ch : Choices) (octets : List ℕ) (tables : Tables) (index report : ℕ) where
   -- 12, 13 and 15, as cutting meets them
   abbrev pub endVerdict : List ℕ → Ending → Verdict
-  endVerdict places whole = wholeVerdict octets tables index report places
+  endVerdict places whole = wholeVerdict ch octets tables index report places
   endVerdict places (refused r) = Refuse r
 
   -- 11: codebook not 1,280 or thresholds not 14. It comes first
@@ -84,9 +85,11 @@ module _ (octets : List ℕ) (tables : Tables) (index report : List ℕ) where
       (over index 0 (indexOctets * length places) (indexPart octets places (receivedNotes octets places tables)))
       (over report 0 (reportOctets * length places) (reportPart octets places (receivedNotes octets places tables) c))
 
+-- by what the caller chose
+module _ (ch : Choices) (octets : List ℕ) (tables : Tables) (index report : List ℕ) where
   -- the reading of multiframes already found: 14 and 16 to 20, or what is read
   abbrev pub readingFound : List ℕ → Outcome
-  readingFound places = finished places (wholeVerdict octets tables (length index) (length report) places)
+  readingFound places = finished octets tables index report places (wholeVerdict ch octets tables (length index) (length report) places)
 
   -- what cutting refuses, else the reading of what it found
   abbrev pub endReading : List ℕ → Ending → Outcome
@@ -95,4 +98,4 @@ module _ (octets : List ℕ) (tables : Tables) (index report : List ℕ) where
 
   -- decided first, then finished; `in-order` says it by its parts: 11, what cutting refuses, else `readingFound`
   unfoldable pub reading : Outcome
-  reading = finished (cutting octets .places) (verdict octets tables (length index) (length report))
+  reading = finished octets tables index report (cutting octets .places) (verdict ch octets tables (length index) (length report))

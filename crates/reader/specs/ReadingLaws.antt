@@ -10,6 +10,7 @@ use borrow.Author.Tests.{eq-eqb, ne-eqb, le-ltb}
 use Rattle.lists.specs.Tests.{when, by-test}
 use Rattle.lists.specs.Parts.{over}
 use Rattle.layout.specs.Layout.{indexOctets, reportOctets, codebookNumbers, thresholdNumbers}
+use Rattle.choices.specs.declared.Choices.{Choices}
 use Rattle.consistency.specs.Tables.{Tables, tablesRight, RightTables, right-passes, passes-right}
 use Rattle.cutting.specs.Cutting.{Ending, whole, refused, cutting}
 use Rattle.message.specs.Message.{rateOf, expOf}
@@ -30,7 +31,7 @@ use Rattle.reader.specs.declared.Answer.the-variants.{Read, Refused}
 use Rattle.deciding.specs.declared.Verdict.{Verdict}
 use Rattle.deciding.specs.declared.Verdict.the-variants.{Refuse, Accept}
 
-module _ (octets : List ℕ) (tables : Tables) (index report : ℕ) where
+module _ (ch : Choices) (octets : List ℕ) (tables : Tables) (index report : ℕ) where
   abbrev places : List ℕ
   places = cutting octets .places
 
@@ -40,31 +41,31 @@ module _ (octets : List ℕ) (tables : Tables) (index report : ℕ) where
     pub thresholds-size : length (tables .thresholds) ≡ thresholdNumbers
     pub uncut : cutting octets .ending ≡ whole
     pub some : length places ≡ 0 → ⊥
-    pub fitting : Fitting (length places) (badPairs (receivedNotes octets places tables)) (pairCount places) index report (settling (readings octets places)) c
+    pub fitting : Fitting (length places) (badPairs (receivedNotes octets places tables)) (pairCount places) index report (settling ch (readings octets places)) c
 
   abbrev AcceptedBy : Verdict → Type 0
   AcceptedBy (Refuse r) = Unit
   AcceptedBy (Accept c) = Accepted c
 
-  accepted-by : AcceptedBy (verdict octets tables index report)
+  accepted-by : AcceptedBy (verdict ch octets tables index report)
   unfolding verdict
   accepted-by =
       by-test AcceptedBy (tablesRight tables) (λ h. ended (cutting octets .ending) refl (passes-right tables h)) (λ h. tt)
     where
-      fit : (v : Verdict) → RightTables tables → cutting octets .ending ≡ whole → WholeSays octets tables index report places v → AcceptedBy v
+      fit : (v : Verdict) → RightTables tables → cutting octets .ending ≡ whole → WholeSays ch octets tables index report places v → AcceptedBy v
       fit (Refuse r) t e h = tt
       fit (Accept c) t e h = record { codebook-size = t .0; thresholds-size = t .1; uncut = e; some = h .0; fitting = h .1 }
 
-      ended : (e : Ending) → cutting octets .ending ≡ e → RightTables tables → AcceptedBy (endVerdict octets tables index report places e)
+      ended : (e : Ending) → cutting octets .ending ≡ e → RightTables tables → AcceptedBy (endVerdict ch octets tables index report places e)
       ended (refused r) e t = tt
-      ended whole e t = fit (wholeVerdict octets tables index report places) t e (whole-says octets tables index report places)
+      ended whole e t = fit (wholeVerdict ch octets tables index report places) t e (whole-says ch octets tables index report places)
 
   -- what acceptance says
-  pub accepted : (c : ℕ) → verdict octets tables index report ≡ Accept c → Accepted c
+  pub accepted : (c : ℕ) → verdict ch octets tables index report ≡ Accept c → Accepted c
   accepted c e = rw e at accepted-by
 
   -- and what it takes
-  pub accepting : (c : ℕ) → Accepted c → verdict octets tables index report ≡ Accept c
+  pub accepting : (c : ℕ) → Accepted c → verdict ch octets tables index report ≡ Accept c
   unfolding verdict wholeVerdict settledVerdict roomVerdict
   accepting c a =
       let f = a .fitting in
@@ -81,18 +82,18 @@ module _ (octets : List ℕ) (tables : Tables) (index report : ℕ) where
       )
 
 -- ---- the one outcome of each input
-module _ (octets : List ℕ) (tables : Tables) (index report : List ℕ) where
+module _ (ch : Choices) (octets : List ℕ) (tables : Tables) (index report : List ℕ) where
   -- a refusal changes no octet of either buffer
-  pub refused-keeps : (r : Refusal) → verdict octets tables (length index) (length report) ≡ Refuse r
-      → reading octets tables index report ≡ outcome (Refused r) index report
+  pub refused-keeps : (r : Refusal) → verdict ch octets tables (length index) (length report) ≡ Refuse r
+      → reading ch octets tables index report ≡ outcome (Refused r) index report
   unfolding reading
   refused-keeps r e = rw e
 
   -- so an answer that is a refusal says that both buffers are as they came
-  pub refusal-keeps : (r : Refusal) → reading octets tables index report .answer ≡ Refused r
-      → reading octets tables index report ≡ outcome (Refused r) index report
+  pub refusal-keeps : (r : Refusal) → reading ch octets tables index report .answer ≡ Refused r
+      → reading ch octets tables index report ≡ outcome (Refused r) index report
   unfolding reading
-  refusal-keeps r e = by (verdict octets tables (length index) (length report)) e
+  refusal-keeps r e = by (verdict ch octets tables (length index) (length report)) e
     where
       never : (s : Summary) → Read s ≡ Refused r → ⊥
       never s e = let z : _≡_ {A = ℕ} 0 1 = cc in omega arith
@@ -103,8 +104,8 @@ module _ (octets : List ℕ) (tables : Tables) (index report : List ℕ) where
       by (Accept c) e = absurd (never _ e)
 
   -- success lays both parts over the buffers' fronts
-  pub accepted-lays : (c : ℕ) → verdict octets tables (length index) (length report) ≡ Accept c
-      → reading octets tables index report
+  pub accepted-lays : (c : ℕ) → verdict ch octets tables (length index) (length report) ≡ Accept c
+      → reading ch octets tables index report
       ≡ outcome (Read (summary octets (cutting octets .places) (receivedNotes octets (cutting octets .places) tables) c))
       (over index 0 (indexOctets * length (cutting octets .places)) (indexPart octets (cutting octets .places) (receivedNotes octets (cutting octets .places) tables)))
       (over report 0 (reportOctets * length (cutting octets .places)) (reportPart octets (cutting octets .places) (receivedNotes octets (cutting octets .places) tables) c))
@@ -112,15 +113,15 @@ module _ (octets : List ℕ) (tables : Tables) (index report : List ℕ) where
   accepted-lays c e = rw e
 
   -- a reading by its parts: 11, what cutting refuses, else the reading of the multiframes found
-  pub in-order : reading octets tables index report
-      ≡ when (tablesRight tables) (endReading octets tables index report (cutting octets .places) (cutting octets .ending)) (outcome (Refused WrongTables) index report)
+  pub in-order : reading ch octets tables index report
+      ≡ when (tablesRight tables) (endReading ch octets tables index report (cutting octets .places) (cutting octets .ending)) (outcome (Refused WrongTables) index report)
   unfolding reading verdict
   in-order = by (tablesRight tables) (cutting octets .ending)
     where
       by : (t : Bool) (e : Ending)
           → finished octets tables index report (cutting octets .places)
-          (when t (endVerdict octets tables (length index) (length report) (cutting octets .places) e) (Refuse WrongTables))
-          ≡ when t (endReading octets tables index report (cutting octets .places) e) (outcome (Refused WrongTables) index report)
+          (when t (endVerdict ch octets tables (length index) (length report) (cutting octets .places) e) (Refuse WrongTables))
+          ≡ when t (endReading ch octets tables index report (cutting octets .places) e) (outcome (Refused WrongTables) index report)
       by false e = refl
       by true whole = refl
       by true (refused r) = refl

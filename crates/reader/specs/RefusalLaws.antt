@@ -12,6 +12,7 @@ use lib.Dec.{ltb, eqb}
 use borrow.Author.Tests.{eq-eqb, ne-eqb, lt-ltb, le-ltb, ltb-true, ltb-false, eqb-true, eqb-false}
 use Rattle.lists.specs.Tests.{by-test}
 use Rattle.layout.specs.Layout.{indexOctets, reportOctets}
+use Rattle.choices.specs.declared.Choices.{Choices}
 use Rattle.consistency.specs.Tables.{Tables, tablesRight, RightTables, right-passes, passes-right, wrong-fails, fails-wrong}
 use Rattle.refusals.specs.declared.Reading.{Reading as Refusal}
 use Rattle.refusals.specs.declared.Reading.the-variants.{WrongTables, Unknown, CutShort, Empty, TooMany, Unsettled, Unfit, IndexShort, ReportShort, AllBad}
@@ -32,22 +33,22 @@ use Rattle.reader.specs.declared.Answer.the-variants.{Read, Refused}
 use Rattle.deciding.specs.declared.Verdict.{Verdict}
 use Rattle.deciding.specs.declared.Verdict.the-variants.{Refuse, Accept}
 
-module _ (octets : List ℕ) (tables : Tables) (index report : ℕ) where
+-- ---- what holds where the refusals before do not apply; m of 01 is the number of places
+-- none of 11, 12, 13 and 15: cutting gets to the end of the octets
+abbrev pub CutUp : List ℕ → Tables → Type 0
+CutUp octets tables = RightTables tables × Reached octets (length octets) (length (cutting octets .places))
+
+-- nor 14
+abbrev pub Some : List ℕ → Tables → Type 0
+Some octets tables = CutUp octets tables × (length (cutting octets .places) ≡ 0 → ⊥)
+
+module _ (ch : Choices) (octets : List ℕ) (tables : Tables) (index report : ℕ) where
   abbrev places : List ℕ
   places = cutting octets .places
 
-  -- ---- what holds where the refusals before do not apply; m of 01 is `length places`
-  -- none of 11, 12, 13 and 15: cutting gets to the end of the octets
-  abbrev pub CutUp : Type 0
-  CutUp = RightTables tables × Reached octets (length octets) (length places)
-
-  -- nor 14
-  abbrev pub Some : Type 0
-  Some = CutUp × (length places ≡ 0 → ⊥)
-
   -- nor 16 and 17: the settings are settled, and can be used
   abbrev pub Fit : Type 0
-  Fit = Some × ((c : ℕ) × ((settling (readings octets places) ≡ S.Settled c) × Usable c))
+  Fit = Some octets tables × ((c : ℕ) × ((settling ch (readings octets places) ≡ S.Settled c) × Usable c))
 
   -- nor 18
   abbrev pub IndexRoom : Type 0
@@ -69,11 +70,11 @@ module _ (octets : List ℕ) (tables : Tables) (index report : ℕ) where
   -- 15: a sync after 255 multiframes, even a cut one
   Given (TooMany p) = RightTables tables × Meets octets p P.TooMany
   -- 14: no multiframe
-  Given (Empty n) = CutUp × (length places ≡ 0) × (n ≡ length octets)
+  Given (Empty n) = CutUp octets tables × (length places ≡ 0) × (n ≡ length octets)
   -- 16: settings not settled
-  Given Unsettled = Some × (settling (readings octets places) ≡ S.Unsettled)
+  Given Unsettled = Some octets tables × (settling ch (readings octets places) ≡ S.Unsettled)
   -- 17: settled rate is 2 or any EXP is 1
-  Given Unfit = Some × ((c : ℕ) × ((settling (readings octets places) ≡ S.Settled c) × ((rateOf c ≡ 2) ⊎ (expOf c ≡ 0 → ⊥))))
+  Given Unfit = Some octets tables × ((c : ℕ) × ((settling ch (readings octets places) ≡ S.Settled c) × ((rateOf c ≡ 2) ⊎ (expOf c ≡ 0 → ⊥))))
   -- 18: index buffer under 168m
   Given (IndexShort n) = Fit × (index < indexOctets * length places) × (n ≡ indexOctets * length places)
   -- 19: report buffer under 13m
@@ -82,59 +83,59 @@ module _ (octets : List ℕ) (tables : Tables) (index report : ℕ) where
   Given AllBad = Room × (badPairs (receivedNotes octets places tables) ≡ pairCount places)
 
   -- ---- the conditions lead to the refusals
-  pub refuses-tables : (RightTables tables → ⊥) → verdict octets tables index report ≡ Refuse WrongTables
+  pub refuses-tables : (RightTables tables → ⊥) → verdict ch octets tables index report ≡ Refuse WrongTables
   unfolding verdict
   refuses-tables h = rw (wrong-fails tables h)
 
-  ends : RightTables tables → (e : Ending) → cutting octets .ending ≡ e → verdict octets tables index report ≡ endVerdict octets tables index report places e
+  ends : RightTables tables → (e : Ending) → cutting octets .ending ≡ e → verdict ch octets tables index report ≡ endVerdict ch octets tables index report places e
   unfolding verdict
   ends t e w = rw (right-passes tables t, w)
 
   -- 12, 13 and 15
-  pub refuses-cut : RightTables tables → (r : Refusal) → cutting octets .ending ≡ refused r → verdict octets tables index report ≡ Refuse r
+  pub refuses-cut : RightTables tables → (r : Refusal) → cutting octets .ending ≡ refused r → verdict ch octets tables index report ≡ Refuse r
   refuses-cut t r e = ends t (refused r) e
 
-  pub refuses-empty : CutUp → length places ≡ 0 → verdict octets tables index report ≡ Refuse (Empty (length octets))
+  pub refuses-empty : CutUp octets tables → length places ≡ 0 → verdict ch octets tables index report ≡ Refuse (Empty (length octets))
   unfolding wholeVerdict
   refuses-empty w z = ends (w .0) whole (whole-exactly octets .1 (w .1)) ∙ rw (eq-eqb (length places) 0 z)
 
-  settled : Some → (s : Settlement) → settling (readings octets places) ≡ s
-      → verdict octets tables index report ≡ settledVerdict (length places) (badPairs (receivedNotes octets places tables)) (pairCount places) index report s
+  settled : Some octets tables → (s : Settlement) → settling ch (readings octets places) ≡ s
+      → verdict ch octets tables index report ≡ settledVerdict (length places) (badPairs (receivedNotes octets places tables)) (pairCount places) index report s
   unfolding wholeVerdict
   settled w s e = ends (w .0 .0) whole (whole-exactly octets .1 (w .0 .1)) ∙ rw (ne-eqb (length places) 0 (w .1), e)
 
-  pub refuses-unsettled : Some → settling (readings octets places) ≡ S.Unsettled → verdict octets tables index report ≡ Refuse Unsettled
+  pub refuses-unsettled : Some octets tables → settling ch (readings octets places) ≡ S.Unsettled → verdict ch octets tables index report ≡ Refuse Unsettled
   unfolding settledVerdict
   refuses-unsettled w e = settled w S.Unsettled e
 
-  pub refuses-unfit : Some → (c : ℕ) → settling (readings octets places) ≡ S.Settled c → (rateOf c ≡ 2) ⊎ (expOf c ≡ 0 → ⊥)
-      → verdict octets tables index report ≡ Refuse Unfit
+  pub refuses-unfit : Some octets tables → (c : ℕ) → settling ch (readings octets places) ≡ S.Settled c → (rateOf c ≡ 2) ⊎ (expOf c ≡ 0 → ⊥)
+      → verdict ch octets tables index report ≡ Refuse Unfit
   unfolding settledVerdict
   refuses-unfit w c e (inl h) = settled w (S.Settled c) e ∙ rw (eq-eqb (rateOf c) 2 h)
   refuses-unfit w c e (inr h) =
       settled w (S.Settled c) e ∙ by-test (λ (v : Verdict). v ≡ Refuse Unfit) (eqb (rateOf c) 2) (λ a. refl) (λ a. rw (ne-eqb (expOf c) 0 h))
 
-  fits : (f : Fit) → verdict octets tables index report
+  fits : (f : Fit) → verdict ch octets tables index report
       ≡ roomVerdict (length places) (badPairs (receivedNotes octets places tables)) (pairCount places) index report (f .1 .0)
   unfolding settledVerdict
   fits f =
       settled (f .0) (S.Settled (f .1 .0)) (f .1 .1 .0) ∙ rw (ne-eqb (rateOf (f .1 .0)) 2 (f .1 .1 .1 .rate), eq-eqb (expOf (f .1 .0)) 0 (f .1 .1 .1 .exp))
 
-  pub refuses-index : Fit → index < indexOctets * length places → verdict octets tables index report ≡ Refuse (IndexShort (indexOctets * length places))
+  pub refuses-index : Fit → index < indexOctets * length places → verdict ch octets tables index report ≡ Refuse (IndexShort (indexOctets * length places))
   unfolding roomVerdict
   refuses-index f h = fits f ∙ rw (lt-ltb index (indexOctets * length places) h)
 
-  pub refuses-report : IndexRoom → report < reportOctets * length places → verdict octets tables index report ≡ Refuse (ReportShort (reportOctets * length places))
+  pub refuses-report : IndexRoom → report < reportOctets * length places → verdict ch octets tables index report ≡ Refuse (ReportShort (reportOctets * length places))
   unfolding roomVerdict
   refuses-report f h = fits (f .0) ∙ rw (le-ltb index (indexOctets * length places) (f .1), lt-ltb report (reportOctets * length places) h)
 
-  pub refuses-all-bad : Room → badPairs (receivedNotes octets places tables) ≡ pairCount places → verdict octets tables index report ≡ Refuse AllBad
+  pub refuses-all-bad : Room → badPairs (receivedNotes octets places tables) ≡ pairCount places → verdict ch octets tables index report ≡ Refuse AllBad
   unfolding roomVerdict
   refuses-all-bad f h =
       fits (f .0 .0)
       ∙ rw (le-ltb index (indexOctets * length places) (f .0 .1), le-ltb report (reportOctets * length places) (f .1), eq-eqb (badPairs (receivedNotes octets places tables)) (pairCount places) h)
 
-  given-refused : (r : Refusal) → Given r → verdict octets tables index report ≡ Refuse r
+  given-refused : (r : Refusal) → Given r → verdict ch octets tables index report ≡ Refuse r
   given-refused WrongTables g = refuses-tables g
   given-refused (Unknown p) g = refuses-cut (g .0) (Unknown p) (ends-exactly octets (refused (Unknown p)) .1 (g .1))
   given-refused (CutShort p) g = refuses-cut (g .0) (CutShort p) (ends-exactly octets (refused (CutShort p)) .1 (g .1))
@@ -160,7 +161,7 @@ module _ (octets : List ℕ) (tables : Tables) (index report : ℕ) where
       by-test Shows (eqb (badPairs (receivedNotes octets places tables)) (pairCount places))
       (λ b. (((f, i), ltb-false report (reportOctets * length places) k), eqb-true (badPairs (receivedNotes octets places tables)) (pairCount places) b)) (λ b. tt)))
 
-  shows-settled : Some → (s : Settlement) → settling (readings octets places) ≡ s
+  shows-settled : Some octets tables → (s : Settlement) → settling ch (readings octets places) ≡ s
       → Shows (settledVerdict (length places) (badPairs (receivedNotes octets places tables)) (pairCount places) index report s)
   unfolding settledVerdict
   shows-settled w S.Unsettled e = (w, e)
@@ -170,10 +171,10 @@ module _ (octets : List ℕ) (tables : Tables) (index report : ℕ) where
       (λ k. shows-room (w, (c, (e, record { rate = eqb-false (rateOf c) 2 h; exp = eqb-true (expOf c) 0 k }))))
       (λ k. (w, (c, (e, inr (eqb-false (expOf c) 0 k))))))
 
-  shows-whole : CutUp → Shows (wholeVerdict octets tables index report places)
+  shows-whole : CutUp octets tables → Shows (wholeVerdict ch octets tables index report places)
   unfolding wholeVerdict
   shows-whole w =
-      by-test Shows (eqb (length places) 0) (λ h. (w, eqb-true (length places) 0 h, refl)) (λ h. shows-settled (w, eqb-false (length places) 0 h) (settling (readings octets places)) refl)
+      by-test Shows (eqb (length places) 0) (λ h. (w, eqb-true (length places) 0 h, refl)) (λ h. shows-settled (w, eqb-false (length places) 0 h) (settling ch (readings octets places)) refl)
 
   -- what cutting refuses is 12, 13 or 15
   shows-cut : RightTables tables → (r : Refusal) → Reason octets r → Given r
@@ -188,25 +189,25 @@ module _ (octets : List ℕ) (tables : Tables) (index report : ℕ) where
   shows-cut t (ReportShort n) m = absurd m
   shows-cut t AllBad m = absurd m
 
-  shows-end : RightTables tables → (e : Ending) → cutting octets .ending ≡ e → Shows (endVerdict octets tables index report places e)
+  shows-end : RightTables tables → (e : Ending) → cutting octets .ending ≡ e → Shows (endVerdict ch octets tables index report places e)
   shows-end t whole e = shows-whole (t, whole-exactly octets .0 e)
   shows-end t (refused r) e = shows-cut t r (ends-exactly octets (refused r) .0 e)
 
-  shows : Shows (verdict octets tables index report)
+  shows : Shows (verdict ch octets tables index report)
   unfolding verdict
   shows = by-test Shows (tablesRight tables) (λ a. shows-end (passes-right tables a) (cutting octets .ending) refl) (fails-wrong tables)
 
-  pub decided-exactly : (r : Refusal) → (verdict octets tables index report ≡ Refuse r) ↔ Given r
+  pub decided-exactly : (r : Refusal) → (verdict ch octets tables index report ≡ Refuse r) ↔ Given r
   decided-exactly r = (λ e. subst Shows e shows, given-refused r)
 
 -- ---- of the answer: each refusal exactly where it is given
-pub refused-exactly : (octets : List ℕ) (tables : Tables) (index report : List ℕ) (r : Refusal)
-    → (reading octets tables index report .answer ≡ Refused r) ↔ Given octets tables (length index) (length report) r
+pub refused-exactly : (ch : Choices) (octets : List ℕ) (tables : Tables) (index report : List ℕ) (r : Refusal)
+    → (reading ch octets tables index report .answer ≡ Refused r) ↔ Given ch octets tables (length index) (length report) r
 unfolding reading
-refused-exactly octets tables index report r =
-    let v = verdict octets tables (length index) (length report) in (
-      λ e. decided-exactly octets tables (length index) (length report) r .0 (by v e),
-      λ g. ap (λ (x : Verdict). finished octets tables index report (cutting octets .places) x .answer) (decided-exactly octets tables (length index) (length report) r .1 g),
+refused-exactly ch octets tables index report r =
+    let v = verdict ch octets tables (length index) (length report) in (
+      λ e. decided-exactly ch octets tables (length index) (length report) r .0 (by v e),
+      λ g. ap (λ (x : Verdict). finished octets tables index report (cutting octets .places) x .answer) (decided-exactly ch octets tables (length index) (length report) r .1 g),
     )
   where
     never : (s : Summary) → Read s ≡ Refused r → ⊥

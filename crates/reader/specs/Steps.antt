@@ -3,6 +3,7 @@
 use Prim.Native.Nat.{ℕ}
 use mathlib.Core.Path.{_≡_, ap, _∙_}
 use mathlib.Core.List.{List}
+use Rattle.choices.specs.declared.Choices.{Choices}
 use Rattle.consistency.specs.Tables.{Tables, tablesRight}
 use mathlib.Core.Bool.{true, false}
 use Rattle.cutting.specs.Cutting.{whole, refused, cutting}
@@ -12,17 +13,17 @@ use Rattle.reader.specs.declared.Answer.the-variants.{Refused}
 use Rattle.refusals.specs.declared.Reading.{Reading as Refusal}
 
 -- ---- the first tests of a reading
-module _ (octets : List ℕ) (tables : Tables) (index report : List ℕ) where
-  pub wrong-tables : tablesRight tables ≡ false → outcome (Refused WrongTables) index report ≡ reading octets tables index report
+module _ (ch : Choices) (octets : List ℕ) (tables : Tables) (index report : List ℕ) where
+  pub wrong-tables : tablesRight tables ≡ false → outcome (Refused WrongTables) index report ≡ reading ch octets tables index report
   unfolding reading verdict
   wrong-tables h = rw h
 
   module _ (right : tablesRight tables ≡ true) where
-    pub not-cut : (r : Refusal) → cutting octets .ending ≡ refused r → outcome (Refused r) index report ≡ reading octets tables index report
+    pub not-cut : (r : Refusal) → cutting octets .ending ≡ refused r → outcome (Refused r) index report ≡ reading ch octets tables index report
     unfolding reading verdict
     not-cut r e = rw (right, e)
 
     pub whole-reading : (o : Outcome) (places : List ℕ) → cutting octets .ending ≡ whole → places ≡ cutting octets .places
-        → o ≡ readingFound octets tables index report places → o ≡ reading octets tables index report
+        → o ≡ readingFound ch octets tables index report places → o ≡ reading ch octets tables index report
     unfolding reading verdict
-    whole-reading o places e ep eo = rw (right, e) (eo ∙ ap (λ (ps : List ℕ). readingFound octets tables index report ps) ep)
+    whole-reading o places e ep eo = rw (right, e) (eo ∙ ap (λ (ps : List ℕ). readingFound ch octets tables index report ps) ep)

@@ -1,5 +1,6 @@
 // The reader: received octets become indices and a report, or a refusal that changes nothing.
 // `reading` in specs/ says what it answers and leaves in both buffers, for every input.
+use choices::Choices;
 use cutting::Cut;
 use deciding::Verdict;
 use layout::MultiframeLayout;
@@ -80,6 +81,7 @@ fn write(
 fn read_found(
     octets: &[u8],
     places: &[usize],
+    choices: Choices,
     codebook: &[i32],
     thresholds: &[i32],
     index: &mut [u8],
@@ -88,7 +90,7 @@ fn read_found(
     requires { ⌜ Placed (now octets) (now places) × (length (now places) ≤ mostMultiframes) ⌝ }
     requires { ⌜ RightTables (tablesOf (now codebook) (now thresholds)) ⌝ }
     ensures { λ r. ⌜ outcome r (left index) (left report)
-        ≡ readingFound (came octets) (tablesIn codebook thresholds) (came index) (came report) (came places) ⌝ }
+        ≡ readingFound choices (came octets) (tablesIn codebook thresholds) (came index) (came report) (came places) ⌝ }
 {
     let m = places.len();
     let pairs = MultiframeLayout::PAIRS * m;
@@ -97,6 +99,7 @@ fn read_found(
     match deciding::decide(
         octets,
         places,
+        choices,
         codebook,
         thresholds,
         index.len(),
@@ -117,21 +120,24 @@ fn read_found(
     }
 }
 
-// read turns received octets into the indices of all frames and a report, or refuses and leaves both buffers as they came.
+// read turns received octets into the indices of all frames and a report, or refuses and leaves both buffers as they came. By default an only
+// multiframe is refused with 16; the caller may choose that one header alone settles (02, C-20).
 // Nothing is asked of the caller: codebook, 1,280 numbers; 14 thresholds; an index buffer of 168 and a report buffer of 13 octets for each
 // multiframe; else 01's refusals. 01's number and values of the answer, which of a refusal are its place, are those of the definition.
 pub fn read(
     octets: &[u8],
+    choices: Choices,
     codebook: &[i32],
     thresholds: &[i32],
     index: &mut [u8],
     report: &mut [u8],
 ) -> Answer
-    ensures all { λ r. ⌜ outcome r (left index) (left report) ≡ reading (came octets) (tablesIn codebook thresholds) (came index) (came report) ⌝ }
+    ensures all { λ r. ⌜ outcome r (left index) (left report)
+        ≡ reading choices (came octets) (tablesIn codebook thresholds) (came index) (came report) ⌝ }
     ensures number { λ r. ⌜ answerNumber r
-        ≡ answerNumber (reading (came octets) (tablesIn codebook thresholds) (came index) (came report) .answer) ⌝ }
+        ≡ answerNumber (reading choices (came octets) (tablesIn codebook thresholds) (came index) (came report) .answer) ⌝ }
     ensures values { λ r. ⌜ answerValues r
-        ≡ answerValues (reading (came octets) (tablesIn codebook thresholds) (came index) (came report) .answer) ⌝ }
+        ≡ answerValues (reading choices (came octets) (tablesIn codebook thresholds) (came index) (came report) .answer) ⌝ }
 {
     if !consistency::are_right(codebook, thresholds) {
         return Answer::Refused(Reading::WrongTables);
@@ -141,6 +147,7 @@ pub fn read(
         Cut::Whole { count } => read_found(
             octets,
             &places[..count],
+            choices,
             codebook,
             thresholds,
             index,

@@ -8,6 +8,7 @@ use native.Mathlib.Omega.{arith}
 use lib.ListN.{length, take, drop, getD, length-append, length-drop, take-append-drop, List·getD-append}
 use lib.Seq.{length-take-le, drop-at, getD-take, ext-getD}
 use Rattle.layout.specs.Layout.{multiframeOctets, syncOctets, mostMultiframes, syncFirst, syncSecond, inverseFirst, inverseSecond}
+use Rattle.choices.specs.declared.Choices.{Choices}
 use Rattle.consistency.specs.Tables.{Tables, RightTables, right-passes}
 use Rattle.cutting.specs.declared.Piece.{Piece}
 use Rattle.cutting.specs.declared.Piece.the-variants.{End, Multiframe, Inverse, Unknown, CutShort, TooMany}
@@ -148,29 +149,29 @@ pub record Refuses (o : Outcome) (index report : List ℕ) (number place : ℕ) 
   pub number-is : readingNumber refusal ≡ number
   pub place-is : readingPlace refusal ≡ place
 
-module _ (s : List ℕ) (tables : Tables) (index report : List ℕ) (sized : RightTables tables) where
+module _ (ch : Choices) (s : List ℕ) (tables : Tables) (index report : List ℕ) (sized : RightTables tables) where
   -- with the tables right, cutting decides
-  cutting-decides : verdict s tables (length index) (length report) ≡ endVerdict s tables (length index) (length report) (cutting s .places) (cutting s .ending)
+  cutting-decides : verdict ch s tables (length index) (length report) ≡ endVerdict ch s tables (length index) (length report) (cutting s .places) (cutting s .ending)
   unfolding verdict
   cutting-decides = rw (right-passes tables sized)
 
   -- what cutting refuses is refused, with its number and place
-  pub cut-refuses : (x : Refusal) → cutting s .ending ≡ refused x → Refuses (reading s tables index report) index report (readingNumber x) (readingPlace x)
+  pub cut-refuses : (x : Refusal) → cutting s .ending ≡ refused x → Refuses (reading ch s tables index report) index report (readingNumber x) (readingPlace x)
   cut-refuses x e = record {
     refusal = x;
-    is-refused = refused-keeps s tables index report x
-        (cutting-decides ∙ ap (endVerdict s tables (length index) (length report) (cutting s .places)) e);
+    is-refused = refused-keeps ch s tables index report x
+        (cutting-decides ∙ ap (endVerdict ch s tables (length index) (length report) (cutting s .places)) e);
     number-is = refl;
     place-is = refl;
   }
 
   -- and chunks without a multiframe are 14, at the number of octets
-  pub none-refuses : cutting s ≡ record { places = []; ending = whole } → Refuses (reading s tables index report) index report 14 (length s)
+  pub none-refuses : cutting s ≡ record { places = []; ending = whole } → Refuses (reading ch s tables index report) index report 14 (length s)
   unfolding wholeVerdict
   none-refuses e = record {
     refusal = RR.Empty (length s);
-    is-refused = refused-keeps s tables index report (RR.Empty (length s))
-        (cutting-decides ∙ ap (λ (w : Cutting). endVerdict s tables (length index) (length report) (w .places) (w .ending)) e);
+    is-refused = refused-keeps ch s tables index report (RR.Empty (length s))
+        (cutting-decides ∙ ap (λ (w : Cutting). endVerdict ch s tables (length index) (length report) (w .places) (w .ending)) e);
     number-is = refl;
     place-is = refl;
   }

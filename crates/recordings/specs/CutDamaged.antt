@@ -1,7 +1,7 @@
 -- CUT OFF AND DAMAGED. The first k multiframes of a damaged image, fewer than all: if they are read, and the last pair that came has note 0, `end` is 0.
 -- The note is needed: the frames of a damaged last pair are replaced, and can be zero.
 -- Assumes nothing.
-use mathlib.Core.Path.{_≡_, sym, ap, _∙_, subst}
+use mathlib.Core.Path.{_≡_, refl, sym, ap, _∙_, subst}
 use mathlib.Core.Bool.{Bool, true, false, not}
 use mathlib.Core.List.{List, []}
 use mathlib.Core.Logic.{inr, inl}
@@ -11,6 +11,8 @@ use lib.ListN.{length, take, drop, getD}
 use Rattle.lists.specs.Tests.{true-false, not-false, when}
 use Rattle.lists.specs.Parts.{part, over}
 use Rattle.layout.specs.Layout.{dataBits, multiframePairs, multiframeFrames, multiframeOctets, indexOctets, reportOctets, frameIndices}
+use Rattle.choices.specs.Choices.{oneHeaderSettles}
+use Rattle.choices.specs.declared.Choices.{Choices}
 use Rattle.consistency.specs.Tables.{Tables, zeroTables}
 use Rattle.frames.specs.Frames.{zeroFrame, allZero}
 use Rattle.crc.specs.Crc.{right}
@@ -41,17 +43,17 @@ use Rattle.recordings.specs.Said.{ones24, gap24, zero-22}
 use Rattle.recordings.specs.Hit.{hitImage, hits, is-hit, not-hit, clean-header}
 
 -- ---- they are read, and the last pair that came, q, has note 0
-module _ (u : Utterance) (s : List ℕ) (d : Damage (multiframesOf u) (imageOf u) s) (k : ℕ) (less : k < multiframesOf u) (tables : Tables) (index report : List ℕ)
-    (given : Summary) (e : reading (take (multiframeOctets * k) s) tables index report .answer ≡ Read given)
-    (note : pairNoteIn (reading (take (multiframeOctets * k) s) tables index report .report) (multiframePairs * k - 1) ≡ 0) where
+module _ (ch : Choices) (u : Utterance) (s : List ℕ) (d : Damage (multiframesOf u) (imageOf u) s) (k : ℕ) (less : k < multiframesOf u) (tables : Tables) (index report : List ℕ)
+    (given : Summary) (e : reading ch (take (multiframeOctets * k) s) tables index report .answer ≡ Read given)
+    (note : pairNoteIn (reading ch (take (multiframeOctets * k) s) tables index report .report) (multiframePairs * k - 1) ≡ 0) where
   within : k ≤ multiframesOf u
   within = omega arith
 
   abbrev came : List ℕ
   came = take (multiframeOctets * k) s
 
-  w : A.WasRead came tables index report [] given
-  w = A.was-read came tables index report [] given e
+  w : A.WasRead ch came tables index report [] given
+  w = A.was-read ch came tables index report [] given e
 
   cut : cutting came .places ≡ rowOf k
   cut = ap (λ (x : Cutting). x .places) (F.cut-first u s d k within)
@@ -119,17 +121,17 @@ module _ (u : Utterance) (s : List ℕ) (d : Damage (multiframesOf u) (imageOf u
       ∙ rw speaks
 
 -- THE LAST PAIR'S NOTE DECIDES: if the first k multiframes are read, and the last of their pairs has note 0, end is 0
-pub cut-off-told-damaged : (u : Utterance) (s : List ℕ) → Damage (multiframesOf u) (imageOf u) s → (k : ℕ) → k < multiframesOf u
-    → (tables : Tables) (index report : List ℕ) (given : Summary) → reading (take (multiframeOctets * k) s) tables index report .answer ≡ Read given
-    → pairNoteIn (reading (take (multiframeOctets * k) s) tables index report .report) (multiframePairs * k - 1) ≡ 0 → given .end ≡ 0
-cut-off-told-damaged u s d k less tables index report given e note = ends u s d k less tables index report given e note
+pub cut-off-told-damaged : (ch : Choices) (u : Utterance) (s : List ℕ) → Damage (multiframesOf u) (imageOf u) s → (k : ℕ) → k < multiframesOf u
+    → (tables : Tables) (index report : List ℕ) (given : Summary) → reading ch (take (multiframeOctets * k) s) tables index report .answer ≡ Read given
+    → pairNoteIn (reading ch (take (multiframeOctets * k) s) tables index report .report) (multiframePairs * k - 1) ≡ 0 → given .end ≡ 0
+cut-off-told-damaged ch u s d k less tables index report given e note = ends ch u s d k less tables index report given e note
 
--- ---- examples: pair p of the first multiframe is damaged, and that multiframe alone came; tables of zeros
+-- ---- examples: pair p of the first multiframe is damaged, and that multiframe alone came; tables of zeros, and the caller asks for the old rule
 abbrev pub rest : Utterance → ℕ → List ℕ
 rest u p = take multiframeOctets (hitImage u p)
 
 abbrev pub restRead : Utterance → ℕ → Outcome
-restRead u p = reading (rest u p) zeroTables (indexFor 1) (reportFor 1)
+restRead u p = reading oneHeaderSettles (rest u p) zeroTables (indexFor 1) (reportFor 1)
 
 -- there are more, it is read, and the notes of pair p and of the last pair that came, and the end, are these
 pub record Rest (u : Utterance) (p named last end : ℕ) : Type 0 where
@@ -198,7 +200,7 @@ module _ (u : Utterance) (two : 2 ≤ multiframesOf u) (p : ℕ) (inside : p < m
         ≡ outcome (Read (restGiven u p)) (over (indexFor 1) 0 (indexOctets * length (rowOf 1)) (indexPart (rest u p) (rowOf 1) (restNotes u p)))
         (over (reportFor 1) 0 (reportOctets * length (rowOf 1)) (reportPart (rest u p) (rowOf 1) (restNotes u p) (sentCommon u)))
     outcome-is =
-        F.read-first u s (hits u p) 1 (omega arith) zeroTables (indexFor 1) (reportFor 1) (omega arith) (inr (clean-header u p 0 (omega arith))) one-good (lent-zeros 1)
+        F.read-first u s (hits u p) 1 (omega arith) zeroTables oneHeaderSettles (indexFor 1) (reportFor 1) (omega arith) (inr (refl, clean-header u p 0 (omega arith))) one-good (lent-zeros 1)
 
     noted : (q : ℕ) → q < multiframePairs → pairNoteIn (restRead u p .report) q ≡ getD (restNotes u p) q 0
     noted q h =
@@ -225,7 +227,7 @@ told =
     let apart : _≡_ {A = ℕ} 0 3 → ⊥ = λ e. omega arith in
     let z : getD (restNotes ones24 3) 11 0 ≡ 0 = else-zero ones24 two 3 in12 11 (omega arith) (λ e. omega arith) in
     make-rest ones24 two 3 in12 0 other apart 0 0 z
-    (cut-off-told-damaged ones24 (hitImage ones24 3) (hits ones24 3) 1 (omega arith) zeroTables (indexFor 1) (reportFor 1) (restGiven ones24 3)
+    (cut-off-told-damaged oneHeaderSettles ones24 (hitImage ones24 3) (hits ones24 3) 1 (omega arith) zeroTables (indexFor 1) (reportFor 1) (restGiven ones24 3)
     (ap (λ (o : Outcome). o .answer) (outcome-is ones24 two 3 in12 0 other apart)) (noted ones24 two 3 in12 0 other apart 11 (omega arith) ∙ z))
 
 -- THE NOTE IS NEEDED: of 24 frames of ones, but frame 22 of zeros, the twelfth pair is damaged, which is the last that came. Frames 23 and 24 are replaced by

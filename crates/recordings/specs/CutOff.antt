@@ -1,4 +1,4 @@
--- A CUT-OFF UTTERANCE TELLS. The first k of its m multiframes alone are read with `end` 0, and a cut inside a multiframe is refusal 13: a reading with `end` 1
+-- A CUT-OFF UTTERANCE TELLS. The first k of its m multiframes alone, if they are read, which by default takes two (02, C-20), give `end` 0, and a cut inside a multiframe is refusal 13: a reading with `end` 1
 -- is of no image that was cut off anywhere and is otherwise whole. CutDamaged says what `end` tells with damage besides.
 -- Assumes nothing.
 use mathlib.Core.Path.{_≡_, refl, sym, ap, ap₂, _∙_, subst}
@@ -17,6 +17,8 @@ use lib.Seq.{length-take-le, take-all, take-add, ext-getD, getD-take, getD-drop}
 use Rattle.lists.specs.Parts.{part, over, length-part}
 use Rattle.lists.specs.Rows.{each-at, same-joined}
 use Rattle.layout.specs.Layout.{frameIndices, dataBits, multiframeFrames, multiframePairs, multiframeOctets, mostMultiframes, indexOctets, reportOctets, firstPair, sync, syncFirst, syncSecond}
+use Rattle.choices.specs.Choices.{oneHeaderSettles}
+use Rattle.choices.specs.declared.Choices.{Choices}
 use Rattle.consistency.specs.Tables.{Tables, RightTables, zeroTables}
 use Rattle.settings.specs.declared.Settings.{Settings}
 use Rattle.settings.specs.Settings.{settings}
@@ -33,7 +35,7 @@ use Rattle.message.specs.Message.Laws.{count-back}
 use Rattle.header.specs.declared.Header.{Header}
 use Rattle.header.specs.declared.Header.the-variants.{Codeword, Lost}
 use Rattle.settling.specs.Settling.{readings, headerNote}
-use Rattle.settling.specs.Laws.{clean-note}
+use Rattle.settling.specs.Laws.{clean-note, length-readings, Enough, settled-enough}
 use Rattle.carrier.specs.Carrier.{received, pairCount}
 use Rattle.notes.specs.Notes.{pairFails}
 use Rattle.notes.specs.Laws.{length-notes, length-all, no-failed-crc}
@@ -52,7 +54,7 @@ use Rattle.writer.specs.Utterance.{Utterance, multiframesOf, imageOf, whole-fra
 use Rattle.demands.specs.Damage.{Damage, headerFlips, header-near}
 use Rattle.demands.specs.Damages.{unharmed}
 use Rattle.demands.specs.Whole.{rowOf, Lent, nothing-replaced}
-use Rattle.demands.specs.Headers.{sentCommon, common-sent, settings-sent}
+use Rattle.demands.specs.Headers.{can-settle, sentCommon, common-sent, settings-sent}
 use Rattle.demands.specs.Met.{indexFor, reportFor, lent-zeros}
 use Rattle.demands.specs.ReadsBack.{spoken, reads-image, zeros, zero-rows, none-bad}
 use Rattle.demands.specs.WritesAgain as A
@@ -66,7 +68,7 @@ use Rattle.recordings.specs.Said.{ones24}
 abbrev pub heard : Utterance → ℕ → Summary
 heard u k = record { settings = u .settings; multiframes = k; speech = multiframeFrames * k; bad = 0; end = 0 }
 
-module _ (u : Utterance) (k : ℕ) (some : 0 < k) (less : k < multiframesOf u) where
+module _ (ch : Choices) (u : Utterance) (k : ℕ) (some : 0 < k) (less : k < multiframesOf u) where
   abbrev s : List ℕ
   s = imageOf u
 
@@ -176,41 +178,46 @@ module _ (u : Utterance) (k : ℕ) (some : 0 < k) (less : k < multiframesOf u) w
     good : Good ns
     good = record { pair = 0; within = omega (arith, size, rows); good = quiet 0 (omega (arith, size, rows)) }
 
-    reads : (index report : List ℕ) → Lent k tables index report
-        → reading first tables index report
+    reads : Enough ch k → (index report : List ℕ) → Lent k tables index report
+        → reading ch first tables index report
         ≡ outcome (Read (heard u k)) (over index 0 (indexOctets * k) (take (indexOctets * k) (u .indices))) (over report 0 (reportOctets * k) (replicate (reportOctets * k) 0))
-    reads index report lent =
-        F.read-first u s d k within tables index report some (inr (no-flips 0)) good lent
+    reads sent index report lent =
+        F.read-first u s d k within tables ch index report some (can-settle ch k _ sent (no-flips 0)) good lent
         ∙ ap₂ (λ (a : Summary) (i : List ℕ). outcome (Read a) i (over report 0 (reportOctets * length (rowOf k)) (reportPart first (rowOf k) ns (sentCommon u)))) answer-is
         (ap₂ (λ (n : ℕ) (l : List ℕ). over index 0 (indexOctets * n) l) rows (index-is ∙ frames-are))
         ∙ ap (outcome (Read (heard u k)) (over index 0 (indexOctets * k) (take (indexOctets * k) (u .indices))))
         (ap₂ (λ (n : ℕ) (l : List ℕ). over report 0 (reportOctets * n) l) rows report-is)
 
--- with 01's tables and room for k multiframes they are read: the settings sent, k, the frames of these multiframes, no note, and end 0
-pub cut-off-reads : (u : Utterance) (k : ℕ) → 0 < k → k < multiframesOf u → (tables : Tables) (index report : List ℕ) → Lent k tables index report
-    → reading (take (multiframeOctets * k) (imageOf u)) tables index report
+-- if k is two or more, or the caller asks for the old rule (02, C-20), with 01's tables and room for k multiframes they are read: the settings sent, k, the frames of these multiframes, no note, and end 0
+pub cut-off-reads : (ch : Choices) (u : Utterance) (k : ℕ) → 0 < k → k < multiframesOf u → Enough ch k → (tables : Tables) (index report : List ℕ) → Lent k tables index report
+    → reading ch (take (multiframeOctets * k) (imageOf u)) tables index report
     ≡ outcome (Read (heard u k)) (over index 0 (indexOctets * k) (take (indexOctets * k) (u .indices))) (over report 0 (reportOctets * k) (replicate (reportOctets * k) 0))
-cut-off-reads u k some less tables index report lent = reads u k some less tables index report lent
+cut-off-reads ch u k some less sent tables index report lent = reads ch u k some less tables sent index report lent
 
 -- and whatever the tables and the buffers: if they are read, that is the answer
-pub cut-off-answer : (u : Utterance) (k : ℕ) → k < multiframesOf u → (tables : Tables) (index report : List ℕ) (given : Summary)
-    → reading (take (multiframeOctets * k) (imageOf u)) tables index report .answer ≡ Read given → given ≡ heard u k
-cut-off-answer u k less tables index report given e =
+pub cut-off-answer : (ch : Choices) (u : Utterance) (k : ℕ) → k < multiframesOf u → (tables : Tables) (index report : List ℕ) (given : Summary)
+    → reading ch (take (multiframeOctets * k) (imageOf u)) tables index report .answer ≡ Read given → given ≡ heard u k
+cut-off-answer ch u k less tables index report given e =
     elim (decLt 0 k) [
       | yes some ↦
-          let r : Read given ≡ Read (heard u k) = sym e ∙ ap (λ (o : Outcome). o .answer) (reads u k some less tables index report lent) in
+          let r : Read given ≡ Read (heard u k) = sym e ∙ ap (λ (o : Outcome). o .answer) (reads ch u k some less tables sent index report lent) in
           cc
       | no none ↦ absurd (a .some (rows ∙ omega arith))
     ]
   where
-    w : A.WasRead (take (multiframeOctets * k) (imageOf u)) tables index report [] given
-    w = A.was-read (take (multiframeOctets * k) (imageOf u)) tables index report [] given e
+    w : A.WasRead ch (take (multiframeOctets * k) (imageOf u)) tables index report [] given
+    w = A.was-read ch (take (multiframeOctets * k) (imageOf u)) tables index report [] given e
 
-    a : Accepted (take (multiframeOctets * k) (imageOf u)) tables (length index) (length report) (w .common)
+    a : Accepted ch (take (multiframeOctets * k) (imageOf u)) tables (length index) (length report) (w .common)
     a = w .reader-accepts
 
     rows : length (cutting (take (multiframeOctets * k) (imageOf u)) .places) ≡ k
     rows = ap (λ (w : Cutting). length (w .places)) (F.cut-first u (imageOf u) (unharmed u) k (omega arith)) ∙ every-length 0 k
+
+    sent : Enough ch k
+    sent =
+        let f = take (multiframeOctets * k) (imageOf u) in
+        subst (Enough ch) (length-readings f (cutting f .places) ∙ rows) (settled-enough ch (readings f (cutting f .places)) (w .common) (a .fitting .settles))
 
     lent : Lent k tables index report
     lent = record {
@@ -221,17 +228,17 @@ cut-off-answer u k less tables index report given e =
     }
 
 -- A CUT-OFF UTTERANCE TELLS: if they are read, end is 0
-pub cut-off-told : (u : Utterance) (k : ℕ) → k < multiframesOf u → (tables : Tables) (index report : List ℕ) (given : Summary)
-    → reading (take (multiframeOctets * k) (imageOf u)) tables index report .answer ≡ Read given → given .end ≡ 0
-cut-off-told u k less tables index report given e = ap (λ (g : Summary). g .end) (cut-off-answer u k less tables index report given e)
+pub cut-off-told : (ch : Choices) (u : Utterance) (k : ℕ) → k < multiframesOf u → (tables : Tables) (index report : List ℕ) (given : Summary)
+    → reading ch (take (multiframeOctets * k) (imageOf u)) tables index report .answer ≡ Read given → given .end ≡ 0
+cut-off-told ch u k less tables index report given e = ap (λ (g : Summary). g .end) (cut-off-answer ch u k less tables index report given e)
 
--- "fewer than all" is needed: all of them are read with end 1
-pub whole-ends : (u : Utterance) (tables : Tables) (index report : List ℕ) → Lent (multiframesOf u) tables index report
-    → (reading (take (multiframeOctets * multiframesOf u) (imageOf u)) tables index report .answer ≡ Read (spoken u)) × (spoken u .end ≡ 1)
-whole-ends u tables index report lent =
+-- "fewer than all" is needed: all of them, if there are enough to be read, give end 1
+pub whole-ends : (ch : Choices) (u : Utterance) → Enough ch (multiframesOf u) → (tables : Tables) (index report : List ℕ) → Lent (multiframesOf u) tables index report
+    → (reading ch (take (multiframeOctets * multiframesOf u) (imageOf u)) tables index report .answer ≡ Read (spoken u)) × (spoken u .end ≡ 1)
+whole-ends ch u sent tables index report lent =
     let m = multiframesOf u in
     let e : take (multiframeOctets * m) (imageOf u) ≡ imageOf u = take-all (multiframeOctets * m) (imageOf u) (omega (arith, length-image (u .settings) (u .indices) m)) in
-    (ap (λ (l : List ℕ). reading l tables index report .answer) e ∙ ap (λ (o : Outcome). o .answer) (reads-image u tables index report lent), refl)
+    (ap (λ (l : List ℕ). reading ch l tables index report .answer) e ∙ ap (λ (o : Outcome). o .answer) (reads-image ch u sent tables index report lent), refl)
 
 -- ---- A CUT INSIDE A MULTIFRAME IS REFUSAL 13, at the place of that multiframe
 -- a sync, or its first octet alone, with too few octets
@@ -245,12 +252,12 @@ cut-sync n a b m some less few ea eb =
     ]
 
 -- the first k multiframes and j octets of the next, of an image with any damage that demand 3 counts
-pub cut-inside-damaged : (u : Utterance) (s : List ℕ) → Damage (multiframesOf u) (imageOf u) s → (k j : ℕ) → k < multiframesOf u → 0 < j → j < multiframeOctets
+pub cut-inside-damaged : (ch : Choices) (u : Utterance) (s : List ℕ) → Damage (multiframesOf u) (imageOf u) s → (k j : ℕ) → k < multiframesOf u → 0 < j → j < multiframeOctets
     → (tables : Tables) (index report : List ℕ) → RightTables tables
-    → Refuses (reading (take (multiframeOctets * k + j) s) tables index report) index report 13 (multiframeOctets * k)
-cut-inside-damaged u s d k j less some short tables index report sized =
-    subst (Refuses (reading (take (multiframeOctets * k + j) s) tables index report) index report 13) place
-    (cut-refuses (take (multiframeOctets * k + j) s) tables index report sized (RR.CutShort (length (octetsOf (c .chunks))))
+    → Refuses (reading ch (take (multiframeOctets * k + j) s) tables index report) index report 13 (multiframeOctets * k)
+cut-inside-damaged ch u s d k j less some short tables index report sized =
+    subst (Refuses (reading ch (take (multiframeOctets * k + j) s) tables index report) index report 13) place
+    (cut-refuses ch (take (multiframeOctets * k + j) s) tables index report sized (RR.CutShort (length (octetsOf (c .chunks))))
     (ap (λ (l : List ℕ). cutting l .ending) (take-add (multiframeOctets * k) j s ∙ ap (λ (l : List ℕ). l ++ r) (sym (c .octets)))
     ∙ refused-behind (c .chunks) r CutShort (RR.CutShort (length (octetsOf (c .chunks)))) (c .proper) (omega (arith, count, F.few u s d k (omega arith))) bad (λ v w. refl)))
   where
@@ -279,30 +286,30 @@ cut-inside-damaged u s d k j less some short tables index report sized =
         (octet 0 some (omega arith)) (λ h. octet 1 (omega (arith, size)) (omega arith))
 
 -- and of the image as it was written
-pub cut-inside : (u : Utterance) (k j : ℕ) → k < multiframesOf u → 0 < j → j < multiframeOctets → (tables : Tables) (index report : List ℕ) → RightTables tables
-    → Refuses (reading (take (multiframeOctets * k + j) (imageOf u)) tables index report) index report 13 (multiframeOctets * k)
-cut-inside u = cut-inside-damaged u (imageOf u) (unharmed u)
+pub cut-inside : (ch : Choices) (u : Utterance) (k j : ℕ) → k < multiframesOf u → 0 < j → j < multiframeOctets → (tables : Tables) (index report : List ℕ) → RightTables tables
+    → Refuses (reading ch (take (multiframeOctets * k + j) (imageOf u)) tables index report) index report 13 (multiframeOctets * k)
+cut-inside ch u = cut-inside-damaged ch u (imageOf u) (unharmed u)
 
 -- and nothing at all is 14, at place 0
-pub nothing-refused : (u : Utterance) (tables : Tables) (index report : List ℕ) → RightTables tables
-    → Refuses (reading (take 0 (imageOf u)) tables index report) index report 14 0
-nothing-refused u tables index report sized = nothing-14 tables index report sized
+pub nothing-refused : (ch : Choices) (u : Utterance) (tables : Tables) (index report : List ℕ) → RightTables tables
+    → Refuses (reading ch (take 0 (imageOf u)) tables index report) index report 14 0
+nothing-refused ch u tables index report sized = nothing-14 ch tables index report sized
 
 -- ---- CUT OFF ANYWHERE: whatever is read of fewer octets than the image's is whole multiframes, with end 0
-pub cut-anywhere : (u : Utterance) (n : ℕ) → n < length (imageOf u) → (tables : Tables) (index report : List ℕ) (given : Summary)
-    → reading (take n (imageOf u)) tables index report .answer ≡ Read given → (n ≡ multiframeOctets * given .multiframes) × (given .end ≡ 0)
-cut-anywhere u n short tables index report given e =
+pub cut-anywhere : (ch : Choices) (u : Utterance) (n : ℕ) → n < length (imageOf u) → (tables : Tables) (index report : List ℕ) (given : Summary)
+    → reading ch (take n (imageOf u)) tables index report .answer ≡ Read given → (n ≡ multiframeOctets * given .multiframes) × (given .end ≡ 0)
+cut-anywhere ch u n short tables index report given e =
     elim (ℕ-discrete (n % multiframeOctets) 0) [
       | yes z ↦
           let w : n ≡ multiframeOctets * (n / multiframeOctets) = omega arith in
-          let g = cut-off-answer u (n / multiframeOctets) less tables index report given
-          (ap (λ (i : ℕ). reading (take i (imageOf u)) tables index report .answer) (sym w) ∙ e) in
+          let g = cut-off-answer ch u (n / multiframeOctets) less tables index report given
+          (ap (λ (i : ℕ). reading ch (take i (imageOf u)) tables index report .answer) (sym w) ∙ e) in
           (w ∙ ap (λ (g : Summary). multiframeOctets * g .multiframes) (sym g), ap (λ (g : Summary). g .end) g)
       | no z ↦
           let w : multiframeOctets * (n / multiframeOctets) + n % multiframeOctets ≡ n = omega arith in
-          let r = cut-inside u (n / multiframeOctets) (n % multiframeOctets) less (omega arith) (omega arith) tables index report sized in
+          let r = cut-inside ch u (n / multiframeOctets) (n % multiframeOctets) less (omega arith) (omega arith) tables index report sized in
           let x : Refused (r .refusal) ≡ Read given =
-          sym (ap (λ (o : Outcome). o .answer) (r .is-refused)) ∙ ap (λ (i : ℕ). reading (take i (imageOf u)) tables index report .answer) w ∙ e in
+          sym (ap (λ (o : Outcome). o .answer) (r .is-refused)) ∙ ap (λ (i : ℕ). reading ch (take i (imageOf u)) tables index report .answer) w ∙ e in
           let y : _≡_ {A = ℕ} 0 1 = cc in
           absurd (omega arith)
     ]
@@ -312,21 +319,21 @@ cut-anywhere u n short tables index report given e =
 
     sized : RightTables tables
     sized =
-        let a = A.was-read (take n (imageOf u)) tables index report [] given e .reader-accepts in
+        let a = A.was-read ch (take n (imageOf u)) tables index report [] given e .reader-accepts in
         (a .codebook-size, a .thresholds-size)
 
 -- ---- the premises are met
--- of 24 frames of ones the first multiframe alone is read: rate 0, one multiframe, 24 frames of speech, end 0
-pub first-of-24 : reading (take multiframeOctets (imageOf ones24)) zeroTables (indexFor 1) (reportFor 1) .answer
+-- of 24 frames of ones the first multiframe alone is read where the caller asks for the old rule: rate 0, one multiframe, 24 frames of speech, end 0
+pub first-of-24 : reading oneHeaderSettles (take multiframeOctets (imageOf ones24)) zeroTables (indexFor 1) (reportFor 1) .answer
     ≡ Read (record { settings = settings 0 0; multiframes = 1; speech = 24; bad = 0; end = 0 })
-first-of-24 = ap (λ (o : Outcome). o .answer) (cut-off-reads ones24 1 (omega arith) (omega arith) zeroTables (indexFor 1) (reportFor 1) (lent-zeros 1))
+first-of-24 = ap (λ (o : Outcome). o .answer) (cut-off-reads oneHeaderSettles ones24 1 (omega arith) (omega arith) (inr refl) zeroTables (indexFor 1) (reportFor 1) (lent-zeros 1))
 
 -- 01's example: 143 octets that open with a sync are 13
-pub received-143 : (u : Utterance) (tables : Tables) (index report : List ℕ) → RightTables tables
-    → Refuses (reading (take 143 (imageOf u)) tables index report) index report 13 0
-received-143 u = cut-inside u 0 143 (omega arith) (omega arith) (omega arith)
+pub received-143 : (ch : Choices) (u : Utterance) (tables : Tables) (index report : List ℕ) → RightTables tables
+    → Refuses (reading ch (take 143 (imageOf u)) tables index report) index report 13 0
+received-143 ch u = cut-inside ch u 0 143 (omega arith) (omega arith) (omega arith)
 
 -- one octet more than the first multiframe is 13 at the second
-pub received-145 : (tables : Tables) (index report : List ℕ) → RightTables tables
-    → Refuses (reading (take 145 (imageOf ones24)) tables index report) index report 13 144
-received-145 = cut-inside ones24 1 1 (omega arith) (omega arith) (omega arith)
+pub received-145 : (ch : Choices) (tables : Tables) (index report : List ℕ) → RightTables tables
+    → Refuses (reading ch (take 145 (imageOf ones24)) tables index report) index report 13 144
+received-145 ch = cut-inside ch ones24 1 1 (omega arith) (omega arith) (omega arith)

@@ -1,10 +1,10 @@
--- The first k multiframes of an image, damaged or not, as the reader takes them: their headers settle the settings sent, and the frames of their
+-- The first k multiframes of an image, damaged or not, as the reader takes them: their headers, if there are enough (02, C-20), settle the settings sent, and the frames of their
 -- undamaged pairs are those written.
 -- Assumes nothing.
 use mathlib.Core.Path.{_≡_, refl, sym, ap, ap₂, _∙_, subst}
 use mathlib.Core.Bool.{Bool, true, false}
 use mathlib.Core.List.{List, [], _∷_, _++_}
-use mathlib.Core.Logic.{_⊎_, inl, inr}
+use mathlib.Core.Logic.{inl, inr}
 use Prim.Native.Nat.{ℕ, zero, suc, _+_, _-_, _*_, _/_, _≤_, _<_}
 use native.Mathlib.Decide.{ℕ-discrete, decLt}
 use native.Mathlib.Omega.{arith}
@@ -13,6 +13,7 @@ use lib.Seq.{length-take-le, take-at, take-all}
 use Rattle.lists.specs.Parts.{part, over, part-left, part-right}
 use Rattle.lists.specs.Rows.{each, length-each, each-at, same-each}
 use Rattle.layout.specs.Layout.{widths, frameIndices, multiframeFrames, multiframePairs, streamOctets, multiframeOctets, mostMultiframes, indexOctets, reportOctets, pairOf, firstFrame, secondFrame, sync}
+use Rattle.choices.specs.declared.Choices.{Choices}
 use Rattle.consistency.specs.Tables.{Tables}
 use Rattle.frames.specs.Frames.{allZero, zeroFrame, all-zero-at, Nonzero}
 use Rattle.bits.specs.Bits.{value, bits}
@@ -44,7 +45,7 @@ use Rattle.writer.specs.Laws.{few-multiframes}
 use Rattle.writer.specs.Utterance.{boundary-speaks, Utterance, multiframesOf, imageOf, is-accepted, rate-not-2, fits-each-frame}
 use Rattle.demands.specs.Damage.{Damage, headerFlips, sentMessage, header-near, header-read}
 use Rattle.demands.specs.Whole.{rowOf, Lent, readings-are, packet-at, cut-is, reads-as}
-use Rattle.demands.specs.Headers.{sentCommon, common-sent, rate-sent, exp-sent}
+use Rattle.demands.specs.Headers.{CanSettle, sentCommon, common-sent, rate-sent, exp-sent}
 
 -- ---- headers that all have the same common bits
 have-one-more : (l : List Header) (d : Decoded) (c : ℕ) → AllHave l c → commonBits (d .message) ≡ c → AllHave (l ++ (Codeword d ∷ [])) c
@@ -138,7 +139,7 @@ module _ (u : Utterance) (s : List ℕ) (d : Damage (multiframesOf u) (imageOf u
   pub rows : length (rowOf k) ≡ k
   rows = every-length 0 k
 
-  -- its headers settle the settings sent
+  -- its headers settle the settings sent, if there are enough
   abbrev pub flips : ℕ → ℕ
   flips i = headerFlips (imageOf u) s i
 
@@ -151,21 +152,21 @@ module _ (u : Utterance) (s : List ℕ) (d : Damage (multiframesOf u) (imageOf u
       ∙ same-each (λ i. H.reading (wordIn first i)) (λ i. Codeword (decoded i)) k (λ i h.
       ap (λ (l : List ℕ). H.reading (value (bits l))) (part-first (multiframeOctets * i + 2) 4 (omega arith)) ∙ header-read u s i (omega arith) (d .headers i (omega arith)))
 
-  pub settles-first : 0 < k → (2 ≤ k) ⊎ (flips 0 ≡ 0) → settling (readings first (rowOf k)) ≡ Settled (sentCommon u)
-  settles-first some x = ap settling headers-first ∙ by (decLt k 2) x
+  pub settles-first : (ch : Choices) → 0 < k → CanSettle ch k (flips 0) → settling ch (readings first (rowOf k)) ≡ Settled (sentCommon u)
+  settles-first ch some x = ap (settling ch) headers-first ∙ by (decLt k 2) x
     where
-      two : 2 ≤ k → settling (each (λ i. Codeword (decoded i)) k) ≡ Settled (sentCommon u)
+      two : 2 ≤ k → settling ch (each (λ i. Codeword (decoded i)) k) ≡ Settled (sentCommon u)
       two h =
-          all-agree (each (λ i. Codeword (decoded i)) k) (sentCommon u) (omega (arith, length-each (λ i. Codeword (decoded i)) k))
+          all-agree ch (each (λ i. Codeword (decoded i)) k) (sentCommon u) (omega (arith, length-each (λ i. Codeword (decoded i)) k))
           (all-have decoded (sentCommon u) k (common-sent u))
 
-      by : Dec (k < 2) → (2 ≤ k) ⊎ (flips 0 ≡ 0) → settling (each (λ i. Codeword (decoded i)) k) ≡ Settled (sentCommon u)
+      by : Dec (k < 2) → CanSettle ch k (flips 0) → settling ch (each (λ i. Codeword (decoded i)) k) ≡ Settled (sentCommon u)
       by (no n) y = two (omega arith)
       by (yes l) (inl h) = two h
       by (yes l) (inr z) =
           let e : k ≡ 1 = omega arith in
-          ap (λ (n : ℕ). settling (each (λ i. Codeword (decoded i)) n)) e
-          ∙ only-clean (decoded 0) (header-near u s 0 (omega arith) ∙ z) ∙ ap Settled (common-sent u 0)
+          ap (λ (n : ℕ). settling ch (each (λ i. Codeword (decoded i)) n)) e
+          ∙ only-clean ch (decoded 0) (z .0) (header-near u s 0 (omega arith) ∙ z .1) ∙ ap Settled (common-sent u 0)
 
   -- its packets are those of the image
   pub packet-first : (q : ℕ) → q < multiframePairs * k → received first (rowOf k) q ≡ packetIn s q
@@ -207,14 +208,14 @@ module _ (u : Utterance) (s : List ℕ) (d : Damage (multiframesOf u) (imageOf u
     notes-size = length-notes (received first (rowOf k)) (pairCount (rowOf k)) tables
 
     -- with a good pair, settings and room it is read
-    pub read-first : (index report : List ℕ) → 0 < k → (2 ≤ k) ⊎ (flips 0 ≡ 0) → Good ns → Lent k tables index report
-        → reading first tables index report
+    pub read-first : (ch : Choices) (index report : List ℕ) → 0 < k → CanSettle ch k (flips 0) → Good ns → Lent k tables index report
+        → reading ch first tables index report
         ≡ outcome (Read (summary first (rowOf k) ns (sentCommon u))) (over index 0 (indexOctets * length (rowOf k)) (indexPart first (rowOf k) ns))
         (over report 0 (reportOctets * length (rowOf k)) (reportPart first (rowOf k) ns (sentCommon u)))
-    read-first index report some heads good lent =
-        reads-as first k (omega (arith, few)) size-first syncs-first tables index report (sentCommon u) some lent
+    read-first ch index report some heads good lent =
+        reads-as first k (omega (arith, few)) size-first syncs-first ch tables index report (sentCommon u) some lent
         record {
-          settles = settles-first some heads;
+          settles = settles-first ch some heads;
           usable = record { rate = λ e. rate-not-2 u (sym (rate-sent u) ∙ e); exp = exp-sent u };
           roomy = record {
             index-room = subst (λ (n : ℕ). indexOctets * n ≤ length index) (sym rows) (lent .index-room);

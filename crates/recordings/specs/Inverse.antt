@@ -9,6 +9,7 @@ use lib.ListN.{length, take, drop, getD, replicate, length-append, length-drop, 
 use lib.Seq.{take-at, drop-length, drop-drop, getD-take}
 use Rattle.lists.specs.Parts.{part, part-right, length-part}
 use Rattle.layout.specs.Layout.{multiframeOctets, syncOctets, headerOctets, streamOctets, mostMultiframes, sync, syncFirst, syncSecond, inverseFirst, inverseSecond}
+use Rattle.choices.specs.declared.Choices.{Choices}
 use Rattle.consistency.specs.Tables.{Tables, RightTables, zeroTables}
 use Rattle.cutting.specs.declared.Piece.the-variants.{CutShort, TooMany}
 use Rattle.cutting.specs.Cutting.{pieceOf, Cutting, whole, cutting}
@@ -64,11 +65,11 @@ at-places (inverse ∷ cs) pre k ok h =
     ap₂ (λ (n : ℕ) (o : List ℕ). part (getD (placesOf n cs) k 0) multiframeOctets o) (sym l) (sym (append-assoc pre i (octetsOf cs))) ∙ x
 
 -- ---- THE THEOREM: whole multiframes, 1 to 255 of them, with any inverse syncs anywhere among them, are read as without them
-pub inverses-change-nothing : (cs : List Chunk) → Proper cs → 0 < multiframeCount cs → multiframeCount cs ≤ mostMultiframes
+pub inverses-change-nothing : (ch : Choices) (cs : List Chunk) → Proper cs → 0 < multiframeCount cs → multiframeCount cs ≤ mostMultiframes
     → (tables : Tables) (index report : List ℕ)
-    → reading (octetsOf cs) tables index report ≡ reading (octetsOf (plain cs)) tables index report
-inverses-change-nothing cs ok some few tables index report =
-    same-read (octetsOf cs) (placesOf 0 cs) (octetsOf (plain cs)) (placesOf 0 (plain cs)) count
+    → reading ch (octetsOf cs) tables index report ≡ reading ch (octetsOf (plain cs)) tables index report
+inverses-change-nothing ch cs ok some few tables index report =
+    same-read ch (octetsOf cs) (placesOf 0 cs) (octetsOf (plain cs)) (placesOf 0 (plain cs)) count
     (λ k h. at-places cs [] k ok h ∙ sym (ap (λ (l : List (List ℕ)). getD l k []) (same-multiframes cs))
     ∙ sym (at-places (plain cs) [] k (plain-proper cs ok) (omega (arith, count))))
     (λ k h. subst (λ (w : Cutting). k < length (w .places) → getD (w .places) k 0 + multiframeOctets ≤ length (octetsOf cs)) c₁ (places-placed (octetsOf cs) k) h)
@@ -111,10 +112,10 @@ abbrev pub found : List ℕ → ℕ
 found s = length (cutting s .places)
 
 -- it changes nothing between any octets a and b, each of which is cut to its end
-pub one-inverse : (a b : List ℕ) → cutting a .ending ≡ whole → cutting b .ending ≡ whole → 0 < found a + found b → found a + found b ≤ mostMultiframes
+pub one-inverse : (ch : Choices) (a b : List ℕ) → cutting a .ending ≡ whole → cutting b .ending ≡ whole → 0 < found a + found b → found a + found b ≤ mostMultiframes
     → (tables : Tables) (index report : List ℕ)
-    → reading (a ++ (inverseFirst ∷ inverseSecond ∷ b)) tables index report ≡ reading (a ++ b) tables index report
-one-inverse a b ca cb some few tables index report =
+    → reading ch (a ++ (inverseFirst ∷ inverseSecond ∷ b)) tables index report ≡ reading ch (a ++ b) tables index report
+one-inverse ch a b ca cb some few tables index report =
     let x = chunked a ca in
     let y = chunked b cb in
     let cs = x .chunks in
@@ -124,20 +125,20 @@ one-inverse a b ca cb some few tables index report =
     let without : octetsOf (cs ++ ds) ≡ a ++ b = octets-append cs ds ∙ ap₂ (λ (l m : List ℕ). l ++ m) (x .octets) (y .octets) in
     let n : multiframeCount (cs ++ ds) ≡ found a + found b = count-append cs ds ∙ ap₂ _+_ (x .counted) (y .counted) in
     let n1 : multiframeCount (cs ++ (inverse ∷ ds)) ≡ found a + found b = count-append cs (inverse ∷ ds) ∙ ap₂ _+_ (x .counted) (y .counted) in
-    ap (λ (s : List ℕ). reading s tables index report) (sym with-one)
-    ∙ inverses-change-nothing (cs ++ (inverse ∷ ds)) (proper-append cs (inverse ∷ ds) (x .proper) (y .proper)) (omega (arith, n1)) (omega (arith, n1)) tables index report
-    ∙ ap (λ (l : List Chunk). reading (octetsOf l) tables index report) (plain-append cs (inverse ∷ ds) ∙ sym (plain-append cs ds))
-    ∙ sym (inverses-change-nothing (cs ++ ds) (proper-append cs ds (x .proper) (y .proper)) (omega (arith, n)) (omega (arith, n)) tables index report)
-    ∙ ap (λ (s : List ℕ). reading s tables index report) without
+    ap (λ (s : List ℕ). reading ch s tables index report) (sym with-one)
+    ∙ inverses-change-nothing ch (cs ++ (inverse ∷ ds)) (proper-append cs (inverse ∷ ds) (x .proper) (y .proper)) (omega (arith, n1)) (omega (arith, n1)) tables index report
+    ∙ ap (λ (l : List Chunk). reading ch (octetsOf l) tables index report) (plain-append cs (inverse ∷ ds) ∙ sym (plain-append cs ds))
+    ∙ sym (inverses-change-nothing ch (cs ++ ds) (proper-append cs ds (x .proper) (y .proper)) (omega (arith, n)) (omega (arith, n)) tables index report)
+    ∙ ap (λ (s : List ℕ). reading ch s tables index report) without
 
 -- so before any multiframe of an image of any accepted utterance, with any damage that demand 3 counts, and behind the last
-pub one-in-image : (u : Utterance) (s : List ℕ) → Damage (multiframesOf u) (imageOf u) s → (k : ℕ) → k ≤ multiframesOf u → (tables : Tables) (index report : List ℕ)
-    → reading (take (multiframeOctets * k) s ++ (inverseFirst ∷ inverseSecond ∷ drop (multiframeOctets * k) s)) tables index report
-    ≡ reading s tables index report
-one-in-image u s d k within tables index report =
-    one-inverse (take (multiframeOctets * k) s) (drop (multiframeOctets * k) s) (ap (λ (w : Cutting). w .ending) front) (ap (λ (w : Cutting). w .ending) back) (omega (arith, n)) (omega (arith, n, few))
+pub one-in-image : (ch : Choices) (u : Utterance) (s : List ℕ) → Damage (multiframesOf u) (imageOf u) s → (k : ℕ) → k ≤ multiframesOf u → (tables : Tables) (index report : List ℕ)
+    → reading ch (take (multiframeOctets * k) s ++ (inverseFirst ∷ inverseSecond ∷ drop (multiframeOctets * k) s)) tables index report
+    ≡ reading ch s tables index report
+one-in-image ch u s d k within tables index report =
+    one-inverse ch (take (multiframeOctets * k) s) (drop (multiframeOctets * k) s) (ap (λ (w : Cutting). w .ending) front) (ap (λ (w : Cutting). w .ending) back) (omega (arith, n)) (omega (arith, n, few))
     tables index report
-    ∙ ap (λ (l : List ℕ). reading l tables index report) (take-append-drop (multiframeOctets * k) s)
+    ∙ ap (λ (l : List ℕ). reading ch l tables index report) (take-append-drop (multiframeOctets * k) s)
   where
     few : multiframesOf u ≤ mostMultiframes
     few = F.few u s d k within
@@ -206,7 +207,7 @@ unfolding quiet
 quiet-places zero p = refl
 quiet-places (suc n) p = quiet-places n (p + syncOctets)
 
-inverses-length : (n : ℕ) → length (inverses n) ≡ syncOctets * n
+pub inverses-length : (n : ℕ) → length (inverses n) ≡ syncOctets * n
 inverses-length zero = refl
 inverses-length (suc n) = let h = inverses-length n in omega arith
 
@@ -249,22 +250,38 @@ module _ (g : ℕ → ℕ) (s : List ℕ) where
         (length-part s (multiframeOctets * k) multiframeOctets (omega arith), in-sync k 0 h (omega arith), in-sync k 1 h (omega arith), spaced-proper (suc k) n (omega arith))
 
 -- they change nothing of the reading of m multiframes, each with its sync
-pub spaced-same : (s : List ℕ) (m : ℕ) → 0 < m → m ≤ mostMultiframes → length s ≡ multiframeOctets * m
+pub spaced-same : (ch : Choices) (s : List ℕ) (m : ℕ) → 0 < m → m ≤ mostMultiframes → length s ≡ multiframeOctets * m
     → ((k : ℕ) → k < m → syncIn s k ≡ sync) → (g : ℕ → ℕ) (tables : Tables) (index report : List ℕ)
-    → reading (spaced g s m) tables index report ≡ reading s tables index report
-spaced-same s m some few size syncs g tables index report =
+    → reading ch (spaced g s m) tables index report ≡ reading ch s tables index report
+spaced-same ch s m some few size syncs g tables index report =
     let z : 0 + m ≡ m = omega arith in
     let n = spaced-count g s 0 m in
-    ap (λ (l : List ℕ). reading l tables index report) (sym (spaced-octets g s 0 m))
-    ∙ inverses-change-nothing (spacedChunks g s 0 m) (spaced-proper g s m size syncs 0 m z) (omega (arith, n)) (omega (arith, n)) tables index report
-    ∙ ap (λ (l : List ℕ). reading l tables index report) (spaced-plain g s 0 m (omega arith))
+    ap (λ (l : List ℕ). reading ch l tables index report) (sym (spaced-octets g s 0 m))
+    ∙ inverses-change-nothing ch (spacedChunks g s 0 m) (spaced-proper g s m size syncs 0 m z) (omega (arith, n)) (omega (arith, n)) tables index report
+    ∙ ap (λ (l : List ℕ). reading ch l tables index report) (spaced-plain g s 0 m (omega arith))
+
+-- inverse syncs alone are cut to their end, and no multiframe is found in them
+inverses-cut : (n : ℕ) → cutting (inverses n) ≡ record { places = []; ending = whole }
+inverses-cut n =
+    ap cutting (sym (quiet-octets n [] ∙ append-nil (inverses n))) ∙ cut-chunks (quiet n []) (quiet-proper n [] tt) (omega (arith, ap length (quiet-places n 0)))
+    ∙ ap (λ (l : List ℕ). record { places = l; ending = whole }) (quiet-places n 0)
+
+-- any number of them behind octets that are cut to their end changes nothing
+pub inverses-behind : (ch : Choices) (a : List ℕ) → cutting a .ending ≡ whole → 0 < found a → found a ≤ mostMultiframes → (n : ℕ) (tables : Tables) (index report : List ℕ)
+    → reading ch (a ++ inverses n) tables index report ≡ reading ch a tables index report
+inverses-behind ch a ca some few zero tables index report = ap (λ (l : List ℕ). reading ch l tables index report) (append-nil a)
+inverses-behind ch a ca some few (suc n) tables index report =
+    let c = inverses-cut n in
+    let none : found (inverses n) ≡ 0 = ap (λ (w : Cutting). length (w .places)) c in
+    one-inverse ch a (inverses n) ca (ap (λ (w : Cutting). w .ending) c) (omega (arith, none)) (omega (arith, none)) tables index report
+    ∙ inverses-behind ch a ca some few n tables index report
 
 -- nor of an image of any accepted utterance, with any damage that demand 3 counts
-pub spaced-image : (u : Utterance) (s : List ℕ) → Damage (multiframesOf u) (imageOf u) s → (g : ℕ → ℕ) (tables : Tables) (index report : List ℕ)
-    → reading (spaced g s (multiframesOf u)) tables index report ≡ reading s tables index report
-spaced-image u s d =
+pub spaced-image : (ch : Choices) (u : Utterance) (s : List ℕ) → Damage (multiframesOf u) (imageOf u) s → (g : ℕ → ℕ) (tables : Tables) (index report : List ℕ)
+    → reading ch (spaced g s (multiframesOf u)) tables index report ≡ reading ch s tables index report
+spaced-image ch u s d =
     let m = multiframesOf u in
-    spaced-same s m (omega arith) (few-multiframes (u .settings) (u .indices) (is-accepted u .sizes))
+    spaced-same ch s m (omega arith) (few-multiframes (u .settings) (u .indices) (is-accepted u .sizes))
     (d .size ∙ length-image (u .settings) (u .indices) m) (λ k h. d .syncs k h ∙ image-sync (u .settings) (u .indices) m k h)
 
 -- ---- the premises are met: a damaged image of two multiframes, one inverse sync before it, two between and three behind. It is read, as the image alone is
@@ -273,15 +290,15 @@ apart24 =
     let s = hurtImage says24 in
     0x78 ∷ 0x4D ∷ (part 0 multiframeOctets s ++ (0x78 ∷ 0x4D ∷ 0x78 ∷ 0x4D ∷ (part multiframeOctets multiframeOctets s ++ (0x78 ∷ 0x4D ∷ 0x78 ∷ 0x4D ∷ 0x78 ∷ 0x4D ∷ []))))
 
-pub record Apart24 (index report : List ℕ) : Type 0 where
+pub record Apart24 (ch : Choices) (index report : List ℕ) : Type 0 where
   pub longer : length apart24 ≡ length (hurtImage says24) + 12
-  pub same : reading apart24 zeroTables index report ≡ reading (hurtImage says24) zeroTables index report
+  pub same : reading ch apart24 zeroTables index report ≡ reading ch (hurtImage says24) zeroTables index report
   pub given : Summary
-  pub is-read : reading apart24 zeroTables index report .answer ≡ Read given
+  pub is-read : reading ch apart24 zeroTables index report .answer ≡ Read given
   pub multiframes-2 : given .multiframes ≡ 2
 
-pub apart-24 : Apart24 (indexFor 2) (reportFor 2)
-apart-24 = record {
+pub apart-24 : (ch : Choices) → Apart24 ch (indexFor 2) (reportFor 2)
+apart-24 ch = record {
   longer = sizes;
   same = same;
   given = named .given;
@@ -301,14 +318,14 @@ apart-24 = record {
         let lb : length b ≡ multiframeOctets = length-part (hurtImage says24) multiframeOctets multiframeOctets (omega (arith, size)) in
         omega (arith, length-append a (0x78 ∷ 0x4D ∷ 0x78 ∷ 0x4D ∷ (b ++ three)), length-append b three, size)
 
-    same : reading apart24 zeroTables (indexFor 2) (reportFor 2) ≡ reading (hurtImage says24) zeroTables (indexFor 2) (reportFor 2)
+    same : reading ch apart24 zeroTables (indexFor 2) (reportFor 2) ≡ reading ch (hurtImage says24) zeroTables (indexFor 2) (reportFor 2)
     same =
-        ap (λ (n : ℕ). reading (spaced suc (hurtImage says24) n) zeroTables (indexFor 2) (reportFor 2)) (sym two-multiframes)
-        ∙ spaced-image says24 (hurtImage says24) (hurts says24) suc zeroTables (indexFor 2) (reportFor 2)
+        ap (λ (n : ℕ). reading ch (spaced suc (hurtImage says24) n) zeroTables (indexFor 2) (reportFor 2)) (sym two-multiframes)
+        ∙ spaced-image ch says24 (hurtImage says24) (hurts says24) suc zeroTables (indexFor 2) (reportFor 2)
 
-    named : N.Named says24 (hurtImage says24) zeroTables (indexFor 2) (reportFor 2)
-    named = N.names-the-damage says24 (hurtImage says24) zeroTables (indexFor 2) (reportFor 2)
-        (subst (λ (n : ℕ). N.Premises says24 (hurtImage says24) zeroTables (indexFor n) (reportFor n)) two-multiframes names-says24)
+    named : N.Named ch says24 (hurtImage says24) zeroTables (indexFor 2) (reportFor 2)
+    named = N.names-the-damage ch says24 (hurtImage says24) zeroTables (indexFor 2) (reportFor 2)
+        (subst (λ (n : ℕ). N.Premises ch says24 (hurtImage says24) zeroTables (indexFor n) (reportFor n)) two-multiframes (names-says24 ch))
 
 -- ---- the premises are needed
 -- outcomes that are refused at different places are different
@@ -318,18 +335,14 @@ moved o₁ o₂ index report n p q x y d e =
     let f : x .refusal ≡ y .refusal = cc in
     d (sym (x .place-is) ∙ ap readingPlace f ∙ y .place-is)
 
-module _ (tables : Tables) (index report : List ℕ) (sized : RightTables tables) where
+module _ (ch : Choices) (tables : Tables) (index report : List ℕ) (sized : RightTables tables) where
   abbrev pub read : List ℕ → Outcome
-  read s = reading s tables index report
+  read s = reading ch s tables index report
 
   -- NO MULTIFRAME: refusal 14 gives the number of octets, so inverse syncs alone change it
   pub none-moves : (n : ℕ) → Refuses (read (inverses n)) index report 14 (syncOctets * n)
   none-moves n =
-      let e : octetsOf (quiet n []) ≡ inverses n = quiet-octets n [] ∙ append-nil (inverses n) in
-      let c : cutting (inverses n) ≡ record { places = []; ending = whole } =
-      ap cutting (sym e) ∙ cut-chunks (quiet n []) (quiet-proper n [] tt) (omega (arith, ap length (quiet-places n 0)))
-      ∙ ap (λ (l : List ℕ). record { places = l; ending = whole }) (quiet-places n 0) in
-      subst (Refuses (read (inverses n)) index report 14) (inverses-length n) (none-refuses (inverses n) tables index report sized c)
+      subst (Refuses (read (inverses n)) index report 14) (inverses-length n) (none-refuses ch (inverses n) tables index report sized (inverses-cut n))
 
   -- one inverse sync is refused at place 2, nothing at place 0, and these outcomes differ
   pub one-sync-14 : Refuses (read (0x78 ∷ 0x4D ∷ [])) index report 14 2
@@ -349,7 +362,7 @@ module _ (tables : Tables) (index report : List ℕ) (sized : RightTables tables
       let n : length (octetsOf cs) ≡ 36720 + 2 * inverseCount cs = chunk-octets cs ok ∙ omega arith in
       let bad : pieceOf (syncFirst ∷ syncSecond ∷ r) (multiframeCount cs) ≡ TooMany = rw all (one-too-many (length (syncFirst ∷ syncSecond ∷ r)) (omega arith)) in
       subst (Refuses (read s) index report 15) n
-      (cut-refuses s tables index report sized (RR.TooMany (length (octetsOf cs)))
+      (cut-refuses ch s tables index report sized (RR.TooMany (length (octetsOf cs)))
       (refused-behind cs (syncFirst ∷ syncSecond ∷ r) TooMany (RR.TooMany (length (octetsOf cs))) ok (omega arith) bad (λ v w. refl)))
 
   -- of 255 multiframes and a sync it is 36,720, with one inverse sync in front 36,722, and these outcomes differ
@@ -374,7 +387,7 @@ module _ (tables : Tables) (index report : List ℕ) (sized : RightTables tables
   lone-moves cs ok few =
       let s = octetsOf cs ++ (syncFirst ∷ []) in
       subst (Refuses (read s) index report 13) (chunk-octets cs ok)
-      (cut-refuses s tables index report sized (RR.CutShort (length (octetsOf cs)))
+      (cut-refuses ch s tables index report sized (RR.CutShort (length (octetsOf cs)))
       (refused-behind cs (syncFirst ∷ []) CutShort (RR.CutShort (length (octetsOf cs))) ok few (lone-sync 0 (multiframeCount cs)) (λ v w. refl)))
 
   -- 78 4D 87 is refused at place 2, and 87 at place 0
@@ -396,9 +409,9 @@ blanks-count zero = (refl, refl)
 blanks-count (suc n) = (ap suc (blanks-count n .0), blanks-count n .1)
 
 -- so with 255 of them and a sync an inverse sync changes the outcome
-pub past-255 : (index report : List ℕ)
-    → reading (inverseFirst ∷ inverseSecond ∷ (octetsOf (blanks mostMultiframes) ++ sync)) zeroTables index report
-    ≡ reading (octetsOf (blanks mostMultiframes) ++ sync) zeroTables index report → ⊥
-past-255 index report =
-    not-past-255 zeroTables index report (lent-zeros 1 .codebook-size, lent-zeros 1 .thresholds-size) (blanks mostMultiframes) []
+pub past-255 : (ch : Choices) (index report : List ℕ)
+    → reading ch (inverseFirst ∷ inverseSecond ∷ (octetsOf (blanks mostMultiframes) ++ sync)) zeroTables index report
+    ≡ reading ch (octetsOf (blanks mostMultiframes) ++ sync) zeroTables index report → ⊥
+past-255 ch index report =
+    not-past-255 ch zeroTables index report (lent-zeros 1 .codebook-size, lent-zeros 1 .thresholds-size) (blanks mostMultiframes) []
     (blanks-proper mostMultiframes) (blanks-count mostMultiframes .0) (blanks-count mostMultiframes .1)

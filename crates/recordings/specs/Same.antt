@@ -11,6 +11,7 @@ use Rattle.lists.specs.Tests.{when}
 use Rattle.lists.specs.Parts.{part, over}
 use Rattle.lists.specs.Rows.{each, joined, same-each, same-joined}
 use Rattle.layout.specs.Layout.{widths, frameIndices, dataBits, multiframePairs, streamOctets, multiframeOctets, indexOctets, reportOctets, firstPair}
+use Rattle.choices.specs.declared.Choices.{Choices}
 use Rattle.consistency.specs.Tables.{Tables, tablesRight}
 use Rattle.bits.specs.Bits.{value, bits}
 use Rattle.crc.specs.Crc.{right}
@@ -37,7 +38,7 @@ use Rattle.refusals.specs.declared.Reading.the-variants.{WrongTables}
 use Rattle.image.specs.Made.{part-within}
 
 -- two lists of octets, each with the places of as many multiframes, the k-th of the one the same as the k-th of the other
-module _ (o₁ p₁ o₂ p₂ : List ℕ) (count : length p₁ ≡ length p₂)
+module _ (ch : Choices) (o₁ p₁ o₂ p₂ : List ℕ) (count : length p₁ ≡ length p₂)
     (same : (k : ℕ) → k < length p₁ → part (getD p₁ k 0) multiframeOctets o₁ ≡ part (getD p₂ k 0) multiframeOctets o₂)
     (room₁ : (k : ℕ) → k < length p₁ → getD p₁ k 0 + multiframeOctets ≤ length o₁) (room₂ : (k : ℕ) → k < length p₂ → getD p₂ k 0 + multiframeOctets ≤ length o₂) where
   piece : (k a v : ℕ) → k < length p₁ → a + v ≤ multiframeOctets → part (getD p₁ k 0 + a) v o₁ ≡ part (getD p₂ k 0 + a) v o₂
@@ -100,12 +101,12 @@ module _ (o₁ p₁ o₂ p₂ : List ℕ) (count : length p₁ ≡ length p₂)
           ap₂ (λ (m : ℕ) (hs : List Header). given m hs (receivedFrames o₁ p₁) (receivedNotes o₁ p₁ tables) c) count headers-same
           ∙ ap₂ (λ (fs ns : List ℕ). given (length p₂) (readings o₂ p₂) fs ns c) frames-same notes-same
 
-      verdict-same : 0 < length p₁ → wholeVerdict o₁ tables (length index) (length report) p₁ ≡ wholeVerdict o₂ tables (length index) (length report) p₂
+      verdict-same : 0 < length p₁ → wholeVerdict ch o₁ tables (length index) (length report) p₁ ≡ wholeVerdict ch o₂ tables (length index) (length report) p₂
       unfolding wholeVerdict
       verdict-same h =
           rw (ne-eqb (length p₁) 0 (λ e. omega arith), ne-eqb (length p₂) 0 (λ e. omega arith))
-          (ap₂ (λ (m : ℕ) (ns : List ℕ). settledVerdict m (badPairs ns) (multiframePairs * m) (length index) (length report) (settling (readings o₁ p₁))) count notes-same
-          ∙ ap (λ (hs : List Header). settledVerdict (length p₂) (badPairs (receivedNotes o₂ p₂ tables)) (pairCount p₂) (length index) (length report) (settling hs))
+          (ap₂ (λ (m : ℕ) (ns : List ℕ). settledVerdict m (badPairs ns) (multiframePairs * m) (length index) (length report) (settling ch (readings o₁ p₁))) count notes-same
+          ∙ ap (λ (hs : List Header). settledVerdict (length p₂) (badPairs (receivedNotes o₂ p₂ tables)) (pairCount p₂) (length index) (length report) (settling ch hs))
           headers-same)
 
       -- the verdict, if the tables have their sizes
@@ -114,9 +115,9 @@ module _ (o₁ p₁ o₂ p₂ : List ℕ) (count : length p₁ ≡ length p₂)
 
       -- if these are what cutting finds, and there is one, the whole outcome is the same
       pub same-read : cutting o₁ ≡ record { places = p₁; ending = whole } → cutting o₂ ≡ record { places = p₂; ending = whole } → 0 < length p₁
-          → reading o₁ tables index report ≡ reading o₂ tables index report
+          → reading ch o₁ tables index report ≡ reading ch o₂ tables index report
       unfolding reading verdict
       same-read c₁ c₂ h =
           rw (c₁, c₂)
-          (finished-same (tabled (wholeVerdict o₁ tables (length index) (length report) p₁))
+          (finished-same (tabled (wholeVerdict ch o₁ tables (length index) (length report) p₁))
           ∙ ap (λ (v : Verdict). finished o₂ tables index report p₂ (tabled v)) (verdict-same h))

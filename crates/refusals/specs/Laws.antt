@@ -7,7 +7,7 @@ use native.Mathlib.Omega.{arith}
 use lib.Dec.{eqb}
 use Rattle.lists.specs.Tests.{when}
 use Rattle.layout.specs.declared.Frame.{Frame}
-use Rattle.refusals.specs.Refusals.{success, unreadable, writingNumber, writingPlace, readingNumber, readingPlace, huntNumber, huntPlace, huntTested, huntingNumber, huntingPlace}
+use Rattle.refusals.specs.Refusals.{success, noSuchChoice, writingNumber, writingPlace, readingNumber, readingPlace, huntNumber, huntPlace, huntTested, huntingNumber, huntingPlace}
 use Rattle.refusals.specs.declared.Writing.{Writing}
 use Rattle.refusals.specs.declared.Writing.the-variants as W
 use Rattle.refusals.specs.declared.Reading.{Reading}
@@ -17,9 +17,9 @@ use Rattle.refusals.specs.declared.Hunt.the-variants as H
 use Rattle.refusals.specs.declared.Hunting.{Hunting}
 use Rattle.refusals.specs.declared.Hunting.the-variants as G
 
--- the number of neither success nor the house, whose smallest is `unreadable`
+-- the number of neither success nor the house, whose smallest is `noSuchChoice`
 abbrev pub Between : ℕ → Type 0
-Between n = (success < n) × (n < unreadable)
+Between n = (success < n) × (n < noSuchChoice)
 
 -- ---- the writer's
 pub writing-between : (r : Writing) → Between (writingNumber r)

@@ -15,6 +15,10 @@ abbrev pub success : ℕ
 success = 0
 
 -- ---- numbers that 01 does not have (house)
+-- a caller's number names no choice
+abbrev pub noSuchChoice : ℕ
+noSuchChoice = 96
+
 -- no codeword is near enough to a header
 abbrev pub unreadable : ℕ
 unreadable = 97

@@ -8,7 +8,10 @@ ghost use Rattle.refusals.specs.Refusals.{writingNumber, writingPlace, r
 // SUCCESS is the number of an answer that is no refusal.
 pub const SUCCESS: u32 = 0;
 
-// Three numbers that 01 does not have (house), above all of its own. They have no place.
+// Four numbers that 01 does not have (house), above all of its own. They have no place.
+// NO_SUCH_CHOICE is the number of a choice that there is not.
+pub const NO_SUCH_CHOICE: u32 = 96;
+
 // UNREADABLE is the number of a header that no codeword is near enough to.
 pub const UNREADABLE: u32 = 97;
 

@@ -1,14 +1,17 @@
 -- Writing and reading back in one call: what it answers for every input and what it leaves in the three buffers, by its three ends: back, written
--- but not read, not written. The theorem "reads back" put to use: an accepted utterance with 01's tables and room comes back.
+-- but not read, not written. The theorem "reads back" put to use: an accepted utterance with 01's tables and room comes back. One header alone
+-- settles here: "the bench recorder [..] ask[s] for it by name" (02, C-20), so that utterances of one multiframe come back too.
 -- Assumes nothing.
 use mathlib.Core.Path.{_≡_, refl, sym, ap, _∙_, subst}
 use mathlib.Core.List.{List, [], _∷_, _++_}
+use mathlib.Core.Logic.{inr}
 use Prim.Native.Nat.{ℕ, _+_, _-_, _*_, _≤_}
 use native.Mathlib.Omega.{arith}
 use lib.ListN.{length, take, drop, replicate}
 use lib.Seq.{take-at}
 use Rattle.lists.specs.Parts.{over, length-over}
 use Rattle.layout.specs.Layout.{indexOctets, reportOctets, codebookNumbers}
+use Rattle.choices.specs.Choices.{oneHeaderSettles}
 use Rattle.consistency.specs.Tables.{Tables, tablesOf, zeroTables, wrong-fails}
 use Rattle.settings.specs.declared.Settings.{Settings}
 use Rattle.settings.specs.Settings.{settings}
@@ -55,8 +58,8 @@ tripOf (R.Refused r) = NotRead r
 -- a refusal of the writer ends it; else the octets written are read
 abbrev pub afterWriting : Tables → List ℕ → List ℕ → List ℕ → WA.Answer → Made
 afterWriting tables index report o (Written n) =
-    made (tripOf (reading (take n o) tables index report .answer)) o (reading (take n o) tables index report .index)
-    (reading (take n o) tables index report .report)
+    made (tripOf (reading oneHeaderSettles (take n o) tables index report .answer)) o (reading oneHeaderSettles (take n o) tables index report .index)
+    (reading oneHeaderSettles (take n o) tables index report .report)
 afterWriting tables index report o (Refused r) = made (NotWritten r) o index report
 
 unfoldable pub trip : Settings → List ℕ → Tables → List ℕ → List ℕ → List ℕ → Made
@@ -94,7 +97,7 @@ pub record IsUnread (settings : Settings) (idx : List ℕ) (tables : Tables) (ou
   pub octets : ℕ
   pub written : verdict settings idx (length out) ≡ Written octets
   pub image-out : t .output ≡ imaged settings idx octets out
-  pub refused : reading (image settings idx (multiframesFor (frameCount idx))) tables index report .answer ≡ R.Refused x
+  pub refused : reading oneHeaderSettles (image settings idx (multiframesFor (frameCount idx))) tables index report .answer ≡ R.Refused x
   pub index-stays : t .index ≡ index
   pub report-stays : t .report ≡ report
 
@@ -119,7 +122,7 @@ module _ (settings : Settings) (idx : List ℕ) (tables : Tables) (out index rep
 
   -- ---- what is accepted is written, and its image is read
   abbrev back : Outcome
-  back = reading (image settings idx (multiframesFor (frameCount idx))) tables index report
+  back = reading oneHeaderSettles (image settings idx (multiframesFor (frameCount idx))) tables index report
 
   as-written : (n : ℕ) → verdict settings idx (length out) ≡ Written n
       → trip settings idx tables out index report ≡ made (tripOf (back .answer)) (imaged settings idx n out) (back .index) (back .report)
@@ -128,7 +131,7 @@ module _ (settings : Settings) (idx : List ℕ) (tables : Tables) (out index rep
       let i = image settings idx (multiframesFor (frameCount idx)) in
       let l : length i ≡ n = length-image settings idx (multiframesFor (frameCount idx)) ∙ sym (accepted settings idx (length out) n e .octets-needed) in
       let t : take n (imaged settings idx n out) ≡ i = take-at i (drop (0 + n) out) n l in
-      rw e (ap (λ (s : List ℕ). let q = reading s tables index report in made (tripOf (q .answer)) (imaged settings idx n out) (q .index) (q .report)) t)
+      rw e (ap (λ (s : List ℕ). let q = reading oneHeaderSettles s tables index report in made (tripOf (q .answer)) (imaged settings idx n out) (q .index) (q .report)) t)
 
   not-written : (r : WR.Writing) → verdict settings idx (length out) ≡ Refused r
       → trip settings idx tables out index report ≡ made (NotWritten r) out index report
@@ -146,7 +149,7 @@ module _ (settings : Settings) (idx : List ℕ) (tables : Tables) (out index rep
         small = small;
         written = accepts settings idx (needed idx) (a .sizes) (a .narrow-indices) (a .speaks) (omega arith);
       } in
-      let r = reads-image u tables index report lent in
+      let r = reads-image oneHeaderSettles u (inr refl) tables index report lent in
       subst (IsBack settings idx n out index report) (sym (as-written n e))
       record {
         answer = ap (λ (o : Outcome). tripOf (o .answer)) r;
@@ -170,7 +173,7 @@ module _ (settings : Settings) (idx : List ℕ) (tables : Tables) (out index rep
       by (Written n) v e =
           let w = as-written n v in
           let y : back .answer ≡ R.Refused x = tripped (back .answer) x (sym (ap (λ (m : Made). m .answer) w) ∙ e) in
-          let k = refusal-keeps (image settings idx (multiframesFor (frameCount idx))) tables index report x y in
+          let k = refusal-keeps oneHeaderSettles (image settings idx (multiframesFor (frameCount idx))) tables index report x y in
           subst (IsUnread settings idx tables out index report x) (sym w)
           record { octets = n; written = v; image-out = refl; refused = y; index-stays = ap (λ (q : Outcome). q .index) k; report-stays = ap (λ (q : Outcome). q .report) k }
       by (Refused r) v e = absurd (never r x (sym (ap (λ (m : Made). m .answer) (not-written r v)) ∙ e))
@@ -209,7 +212,7 @@ module _ (settings : Settings) (idx : List ℕ) (tables : Tables) (out index rep
   ends-unwritten x o r e ex = ap (afterWriting tables index report o) (sym ex) ∙ ends x o e
 
   pub ends-read : (x : WA.Answer) (o : List ℕ) (n : ℕ) (y : RA.Answer) (i′ r′ : List ℕ) (t : Trip) → W.outcome x o ≡ writing settings idx out → x ≡ Written n
-      → outcome y i′ r′ ≡ reading (take n o) tables index report → tripOf y ≡ t
+      → outcome y i′ r′ ≡ reading oneHeaderSettles (take n o) tables index report → tripOf y ≡ t
       → made t o i′ r′ ≡ trip settings idx tables out index report
   ends-read x o n y i′ r′ t e ex er et =
       ap (λ (z : Trip). made z o i′ r′) (sym et) ∙ ap (λ (q : Outcome). made (tripOf (q .answer)) o (q .index) (q .report)) er
@@ -245,7 +248,7 @@ wrong-tables u tables out index report room wrong =
     as-written (u .settings) (u .indices) tables out index report (needed (u .indices))
     (accepts (u .settings) (u .indices) (length out) (a .sizes) (a .narrow-indices) (a .speaks) room)
     ∙ ap (λ (q : Outcome). made (tripOf (q .answer)) (imaged (u .settings) (u .indices) (needed (u .indices)) out) (q .index) (q .report))
-    (sym (S.wrong-tables (imageOf u) tables index report (wrong-fails tables (λ r. wrong (r .0)))))
+    (sym (S.wrong-tables oneHeaderSettles (imageOf u) tables index report (wrong-fails tables (λ r. wrong (r .0)))))
 
 -- so is 01's frame 1 with no codebook at all: its 144 octets stand in the output, and the octet beyond is as it came
 pub unread-1 : trip (settings 0 0) (lone 1) (tablesOf [] (zeroTables .thresholds)) (replicate 145 255) (indexFor 1) (reportFor 1)

@@ -19,7 +19,9 @@ use Rattle.header.specs.Reading.{reading}
 use Rattle.header.specs.declared.Decoded.{Decoded}
 use Rattle.header.specs.declared.Header.{Header}
 use Rattle.header.specs.declared.Header.the-variants.{Codeword, Lost}
-use Rattle.settling.specs.Settling.{among, firstAgreeing, onlyOne, orElse, headerNote}
+use Rattle.choices.specs.Choices.{oneSettles}
+use Rattle.choices.specs.declared.Choices.{Choices}
+use Rattle.settling.specs.Settling.{among, firstAgreeing, onlyOne, orElse, settling, headerNote}
 use Rattle.settling.specs.declared.Settlement.{Settlement}
 use Rattle.settling.specs.declared.Settlement.the-variants.{Settled, Unsettled}
 use Rattle.settling.specs.Stored.{packed, opened, openAll, packAll, withSeen, seenBefore, settledBy, hasCommon, stepNote, commonNote}
@@ -77,13 +79,6 @@ only-is [] e = absurd (omega arith)
 only-is (Lost ∷ hs) e = refl
 only-is (Codeword d ∷ []) e = refl
 only-is (Codeword d ∷ h ∷ hs) e = absurd (omega arith)
-
-pub not-only : (hs : List Header) → (length hs ≡ 1 → ⊥) → onlyOne hs ≡ Unsettled
-unfolding onlyOne
-not-only [] n = refl
-not-only (Lost ∷ hs) n = refl
-not-only (Codeword d ∷ []) n = absurd (n refl)
-not-only (Codeword d ∷ h ∷ hs) n = refl
 
 pub step-note-le : (count k : ℕ) → stepNote count k ≤ 4
 unfolding stepNote
@@ -152,3 +147,17 @@ module _ (l : List ℕ) (one : length l ≡ 1) (r : Header) (e : r ≡ opened (g
 
   pub only-mended : (d : Decoded) → r ≡ Codeword d → (d .flips ≡ 0 → ⊥) → Unsettled ≡ onlyOne (openAll l)
   only-mended d q n = rw (only-found, q, ne-eqb (d .flips) 0 n)
+
+-- ---- what is settled in the end: two that agree, or one alone where it is asked for
+module _ (ch : Choices) (hs : List Header) (s : Settlement) (e : s ≡ firstAgreeing [] hs) where
+  pub settled-by-two : (c : ℕ) → s ≡ Settled c → Settled c ≡ settling ch hs
+  unfolding settling
+  settled-by-two c q = rw (sym e ∙ q)
+
+  pub settled-alone : (o : Settlement) → s ≡ Unsettled → oneSettles ch ≡ true → o ≡ onlyOne hs → o ≡ settling ch hs
+  unfolding settling
+  settled-alone o q t eo = rw (sym e ∙ q, t) eo
+
+  pub settled-nothing : s ≡ Unsettled → oneSettles ch ≡ false → Unsettled ≡ settling ch hs
+  unfolding settling
+  settled-nothing q t = rw (sym e ∙ q, t)

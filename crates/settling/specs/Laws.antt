@@ -11,12 +11,17 @@ use native.Mathlib.Decide.{ℕ-discrete}
 use native.Mathlib.Omega.{arith}
 use borrow.Author.Tests.{eq-eqb, ne-eqb, eqb-true}
 use Rattle.lists.specs.Tests.{when, true-false}
+use Rattle.lists.specs.Rows.{length-each}
+use Rattle.carrier.specs.Carrier.{wordAt, inPlaces}
 use Rattle.message.specs.Message.{countOf, commonBits}
+use Rattle.choices.specs.Choices.{oneSettles}
+use Rattle.choices.specs.declared.Choices.{Choices}
+use Rattle.header.specs.Reading as H
 use Rattle.header.specs.Reading.Laws.{lost-not-read, same-message}
 use Rattle.header.specs.declared.Decoded.{Decoded}
 use Rattle.header.specs.declared.Header.{Header}
 use Rattle.header.specs.declared.Header.the-variants.{Codeword, Lost}
-use Rattle.settling.specs.Settling.{among, firstAgreeing, onlyOne, orElse, settling, headerNote}
+use Rattle.settling.specs.Settling.{readings, among, firstAgreeing, onlyOne, orElse, settling, headerNote}
 use Rattle.settling.specs.declared.Settlement.{Settlement}
 use Rattle.settling.specs.declared.Settlement.the-variants.{Settled, Unsettled}
 
@@ -210,27 +215,55 @@ again (Codeword d ∷ hs) seen c n a e =
     let t : among (commonBits (d .message)) seen ≡ true = ap (λ (x : ℕ). among x seen) (a .0) ∙ e in
     rw t (ap Settled (a .0))
 
--- two headers or more, all read with the same common bits, settle them
-pub all-agree : (hs : List Header) (c : ℕ) → 2 ≤ length hs → AllHave hs c → settling hs ≡ Settled c
+-- two headers or more, all read with the same common bits, settle them, whatever the caller chose
+pub all-agree : (ch : Choices) (hs : List Header) (c : ℕ) → 2 ≤ length hs → AllHave hs c → settling ch hs ≡ Settled c
 unfolding settling firstAgreeing
-all-agree [] c n a = absurd (omega arith)
-all-agree (Lost ∷ hs) c n a = absurd a
-all-agree (Codeword d ∷ hs) c n a =
-    ap (λ (s : Settlement). orElse s (onlyOne (Codeword d ∷ hs)))
+all-agree ch [] c n a = absurd (omega arith)
+all-agree ch (Lost ∷ hs) c n a = absurd a
+all-agree ch (Codeword d ∷ hs) c n a =
+    ap (λ (s : Settlement). orElse s (when (oneSettles ch) (onlyOne (Codeword d ∷ hs)) Unsettled))
     (again hs (commonBits (d .message) ∷ []) c (omega arith) (a .1) (seen-true c [] (commonBits (d .message)) (sym (a .0))))
 
--- an only header settles them exactly if it is a codeword
-pub only-clean : (d : Decoded) → d .flips ≡ 0 → settling (Codeword d ∷ []) ≡ Settled (commonBits (d .message))
-unfolding settling firstAgreeing onlyOne
-only-clean d z = rw (eq-eqb (d .flips) 0 z)
+-- where no two agree and one alone would not settle, nothing is settled, whatever the caller chose
+pub neither : (ch : Choices) (hs : List Header) → firstAgreeing [] hs ≡ Unsettled → onlyOne hs ≡ Unsettled → settling ch hs ≡ Unsettled
+unfolding settling
+neither ch hs none one = rw (none, one) (by (oneSettles ch))
+  where
+    by : (t : Bool) → when t Unsettled Unsettled ≡ Unsettled
+    by true = refl
+    by false = refl
 
-pub only-mended : (d : Decoded) → (d .flips ≡ 0 → ⊥) → settling (Codeword d ∷ []) ≡ Unsettled
-unfolding settling firstAgreeing onlyOne
-only-mended d n = rw (ne-eqb (d .flips) 0 n)
+-- ---- an only header: by default it settles nothing (02, C-20); where the caller asks for it, exactly if it is a codeword
+pub only-default : (ch : Choices) (h : Header) → oneSettles ch ≡ false → settling ch (h ∷ []) ≡ Unsettled
+unfolding settling firstAgreeing
+only-default ch Lost o = rw o
+only-default ch (Codeword d) o = rw o
 
-pub only-lost : settling (Lost ∷ []) ≡ Unsettled
-unfolding settling firstAgreeing onlyOne
-only-lost = refl
+pub one-default : (ch : Choices) (hs : List Header) → oneSettles ch ≡ false → length hs ≡ 1 → settling ch hs ≡ Unsettled
+one-default ch [] o e = absurd (omega arith)
+one-default ch (h ∷ []) o e = only-default ch h o
+one-default ch (h ∷ x ∷ hs) o e = absurd (omega arith)
+
+none-settle : (ch : Choices) → settling ch [] ≡ Unsettled
+unfolding firstAgreeing onlyOne
+none-settle ch = neither ch [] refl refl
+
+-- so many headers may be enough to settle: two or more, or one where the caller asks for the old rule
+abbrev pub Enough : Choices → ℕ → Type 0
+Enough ch m = (2 ≤ m) ⊎ (oneSettles ch ≡ true)
+
+module _ (ch : Choices) where
+  pub only-clean : (d : Decoded) → oneSettles ch ≡ true → d .flips ≡ 0 → settling ch (Codeword d ∷ []) ≡ Settled (commonBits (d .message))
+  unfolding settling firstAgreeing onlyOne
+  only-clean d o z = rw (o, eq-eqb (d .flips) 0 z)
+
+  pub only-mended : (d : Decoded) → (d .flips ≡ 0 → ⊥) → settling ch (Codeword d ∷ []) ≡ Unsettled
+  unfolding firstAgreeing onlyOne
+  only-mended d n = neither ch (Codeword d ∷ []) refl (rw (ne-eqb (d .flips) 0 n))
+
+  pub only-lost : settling ch (Lost ∷ []) ≡ Unsettled
+  unfolding firstAgreeing onlyOne
+  only-lost = neither ch (Lost ∷ []) refl refl
 
 -- ---- what is settled
 isSettled : Settlement → Bool
@@ -249,21 +282,32 @@ settled-bits : (c d : ℕ) → Settled c ≡ Settled d → c ≡ d
 unfolding bitsIn
 settled-bits c d e = ap bitsIn e
 
--- the rule for an only multiframe does not speak of two or more
-more-than-one : (hs : List Header) → 2 ≤ length hs → onlyOne hs ≡ Unsettled
+-- the rule for an only multiframe speaks of no other number
+pub not-only : (hs : List Header) → (length hs ≡ 1 → ⊥) → onlyOne hs ≡ Unsettled
 unfolding onlyOne
-more-than-one [] h = absurd (omega arith)
-more-than-one (Lost ∷ hs) h = refl
-more-than-one (Codeword d ∷ []) h = absurd (omega arith)
-more-than-one (Codeword d ∷ x ∷ hs) h = refl
+not-only [] n = refl
+not-only (Lost ∷ hs) n = refl
+not-only (Codeword d ∷ []) n = absurd (n refl)
+not-only (Codeword d ∷ x ∷ hs) n = refl
 
--- what two headers or more settle comes from the first of them that agrees with an earlier one
-pub settled-first : (hs : List Header) (c : ℕ) → 2 ≤ length hs → settling hs ≡ Settled c → First [] hs c
+-- so the choice changes nothing there: they settle what the first of them that agrees with an earlier one says
+pub not-one : (ch : Choices) (hs : List Header) → (length hs ≡ 1 → ⊥) → settling ch hs ≡ firstAgreeing [] hs
 unfolding settling
-settled-first hs c two e = by (firstAgreeing [] hs) (first-agreeing [] hs) e
+not-one ch hs n = by (firstAgreeing [] hs) (oneSettles ch)
   where
-    by : (s : Settlement) → Says [] hs s → orElse s (onlyOne hs) ≡ Settled c → First [] hs c
-    by Unsettled x e = absurd (not-settled c (sym (more-than-one hs two) ∙ e))
+    by : (s : Settlement) (t : Bool) → orElse s (when t (onlyOne hs) Unsettled) ≡ s
+    by (Settled x) t = refl
+    by Unsettled true = not-only hs n
+    by Unsettled false = refl
+
+pub two-or-more : (ch : Choices) (hs : List Header) → 2 ≤ length hs → settling ch hs ≡ firstAgreeing [] hs
+two-or-more ch hs two = not-one ch hs (λ e. omega arith)
+
+pub settled-first : (ch : Choices) (hs : List Header) (c : ℕ) → 2 ≤ length hs → settling ch hs ≡ Settled c → First [] hs c
+settled-first ch hs c two e = by (firstAgreeing [] hs) (first-agreeing [] hs) (sym (two-or-more ch hs two) ∙ e)
+  where
+    by : (s : Settlement) → Says [] hs s → s ≡ Settled c → First [] hs c
+    by Unsettled x e = absurd (not-settled c e)
     by (Settled x) f e = subst (First [] hs) (settled-bits x c e) f
 
 -- ---- all readable headers but perhaps one, number j, have the common bits c
@@ -280,26 +324,48 @@ module _ (hs : List Header) (c j : ℕ) (same : (k d : ℕ) → (k ≡ j → ⊥
       (f .agrees .with)
 
   -- of two headers or more nothing else is settled
-  pub settled-same : (d : ℕ) → 2 ≤ length hs → settling hs ≡ Settled d → d ≡ c
-  settled-same d two e = agreed d (settled-first hs d two e)
+  pub settled-same : (ch : Choices) (d : ℕ) → 2 ≤ length hs → settling ch hs ≡ Settled d → d ≡ c
+  settled-same ch d two e = agreed d (settled-first ch hs d two e)
 
   -- and two headers that are read with them settle them
-  pub two-settle : (a b : ℕ) → a < b → Has hs a c → Has hs b c → settling hs ≡ Settled c
+  pub two-settle : (ch : Choices) (a b : ℕ) → a < b → Has hs a c → Has hs b c → settling ch hs ≡ Settled c
   unfolding settling
-  two-settle a b h ha hb = by (firstAgreeing [] hs) (first-agreeing [] hs)
+  two-settle ch a b h ha hb = by (firstAgreeing [] hs) (first-agreeing [] hs)
     where
-      by : (s : Settlement) → Says [] hs s → orElse s (onlyOne hs) ≡ Settled c
+      by : (s : Settlement) → Says [] hs s → orElse s (when (oneSettles ch) (onlyOne hs) Unsettled) ≡ Settled c
       by Unsettled x = absurd (x b c (record { has = hb; with = inr (record { at = a; less = h; has = ha }) }))
       by (Settled x) f = ap Settled (agreed x f)
 
--- an only header settles nothing but its own common bits, and only if it is a codeword
-pub only-settles : (h : Header) (c : ℕ) → settling (h ∷ []) ≡ Settled c → (d : Decoded) × ((h ≡ Codeword d) × ((d .flips ≡ 0) × (commonBits (d .message) ≡ c)))
-only-settles Lost c e = absurd (not-settled c (sym only-lost ∙ e))
-only-settles (Codeword d) c e =
-    elim (ℕ-discrete (d .flips) 0) [
-      | yes z ↦ (d, (refl, (z, settled-bits (commonBits (d .message)) c (sym (only-clean d z) ∙ e))))
-      | no n ↦ absurd (not-settled c (sym (only-mended d n) ∙ e))
-    ]
+-- an only header settles nothing but its own common bits, only if it is a codeword, and only where the caller asks for it
+pub record OnlySettles (ch : Choices) (h : Header) (c : ℕ) : Type 0 where
+  pub asked-for : oneSettles ch ≡ true
+  pub decoded : Decoded
+  pub read-as : h ≡ Codeword decoded
+  pub clean : decoded .flips ≡ 0
+  pub bits : commonBits (decoded .message) ≡ c
+
+pub only-settles : (ch : Choices) (h : Header) (c : ℕ) → settling ch (h ∷ []) ≡ Settled c → OnlySettles ch h c
+only-settles ch h c e = by (oneSettles ch) refl h e
+  where
+    by : (t : Bool) → oneSettles ch ≡ t → (h : Header) → settling ch (h ∷ []) ≡ Settled c → OnlySettles ch h c
+    by false o h e = absurd (not-settled c (sym (only-default ch h o) ∙ e))
+    by true o Lost e = absurd (not-settled c (sym (only-lost ch) ∙ e))
+    by true o (Codeword d) e =
+        elim (ℕ-discrete (d .flips) 0) [
+          | yes z ↦ record { asked-for = o; decoded = d; read-as = refl; clean = z; bits = settled-bits (commonBits (d .message)) c (sym (only-clean ch d o z) ∙ e) }
+          | no n ↦ absurd (not-settled c (sym (only-mended ch d n) ∙ e))
+        ]
+
+-- what is settled had two headers or more, or one where the caller asks for it
+pub settled-enough : (ch : Choices) (hs : List Header) (c : ℕ) → settling ch hs ≡ Settled c → Enough ch (length hs)
+settled-enough ch [] c e = absurd (not-settled c (sym (none-settle ch) ∙ e))
+settled-enough ch (h ∷ []) c e = inr (only-settles ch h c e .asked-for)
+settled-enough ch (h ∷ x ∷ hs) c e = inl (omega arith)
+
+-- every header has a reading
+pub length-readings : (octets places : List ℕ) → length (readings octets places) ≡ length places
+unfolding readings
+length-readings octets places = length-each (λ k. H.reading (wordAt octets (inPlaces places) k)) (length places)
 
 -- ---- header k of a list, as `Has` and as `getD` take it
 pub has-read : (hs : List Header) (k c : ℕ) → Has hs k c → (d : Decoded) × ((getD hs k Lost ≡ Codeword d) × (commonBits (d .message) ≡ c))

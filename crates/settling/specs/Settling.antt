@@ -1,4 +1,4 @@
--- Settings and header notes (01, "Headers", "Settings", and the report's header notes), from the readings of all headers in order.
+-- Settings and header notes (01, "Headers", "Settings", and the report's header notes; 02, C-20), from the readings of all headers in order.
 -- Assumes nothing.
 use Prim.Native.Nat.{ℕ, _+_, _%_}
 use mathlib.Core.List.{List, [], _∷_}
@@ -9,6 +9,8 @@ use Rattle.lists.specs.Tests.{when}
 use Rattle.lists.specs.Rows.{each}
 use Rattle.carrier.specs.Carrier.{wordAt, inPlaces}
 use Rattle.message.specs.Message.{countOf, commonBits}
+use Rattle.choices.specs.Choices.{oneSettles}
+use Rattle.choices.specs.declared.Choices.{Choices}
 use Rattle.header.specs.Reading.{reading}
 use Rattle.header.specs.declared.Header.{Header}
 use Rattle.header.specs.declared.Header.the-variants.{Codeword, Lost}
@@ -47,8 +49,9 @@ abbrev pub orElse : Settlement → Settlement → Settlement
 orElse (Settled c) other = Settled c
 orElse Unsettled other = other
 
-unfoldable pub settling : List Header → Settlement
-settling hs = orElse (firstAgreeing [] hs) (onlyOne hs)
+-- one header alone settles only where the caller asks for it: by default an only multiframe settles nothing (02, C-20)
+unfoldable pub settling : Choices → List Header → Settlement
+settling ch hs = orElse (firstAgreeing [] hs) (when (oneSettles ch) (onlyOne hs) Unsettled)
 
 -- ---- header notes: 0 clean, 1 or 2 flips mended, 3 lost; a readable one adds 4 if its counter is not (position from 1) mod 16, and 8 if
 -- its common bits differ from the settled, c. k counts from 0

@@ -1,4 +1,5 @@
 // Settings and header notes: every header of an utterance read once, what the readings settle, and what the report says of each.
+use choices::Choices;
 use header::Decoded;
 use header::Header;
 use layout::Multiframe;
@@ -126,7 +127,7 @@ fn first_agreeing(headers: &[u32]) -> Settlement
     Settlement::Unsettled
 }
 
-// An only header settles its common bits if it is itself a codeword (house).
+// An only header settles its common bits if it is itself a codeword (house). settle asks only where the caller does.
 fn only_one(headers: &[u32]) -> Settlement
     ensures { λ r. ⌜ r ≡ onlyOne (openAll (came headers)) ⌝ }
 {
@@ -144,14 +145,17 @@ fn only_one(headers: &[u32]) -> Settlement
     Settlement::Unsettled
 }
 
-// settle gives what the readings of all headers settle.
-pub fn settle(headers: &[u32]) -> Settlement
-    ensures { λ r. ⌜ r ≡ settling (openAll (came headers)) ⌝ }
+// settle gives what the readings of all headers settle. One header alone settles only where the caller asks for it (02, C-20).
+pub fn settle(headers: &[u32], choices: Choices) -> Settlement
+    ensures { λ r. ⌜ r ≡ settling choices (openAll (came headers)) ⌝ }
 {
-    match first_agreeing(headers) {
-        Settlement::Settled { common } => Settlement::Settled { common },
-        Settlement::Unsettled => only_one(headers),
+    if let Settlement::Settled { common } = first_agreeing(headers) {
+        return Settlement::Settled { common };
     }
+    if choices.one_header_settles {
+        return only_one(headers);
+    }
+    Settlement::Unsettled
 }
 
 // What the note of a readable header adds if its counter is out of step in multiframe k.

@@ -15,7 +15,7 @@ returns : tie.Need-returns
 returns c =
     let st = c .before .before .before .before .before in
     let a = st .args in
-    (decided-empty (a .octets .now) (tablesOf (a .codebook .now) (a .thresholds .now)) (a .index) (a .report) (a .places .now) (c .if1 .taken), (tt, tt))
+    (decided-empty (a .choices) (a .octets .now) (tablesOf (a .codebook .now) (a .thresholds .now)) (a .index) (a .report) (a .places .now) (c .if1 .taken), (tt, tt))
 
 read-headers-requires : tie.Need-read-headers-requires
 read-headers-requires c κs = search needs
@@ -39,7 +39,7 @@ returns-2 c =
     let i = h .before .before in
     let st = i .before .before .before .before .before in
     let a = st .args in (
-      decided-unsettled (a .octets .now) (tablesOf (a .codebook .now) (a .thresholds .now)) (a .index) (a .report) (a .places .now) (i .if1 .left) (h .read-headers .last .1 .1 .0)
+      decided-unsettled (a .choices) (a .octets .now) (tablesOf (a .codebook .now) (a .thresholds .now)) (a .index) (a .report) (a .places .now) (i .if1 .left) (h .read-headers .last .1 .1 .0)
           (all-stored (a .octets .now) (a .places .now) (a .headers .now) (h .read-headers .last .1 .1 .0) (st .pre .0 .3) (h .read-headers .ensures)) (s .settle .result) (s .settle .ensures) (c .enum-told .given .1),
       (tt, tt),
     )
@@ -63,7 +63,7 @@ returns-3 c =
     let i = h .before .before in
     let st = i .before .before .before .before .before in
     let a = st .args in (
-      decided-settled (a .octets .now) (tablesOf (a .codebook .now) (a .thresholds .now)) (a .index) (a .report) (a .places .now) (i .if1 .left) (h .read-headers .last .1 .1 .0)
+      decided-settled (a .choices) (a .octets .now) (tablesOf (a .codebook .now) (a .thresholds .now)) (a .index) (a .report) (a .places .now) (i .if1 .left) (h .read-headers .last .1 .1 .0)
           (all-stored (a .octets .now) (a .places .now) (a .headers .now) (h .read-headers .last .1 .1 .0) (st .pre .0 .3) (h .read-headers .ensures)) (s .settle .result) (s .settle .ensures) _ _ (k .common .given .1)
           (refused-early (length (a .places .now)) _ (pairCount (a .places .now)) (a .index) (a .report) _ (e .early .result) (e .early .ensures) _ (r .r .given .1)),
       (tt, tt),
@@ -99,7 +99,7 @@ returns-4 c =
     let i = h .before .before in
     let st = i .before .before .before .before .before in
     let a = st .args in (
-      decided-settled (a .octets .now) (tablesOf (a .codebook .now) (a .thresholds .now)) (a .index) (a .report) (a .places .now) (i .if1 .left) (h .read-headers .last .1 .1 .0)
+      decided-settled (a .choices) (a .octets .now) (tablesOf (a .codebook .now) (a .thresholds .now)) (a .index) (a .report) (a .places .now) (i .if1 .left) (h .read-headers .last .1 .1 .0)
           (all-stored (a .octets .now) (a .places .now) (a .headers .now) (h .read-headers .last .1 .1 .0) (st .pre .0 .3) (h .read-headers .ensures)) (s .settle .result) (s .settle .ensures) _ _ (k .common .given .1)
           (all-bad (length (a .places .now)) _ (pairCount (a .places .now)) (a .index) (a .report) _ (e .early .result) (e .early .ensures) _ (b .count-bad .result) _ (t .enum-told2 .given .1)
           (b .count-bad .ensures ∙ ap badPairs (j .judge .ensures))
@@ -126,7 +126,7 @@ returns-5 c =
     let st = i .before .before .before .before .before in
     let a = st .args in
     let stored = all-stored (a .octets .now) (a .places .now) (a .headers .now) (h .read-headers .last .1 .1 .0) (st .pre .0 .3) (h .read-headers .ensures) in (
-      decided-settled (a .octets .now) (tablesOf (a .codebook .now) (a .thresholds .now)) (a .index) (a .report) (a .places .now) (i .if1 .left) (h .read-headers .last .1 .1 .0)
+      decided-settled (a .choices) (a .octets .now) (tablesOf (a .codebook .now) (a .thresholds .now)) (a .index) (a .report) (a .places .now) (i .if1 .left) (h .read-headers .last .1 .1 .0)
           stored (s .settle .result) (s .settle .ensures) _ _ (k .common .given .1)
           (not-all-bad (length (a .places .now)) _ (pairCount (a .places .now)) (a .index) (a .report) _ (e .early .result) (e .early .ensures) _ (b .count-bad .result) _ (t .enum-told2 .given .1)
           (b .count-bad .ensures ∙ ap badPairs (j .judge .ensures))

@@ -1,7 +1,11 @@
--- The reader's answer in numbers, by its two cases. Assumes nothing.
+-- The reader's answer in numbers, by its two cases, of the choices that the number names. Assumes nothing.
+use mathlib.Core.Path.{sym, _∙_}
 use native.Mathlib.Omega.{arith}
-use Rattle.entries.specs.Entries.{answerNumbers}
-use Rattle.entries.specs.Laws.{returns-no-room, returns-read, returns-refusal, given-as}
+use Rattle.choices.specs.Choices.{asked}
+use Rattle.consistency.specs.Tables.{tablesOf}
+use Rattle.reader.specs.Reading.{reading}
+use Rattle.entries.specs.Entries.{answerNumbers, givenOf}
+use Rattle.entries.specs.Laws.{returns-no-room, returns-unchosen, returns-chosen, returns-read, returns-refusal, given-as}
 use borrow.Author.Needs.{needs}
 use Rattle.dsr.proofs.dsr_read.Statement.{statement}
 use Rattle.dsr.proofs.dsr_read.Tie as tie
@@ -9,7 +13,24 @@ use Rattle.dsr.proofs.dsr_read.Tie as tie
 returns : tie.Need-returns
 returns c =
     let a = c .before .before .before .before .before .args in
-    returns-no-room answerNumbers (a .answer .now) _ _ _ _ (c .if1 .taken)
+    returns-no-room answerNumbers (a .answer .now) _ _ _
+    (λ ch. givenOf (reading ch (a .octets .now) (tablesOf (a .codebook .now) (a .thresholds .now)) (a .index .now) (a .report .now))) (c .if1 .taken) (asked (a .choices))
+
+asked-by-requires : tie.Need-asked-by-requires
+asked-by-requires c κs = search needs
+
+enum-known-chosen : tie.Need-enum-known-chosen
+enum-known-chosen c = search needs
+
+enum-told : tie.Need-enum-told
+enum-told c = search needs
+
+returns-2 : tie.Need-returns-2
+returns-2 c =
+    let q = c .before .before in
+    let e = q .before in
+    let a = e .before .before .before .before .before .args in
+    returns-unchosen answerNumbers (a .answer .now) _ _ _ _ (omega (arith, e .if1 .left)) _ (sym (q .asked-by .ensures) ∙ c .enum-told .given .1)
 
 read-requires : tie.Need-read-requires
 read-requires c κs = search needs
@@ -38,13 +59,16 @@ same-length-2 c = search needs
 same-length-3 : tie.Need-same-length-3
 same-length-3 c = search needs
 
-returns-2 : tie.Need-returns-2
-returns-2 c =
+returns-3 : tie.Need-returns-3
+returns-3 c =
     let s = c .before .before .before .before .before in
     let d = s .before .before .before .before .before .before in
-    let e = d .before .before .before in
+    let k = d .before .before .before .before in
+    let q = k .before .before in
+    let e = q .before in
     let a = e .before .before .before .before .before .args in
-    returns-read answerNumbers (a .answer .now) _ _ _ _ (omega (arith, e .if1 .left)) _ _ _ _ (given-as (d .read .ensures .0) (s .s .given .1)) (c .before .before .put-summary .ensures)
+    returns-chosen answerNumbers (a .answer .now) _ _ _ _ _ _ (sym (q .asked-by .ensures) ∙ k .chosen .given .1) _
+    (returns-read answerNumbers (a .answer .now) _ _ _ _ (omega (arith, e .if1 .left)) _ _ _ _ (given-as (d .read .ensures .0) (s .s .given .1)) (c .before .before .put-summary .ensures))
 
 same-length-4 : tie.Need-same-length-4
 same-length-4 c = search needs
@@ -52,19 +76,26 @@ same-length-4 c = search needs
 same-length-5 : tie.Need-same-length-5
 same-length-5 c = search needs
 
-returns-3 : tie.Need-returns-3
-returns-3 c =
+returns-4 : tie.Need-returns-4
+returns-4 c =
     let s = c .before .before .before in
     let d = s .before .before .before .before .before .before in
-    let e = d .before .before .before in
+    let k = d .before .before .before .before in
+    let q = k .before .before in
+    let e = q .before in
     let a = e .before .before .before .before .before .args in
-    returns-refusal answerNumbers (a .answer .now) _ _ _ _ (omega (arith, e .if1 .left)) _ _ _ _ _ _ (given-as (d .read .ensures .0) (s .r .given .1)) (c .reading-number .ensures) (c .before .reading-place .ensures)
+    returns-chosen answerNumbers (a .answer .now) _ _ _ _ _ _ (sym (q .asked-by .ensures) ∙ k .chosen .given .1) _
+    (returns-refusal answerNumbers (a .answer .now) _ _ _ _ (omega (arith, e .if1 .left)) _ _ _ _ _ _ (given-as (d .read .ensures .0) (s .r .given .1)) (c .reading-number .ensures) (c .before .reading-place .ensures))
 
 pub dsr-read-spec : {M : Type 1} → statement M
 dsr-read-spec =
     tie.close
     (tie.spec
     returns
+    asked-by-requires
+    enum-known-chosen
+    enum-told
+    returns-2
     read-requires
     enum-known-s
     put-summary-requires
@@ -74,7 +105,7 @@ dsr-read-spec =
     same-length
     same-length-2
     same-length-3
-    returns-2
+    returns-3
     same-length-4
     same-length-5
-    returns-3)
+    returns-4)

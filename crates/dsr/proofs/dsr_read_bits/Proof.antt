@@ -1,7 +1,11 @@
--- The hunting reader's answer in numbers, by its two cases. Assumes nothing.
+-- The hunting reader's answer in numbers, by its two cases, of the choices that the number names. Assumes nothing.
+use mathlib.Core.Path.{sym, _∙_}
 use native.Mathlib.Omega.{arith}
-use Rattle.entries.specs.Laws.{returns-no-room, returns-read, returns-refusal}
-use Rattle.entries.specs.Bits.{countedNumbers, bits-given-as}
+use Rattle.choices.specs.Choices.{asked}
+use Rattle.consistency.specs.Tables.{tablesOf}
+use Rattle.hunting.specs.Hunting.{huntingReading}
+use Rattle.entries.specs.Laws.{returns-no-room, returns-unchosen, returns-chosen, returns-read, returns-refusal}
+use Rattle.entries.specs.Bits.{countedNumbers, bitsGiven, bits-given-as}
 use borrow.Author.Needs.{needs}
 use Rattle.dsr.proofs.dsr_read_bits.Statement.{statement}
 use Rattle.dsr.proofs.dsr_read_bits.Tie as tie
@@ -9,7 +13,25 @@ use Rattle.dsr.proofs.dsr_read_bits.Tie as tie
 returns : tie.Need-returns
 returns c =
     let a = c .before .before .before .before .before .args in
-    returns-no-room countedNumbers (a .answer .now) _ _ _ _ (c .if1 .taken)
+    returns-no-room countedNumbers (a .answer .now) _ _ _
+    (λ ch. bitsGiven (huntingReading ch (a .octets .now) (a .from) (a .least) (tablesOf (a .codebook .now) (a .thresholds .now)) (a .index .now) (a .report .now)))
+    (c .if1 .taken) (asked (a .choices))
+
+asked-by-requires : tie.Need-asked-by-requires
+asked-by-requires c κs = search needs
+
+enum-known-chosen : tie.Need-enum-known-chosen
+enum-known-chosen c = search needs
+
+enum-told : tie.Need-enum-told
+enum-told c = search needs
+
+returns-2 : tie.Need-returns-2
+returns-2 c =
+    let q = c .before .before in
+    let e = q .before in
+    let a = e .before .before .before .before .before .args in
+    returns-unchosen countedNumbers (a .answer .now) _ _ _ _ (omega (arith, e .if1 .left)) _ (sym (q .asked-by .ensures) ∙ c .enum-told .given .1)
 
 read-requires : tie.Need-read-requires
 read-requires c κs = search needs
@@ -38,13 +60,16 @@ same-length-2 c = search needs
 same-length-3 : tie.Need-same-length-3
 same-length-3 c = search needs
 
-returns-2 : tie.Need-returns-2
-returns-2 c =
+returns-3 : tie.Need-returns-3
+returns-3 c =
     let s = c .before .before .before .before .before in
     let d = s .before .before .before .before .before .before in
-    let e = d .before .before .before in
+    let k = d .before .before .before .before in
+    let q = k .before .before in
+    let e = q .before in
     let a = e .before .before .before .before .before .args in
-    returns-read countedNumbers (a .answer .now) _ _ _ _ (omega (arith, e .if1 .left)) _ _ _ _ (bits-given-as (d .read .ensures) (s .c .given .1)) (c .before .before .put-counted .ensures)
+    returns-chosen countedNumbers (a .answer .now) _ _ _ _ _ _ (sym (q .asked-by .ensures) ∙ k .chosen .given .1) _
+    (returns-read countedNumbers (a .answer .now) _ _ _ _ (omega (arith, e .if1 .left)) _ _ _ _ (bits-given-as (d .read .ensures) (s .c .given .1)) (c .before .before .put-counted .ensures))
 
 same-length-4 : tie.Need-same-length-4
 same-length-4 c = search needs
@@ -52,19 +77,26 @@ same-length-4 c = search needs
 same-length-5 : tie.Need-same-length-5
 same-length-5 c = search needs
 
-returns-3 : tie.Need-returns-3
-returns-3 c =
+returns-4 : tie.Need-returns-4
+returns-4 c =
     let s = c .before .before .before in
     let d = s .before .before .before .before .before .before in
-    let e = d .before .before .before in
+    let k = d .before .before .before .before in
+    let q = k .before .before in
+    let e = q .before in
     let a = e .before .before .before .before .before .args in
-    returns-refusal countedNumbers (a .answer .now) _ _ _ _ (omega (arith, e .if1 .left)) _ _ _ _ _ _ (bits-given-as (d .read .ensures) (s .r .given .1)) (c .hunting-number .ensures) (c .before .hunting-place .ensures)
+    returns-chosen countedNumbers (a .answer .now) _ _ _ _ _ _ (sym (q .asked-by .ensures) ∙ k .chosen .given .1) _
+    (returns-refusal countedNumbers (a .answer .now) _ _ _ _ (omega (arith, e .if1 .left)) _ _ _ _ _ _ (bits-given-as (d .read .ensures) (s .r .given .1)) (c .hunting-number .ensures) (c .before .hunting-place .ensures))
 
 pub dsr-read-bits-spec : {M : Type 1} → statement M
 dsr-read-bits-spec =
     tie.close
     (tie.spec
     returns
+    asked-by-requires
+    enum-known-chosen
+    enum-told
+    returns-2
     read-requires
     enum-known-c
     put-counted-requires
@@ -74,7 +106,7 @@ dsr-read-bits-spec =
     same-length
     same-length-2
     same-length-3
-    returns-2
+    returns-3
     same-length-4
     same-length-5
-    returns-3)
+    returns-4)

@@ -24,7 +24,7 @@ returns : tie.Need-returns
 returns c =
     let q = c .before in
     let a = q .before .before .before .before .args in
-    wrong-tables (a .octets .now) (a .from) (a .least) (tablesOf (a .codebook .now) (a .thresholds .now)) (a .index .now) (a .report .now) (sym (q .are-right .ensures) ∙ not-true _ (c .if1 .taken))
+    wrong-tables (a .choices) (a .octets .now) (a .from) (a .least) (tablesOf (a .codebook .now) (a .thresholds .now)) (a .index .now) (a .report .now) (sym (q .are-right .ensures) ∙ not-true _ (c .if1 .taken))
 
 in-range-requires : tie.Need-in-range-requires
 in-range-requires c κs = search needs
@@ -45,14 +45,14 @@ returns-2 c =
     let i = t .before in
     let e = i .before in
     let a = e .before .before .before .before .before .args in
-    in-range (a .octets .now) (a .from) (a .least) (tablesOf (a .codebook .now) (a .thresholds .now)) (a .index .now) (a .report .now) (right e) (sym (i .in-range .ensures) ∙ t .if2 .taken) _ (r .read-found .ensures)
+    in-range (a .choices) (a .octets .now) (a .from) (a .least) (tablesOf (a .codebook .now) (a .thresholds .now)) (a .index .now) (a .report .now) (right e) (sym (i .in-range .ensures) ∙ t .if2 .taken) _ (r .read-found .ensures)
 
 returns-3 : tie.Need-returns-3
 returns-3 c =
     let i = c .before in
     let e = i .before in
     let a = e .before .before .before .before .before .args in
-    out-of-range (a .octets .now) (a .from) (a .least) (tablesOf (a .codebook .now) (a .thresholds .now)) (a .index .now) (a .report .now) (right e) (sym (i .in-range .ensures) ∙ c .if2 .left)
+    out-of-range (a .choices) (a .octets .now) (a .from) (a .least) (tablesOf (a .codebook .now) (a .thresholds .now)) (a .index .now) (a .report .now) (right e) (sym (i .in-range .ensures) ∙ c .if2 .left)
 
 pub read-spec : {M : Type 1} → statement M
 read-spec =

@@ -28,7 +28,7 @@ returns : tie.Need-returns
 returns c =
     let g = c .before .before .before .before .before in
     let a = g .before .before .before .before .before .args in
-    ends-nowhere (a .octets .now) (a .from) (a .least) (tablesOf (a .codebook .now) (a .thresholds .now)) (a .index .now) (a .report .now) _ _ (sym (c .before .before .count .given .1) ∙ g .gather .ensures .0) (c .if1 .taken)
+    ends-nowhere (a .choices) (a .octets .now) (a .from) (a .least) (tablesOf (a .codebook .now) (a .thresholds .now)) (a .index .now) (a .report .now) _ _ (sym (c .before .before .count .given .1) ∙ g .gather .ensures .0) (c .if1 .taken)
 
 slice-aggregate-read-front : tie.Need-slice-aggregate-read-front
 slice-aggregate-read-front c = search needs
@@ -39,7 +39,7 @@ outside-of-requires c κs =
     let k = e .before .before in
     let g = k .before .before .before in
     let a = g .before .before .before .before .before .args in
-    some-room (a .octets .now) (a .from) (a .least) _ _ (sym (k .count .given .1) ∙ g .gather .ensures .0) (e .if1 .left)
+    some-room (a .choices) (a .octets .now) (a .from) (a .least) _ _ (sym (k .count .given .1) ∙ g .gather .ensures .0) (e .if1 .left)
 
 read-front-requires : tie.Need-read-front-requires
 read-front-requires c κs =
@@ -47,13 +47,13 @@ read-front-requires c κs =
     let k = e .before .before in
     let g = k .before .before .before in
     let a = g .before .before .before .before .before .args in
-    (some-room (a .octets .now) (a .from) (a .least) _ _ (sym (k .count .given .1) ∙ g .gather .ensures .0) (e .if1 .left) .1, omega (arith, g .gather .kept .1 .1 .1 .0))
+    (some-room (a .choices) (a .octets .now) (a .from) (a .least) _ _ (sym (k .count .given .1) ∙ g .gather .ensures .0) (e .if1 .left) .1, omega (arith, g .gather .kept .1 .1 .1 .0))
 
 returns-2 : tie.Need-returns-2
 returns-2 c =
     let g = c .before .before .before .before in
     let a = g .before .before .before .before .before .args in
-    ends-many (a .octets .now) (a .from) (a .least) (tablesOf (a .codebook .now) (a .thresholds .now)) (a .index .now) (a .report .now) _ (sym (c .before .place .given .1) ∙ g .gather .ensures .0)
+    ends-many (a .choices) (a .octets .now) (a .from) (a .least) (tablesOf (a .codebook .now) (a .thresholds .now)) (a .index .now) (a .report .now) _ (sym (c .before .place .given .1) ∙ g .gather .ensures .0)
 
 same-length : tie.Need-same-length
 same-length c = search needs
@@ -69,7 +69,7 @@ returns-3 c =
     let k = e .before .before in
     let g = k .before .before .before in
     let a = g .before .before .before .before .before .args in
-    ends-read (a .octets .now) (a .from) (a .least) (tablesOf (a .codebook .now) (a .thresholds .now)) (a .index .now) (a .report .now) _ _ (sym (k .count .given .1) ∙ g .gather .ensures .0) _ (b .outside-of .result) _ (e .if1 .left) (g .gather .ensures .1)
+    ends-read (a .choices) (a .octets .now) (a .from) (a .least) (tablesOf (a .codebook .now) (a .thresholds .now)) (a .index .now) (a .report .now) _ _ (sym (k .count .given .1) ∙ g .gather .ensures .0) _ (b .outside-of .result) _ (e .if1 .left) (g .gather .ensures .1)
     (b .outside-of .ensures) (r .read-front .ensures)
 
 pub read-found-spec : {M : Type 1} → statement M

@@ -41,8 +41,8 @@ returns : tie.Need-returns
 returns c =
     let q = c .before in
     let a = q .before .before .before .before .args in
-    in-numbers (a .octets .now) (tablesOf (a .codebook .now) (a .thresholds .now)) (a .index .now) (a .report .now)
-    (wrong-tables (a .octets .now) (tablesOf (a .codebook .now) (a .thresholds .now)) (a .index .now) (a .report .now) (sym (q .are-right .ensures) ∙ not-true _ (c .if1 .taken)))
+    in-numbers (a .choices) (a .octets .now) (tablesOf (a .codebook .now) (a .thresholds .now)) (a .index .now) (a .report .now)
+    (wrong-tables (a .choices) (a .octets .now) (tablesOf (a .codebook .now) (a .thresholds .now)) (a .index .now) (a .report .now) (sym (q .are-right .ensures) ∙ not-true _ (c .if1 .taken)))
 
 slice-aggregate-cut-into : tie.Need-slice-aggregate-cut-into
 slice-aggregate-cut-into c = search needs
@@ -90,8 +90,8 @@ returns-2 c =
     let i = k .before .before .before .before .before in
     let st = i .before .before .before .before .before in
     let a = st .args in
-    in-numbers (a .octets .now) (tablesOf (a .codebook .now) (a .thresholds .now)) (a .index .now) (a .report .now)
-    (whole-reading (a .octets .now) (tablesOf (a .codebook .now) (a .thresholds .now)) (a .index .now) (a .report .now) (right i) _ _ (counted k .0) (lent k) (w .read-found .ensures))
+    in-numbers (a .choices) (a .octets .now) (tablesOf (a .codebook .now) (a .thresholds .now)) (a .index .now) (a .report .now)
+    (whole-reading (a .choices) (a .octets .now) (tablesOf (a .codebook .now) (a .thresholds .now)) (a .index .now) (a .report .now) (right i) _ _ (counted k .0) (lent k) (w .read-found .ensures))
 
 returns-3 : tie.Need-returns-3
 returns-3 c =
@@ -100,8 +100,8 @@ returns-3 c =
     let i = u .before .before in
     let st = i .before .before .before .before .before in
     let a = st .args in
-    in-numbers (a .octets .now) (tablesOf (a .codebook .now) (a .thresholds .now)) (a .index .now) (a .report .now)
-    (not-cut (a .octets .now) (tablesOf (a .codebook .now) (a .thresholds .now)) (a .index .now) (a .report .now) (right i) _
+    in-numbers (a .choices) (a .octets .now) (tablesOf (a .codebook .now) (a .thresholds .now)) (a .index .now) (a .report .now)
+    (not-cut (a .choices) (a .octets .now) (tablesOf (a .codebook .now) (a .thresholds .now)) (a .index .now) (a .report .now) (right i) _
     (cut-refused (cutting (a .octets .now)) _ (sym (u .cut-into .ensures .0) ∙ n .r .given .1)))
 
 pub read-spec : {M : Type 1} → statement M

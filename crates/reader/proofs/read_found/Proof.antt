@@ -16,17 +16,17 @@ use Rattle.reader.proofs.read_found.Tie as tie
 use Rattle.consistency.specs.Tables.{tablesOf}
 
 -- what `decide` leaves in its parts of both arrays has their sizes
-headers-size : (d : tie.After-decide) → length (d .decide .last .1 .1 .1 .1 .1 .1 .0) ≡ length (d .before .before .before .before .before .before .before .args .places .now)
+headers-size : (d : tie.After-decide) → length (d .decide .last .1 .1 .1 .1 .1 .1 .1 .0) ≡ length (d .before .before .before .before .before .before .before .args .places .now)
 headers-size d =
     let st = d .before .before .before .before .before .before .before in
-    d .decide .kept .1 .1 .1 .1 .1 .1 .0 ∙ length-take-le (length (st .args .places .now)) (replicate 255 0) (st .pre .0 .1)
+    d .decide .kept .1 .1 .1 .1 .1 .1 .1 .0 ∙ length-take-le (length (st .args .places .now)) (replicate 255 0) (st .pre .0 .1)
 
-notes-size : (d : tie.After-decide) → length (d .decide .last .1 .1 .1 .1 .1 .1 .1 .0) ≡ 12 * length (d .before .before .before .before .before .before .before .args .places .now)
+notes-size : (d : tie.After-decide) → length (d .decide .last .1 .1 .1 .1 .1 .1 .1 .1 .0) ≡ 12 * length (d .before .before .before .before .before .before .before .args .places .now)
 notes-size d =
     let st = d .before .before .before .before .before .before .before in
     let few = st .pre .0 .1 in
     let h : 12 * length (st .args .places .now) ≤ 3060 = omega arith in
-    d .decide .kept .1 .1 .1 .1 .1 .1 .1 .0 ∙ length-take-le (12 * length (st .args .places .now)) (replicate 3060 0) h
+    d .decide .kept .1 .1 .1 .1 .1 .1 .1 .1 .0 ∙ length-take-le (12 * length (st .args .places .now)) (replicate 3060 0) h
 
 mul-pairs : tie.Need-mul-pairs
 mul-pairs c = search needs
@@ -65,22 +65,22 @@ enum-known-common c = search needs
 array-share-prefix-headers : tie.Need-array-share-prefix-headers
 array-share-prefix-headers c =
     let d = c .before .before .before .before .before in
-    has-front (d .decide .last .1 .1 .1 .1 .1 .1 .0) _ _ (headers-size d)
+    has-front (d .decide .last .1 .1 .1 .1 .1 .1 .1 .0) _ _ (headers-size d)
 
 slice-aggregate-write : tie.Need-slice-aggregate-write
 slice-aggregate-write c =
     let d = c .before .before .before .before .before .before in
-    sym (ap length (take-at (d .decide .last .1 .1 .1 .1 .1 .1 .0) _ _ (headers-size d)) ∙ headers-size d)
+    sym (ap length (take-at (d .decide .last .1 .1 .1 .1 .1 .1 .1 .0) _ _ (headers-size d)) ∙ headers-size d)
 
 array-share-prefix-notes : tie.Need-array-share-prefix-notes
 array-share-prefix-notes c =
     let d = c .before .before .before .before .before .before in
-    has-front (d .decide .last .1 .1 .1 .1 .1 .1 .1 .0) _ _ (notes-size d)
+    has-front (d .decide .last .1 .1 .1 .1 .1 .1 .1 .1 .0) _ _ (notes-size d)
 
 slice-aggregate-write-2 : tie.Need-slice-aggregate-write-2
 slice-aggregate-write-2 c =
     let d = c .before .before .before .before .before .before .before in
-    sym (ap length (take-at (d .decide .last .1 .1 .1 .1 .1 .1 .1 .0) _ _ (notes-size d)) ∙ notes-size d)
+    sym (ap length (take-at (d .decide .last .1 .1 .1 .1 .1 .1 .1 .1 .0) _ _ (notes-size d)) ∙ notes-size d)
 
 write-requires : tie.Need-write-requires
 write-requires c κs =
@@ -88,9 +88,9 @@ write-requires c κs =
     let d = g .before .before .before .before in
     let st = d .before .before .before .before .before .before .before in
     let a = st .args in
-    let r = ready (a .octets .now) (tablesOf (a .codebook .now) (a .thresholds .now)) (length (a .index .now)) (length (a .report .now)) (a .places .now) _ (sym (d .decide .ensures .0) ∙ g .common .given .1) in
-    let eh = take-at (d .decide .last .1 .1 .1 .1 .1 .1 .0) (drop (length (a .places .now)) (replicate 255 0)) _ (headers-size d) ∙ subst (Kept _ _) (g .common .given .1) (d .decide .ensures .1 .0) in
-    let en = take-at (d .decide .last .1 .1 .1 .1 .1 .1 .1 .0) (drop (12 * length (a .places .now)) (replicate 3060 0)) _ (notes-size d) ∙ subst (Kept _ _) (g .common .given .1) (d .decide .ensures .1 .1) in
+    let r = ready (a .choices) (a .octets .now) (tablesOf (a .codebook .now) (a .thresholds .now)) (length (a .index .now)) (length (a .report .now)) (a .places .now) _ (sym (d .decide .ensures .0) ∙ g .common .given .1) in
+    let eh = take-at (d .decide .last .1 .1 .1 .1 .1 .1 .1 .0) (drop (length (a .places .now)) (replicate 255 0)) _ (headers-size d) ∙ subst (Kept _ _) (g .common .given .1) (d .decide .ensures .1 .0) in
+    let en = take-at (d .decide .last .1 .1 .1 .1 .1 .1 .1 .1 .0) (drop (12 * length (a .places .now)) (replicate 3060 0)) _ (notes-size d) ∙ subst (Kept _ _) (g .common .given .1) (d .decide .ensures .1 .1) in
     ((st .pre .0 .0, r .some, st .pre .0 .1), ((eh, ap length en ∙ length-notes (received (a .octets .now) (a .places .now)) (pairCount (a .places .now)) (tablesOf (a .codebook .now) (a .thresholds .now)), subst Good (sym en) (r .good)), (r .index-room, r .report-room)))
 
 returns : tie.Need-returns
@@ -114,7 +114,7 @@ returns-2 c =
     let d = g .before .before .before .before in
     let st = d .before .before .before .before .before .before .before in
     let a = st .args in
-    let en = take-at (d .decide .last .1 .1 .1 .1 .1 .1 .1 .0) (drop (12 * length (a .places .now)) (replicate 3060 0)) _ (notes-size d) ∙ subst (Kept _ _) (g .common .given .1) (d .decide .ensures .1 .1) in
+    let en = take-at (d .decide .last .1 .1 .1 .1 .1 .1 .1 .1 .0) (drop (12 * length (a .places .now)) (replicate 3060 0)) _ (notes-size d) ∙ subst (Kept _ _) (g .common .given .1) (d .decide .ensures .1 .1) in
     finished-read (a .octets .now) (tablesOf (a .codebook .now) (a .thresholds .now)) (a .index .now) (a .report .now) (a .places .now) _ _ (w .write .result) (w .write .last .1 .1 .1 .1 .1 .0) (w .write .last .1 .1 .1 .1 .1 .1 .0) _
     (sym (d .decide .ensures .0) ∙ g .common .given .1) en (w .write .ensures .0) (w .write .ensures .1 .0) (w .write .ensures .1 .1)
 

@@ -1,6 +1,7 @@
 -- `only_one` meets its contract. Assumes nothing.
 use mathlib.Core.Path.{sym, _∙_}
-use Rattle.settling.proofs.Steps.{not-only, length-open, only-lost, only-clean, only-mended}
+use Rattle.settling.specs.Laws.{not-only}
+use Rattle.settling.proofs.Steps.{length-open, only-lost, only-clean, only-mended}
 use borrow.Author.Needs.{needs}
 use Rattle.settling.proofs.only_one.Statement.{statement}
 use Rattle.settling.proofs.only_one.Tie as tie

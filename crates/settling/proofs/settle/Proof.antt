@@ -1,6 +1,5 @@
--- `settle` meets its contract: an only header is asked if no two agree. Assumes nothing.
-use mathlib.Core.Path.{sym, _∙_}
-use Rattle.settling.specs.Settling.{settling}
+-- `settle` meets its contract: one header alone is asked if no two agree, and if the caller asks for it. Assumes nothing.
+use Rattle.settling.proofs.Steps.{settled-by-two, settled-alone, settled-nothing}
 use borrow.Author.Needs.{needs}
 use Rattle.settling.proofs.settle.Statement.{statement}
 use Rattle.settling.proofs.settle.Tie as tie
@@ -11,21 +10,28 @@ first-agreeing-requires c κs = search needs
 enum-known-common : tie.Need-enum-known-common
 enum-known-common c = search needs
 
+returns : tie.Need-returns
+returns c =
+    let f = c .before .before .before in
+    settled-by-two _ _ (f .first-agreeing .result) (f .first-agreeing .ensures) _ (c .before .common .given .1)
+
 enum-told : tie.Need-enum-told
 enum-told c = search needs
 
 only-one-requires : tie.Need-only-one-requires
 only-one-requires c κs = search needs
 
-returns : tie.Need-returns
-unfolding settling
-returns c =
-    rw (sym (c .before .before .before .first-agreeing .ensures) ∙ c .before .common .given .1)
-
 returns-2 : tie.Need-returns-2
-unfolding settling
 returns-2 c =
-    rw (sym (c .before .before .before .first-agreeing .ensures) ∙ c .before .enum-told .given .1) (c .only-one .ensures)
+    let t = c .before .before in
+    let f = t .before .before in
+    settled-alone _ _ (f .first-agreeing .result) (f .first-agreeing .ensures) _ (t .enum-told .given .1) (c .before .if1 .taken) (c .only-one .ensures)
+
+returns-3 : tie.Need-returns-3
+returns-3 c =
+    let t = c .before in
+    let f = t .before .before in
+    settled-nothing _ _ (f .first-agreeing .result) (f .first-agreeing .ensures) (t .enum-told .given .1) (c .if1 .left)
 
 pub settle-spec : {M : Type 1} → statement M
 settle-spec =
@@ -33,7 +39,8 @@ settle-spec =
     (tie.spec
     first-agreeing-requires
     enum-known-common
+    returns
     enum-told
     only-one-requires
-    returns
-    returns-2)
+    returns-2
+    returns-3)
