@@ -10,3 +10,4 @@ pub mod Hunted
 pub mod Linked
 pub mod Told
 pub mod Answers
+pub mod Chosen
