@@ -110,6 +110,8 @@ enum dsr_status {
     /* DSR_HUNT_NOWHERE: no place found by the first hunt. Place: the first bit searched. */
     DSR_HUNT_NOWHERE = 22,
 
+    /* DSR_NO_SUCH_CHOICE (dsr_read, dsr_read_bits): choices is no number of enum dsr_choices. All lent memory stays. */
+    DSR_NO_SUCH_CHOICE = 96,
     /* DSR_HEADER_UNREADABLE (dsr_header_read): no codeword differs from the word in at most two bits. */
     DSR_HEADER_UNREADABLE = 97,
     /* DSR_WRONG_LENGTH (dsr_pack, dsr_unpack): a slice has another length than the multiframe's. (The functions that give a struct): a
@@ -118,6 +120,14 @@ enum dsr_status {
     /* DSR_READ_ANSWER_SHORT: answer shorter than DSR_ANSWER_NUMBERS, in dsr_read_bits than DSR_BITS_ANSWER_NUMBERS. All lent memory
      * stays. */
     DSR_READ_ANSWER_SHORT = 99
+};
+
+/* dsr_choices is by which rule a reading settles an only multiframe. */
+enum dsr_choices {
+    /* DSR_DEFAULT_CHOICES: an only multiframe is refused as unsettled. */
+    DSR_DEFAULT_CHOICES = 0,
+    /* DSR_ONE_HEADER_SETTLES: an only multiframe whose header is a codeword settles. */
+    DSR_ONE_HEADER_SETTLES = 1
 };
 
 /* dsr_rate is the code of a sample rate. 2 is undefined and refused. */
@@ -241,7 +251,7 @@ DSR_MUST_USE uint32_t dsr_write(uint64_t rate, uint64_t type, const uint8_t *ind
  * before all else with DSR_READ_ANSWER_SHORT, and then *place stays too.
  * An answer that is used again still holds the last success: look at the number returned. Put DSR_RATE_NONE into
  * answer[DSR_ANSWER_RATE] before each call, and a refusal that was missed does not pass for a rate. */
-DSR_MUST_USE uint32_t dsr_read(const uint8_t *octets, size_t octets_len, const int32_t *codebook, size_t codebook_len,
+DSR_MUST_USE uint32_t dsr_read(const uint8_t *octets, size_t octets_len, uint64_t choices, const int32_t *codebook, size_t codebook_len,
                                const int32_t *thresholds, size_t thresholds_len, uint8_t *index, size_t index_len, uint8_t *report,
                                size_t report_len, uint64_t *answer, size_t answer_len, uint64_t *place);
 
@@ -263,10 +273,10 @@ DSR_MUST_USE uint32_t dsr_hunt(const uint8_t *octets, size_t octets_len, uint64_
  * of DSR_BITS_ANSWER_NUMBERS numbers; fewer are refused before all else with DSR_READ_ANSWER_SHORT, and then *place stays too.
  * A refusal gives no number of places tested: dsr_hunt does. An answer that is used again still holds the last success, as in dsr_read:
  * look at the number returned. */
-DSR_MUST_USE uint32_t dsr_read_bits(const uint8_t *octets, size_t octets_len, uint64_t from, uint64_t least, const int32_t *codebook,
-                                    size_t codebook_len, const int32_t *thresholds, size_t thresholds_len, uint8_t *index,
-                                    size_t index_len, uint8_t *report, size_t report_len, uint64_t *answer, size_t answer_len,
-                                    uint64_t *place);
+DSR_MUST_USE uint32_t dsr_read_bits(const uint8_t *octets, size_t octets_len, uint64_t from, uint64_t least, uint64_t choices,
+                                    const int32_t *codebook, size_t codebook_len, const int32_t *thresholds, size_t thresholds_len,
+                                    uint8_t *index, size_t index_len, uint8_t *report, size_t report_len, uint64_t *answer,
+                                    size_t answer_len, uint64_t *place);
 
 /* --- the functions for daily use
  *
@@ -429,7 +439,7 @@ DSR_MUST_USE static inline enum dsr_status dsr_read_utterance(const uint8_t *oct
     uint64_t answer[DSR_BITS_ANSWER_NUMBERS] = {DSR_RATE_NONE}, place = 0;
     uint32_t number = DSR_WRONG_LENGTH;
     if (dsr_lent_(octets, octets_len) && dsr_lent_(index, index_len) && dsr_lent_(report, report_len))
-        number = dsr_read(octets ? octets : &no_octet, octets_len, tables ? tables->codebook : &no_table,
+        number = dsr_read(octets ? octets : &no_octet, octets_len, DSR_DEFAULT_CHOICES, tables ? tables->codebook : &no_table,
                           tables ? DSR_CODEBOOK_NUMBERS : 0, tables ? tables->thresholds : &no_table, tables ? DSR_THRESHOLD_NUMBERS : 0,
                           index ? index : &no_index, index_len, report ? report : &no_report, report_len, answer, DSR_ANSWER_NUMBERS,
                           &place);
@@ -446,7 +456,7 @@ DSR_MUST_USE static inline enum dsr_status dsr_hunt_utterance(const uint8_t *oct
     uint64_t answer[DSR_BITS_ANSWER_NUMBERS] = {DSR_RATE_NONE}, place = 0;
     uint32_t number = DSR_WRONG_LENGTH;
     if (dsr_lent_(octets, octets_len) && dsr_lent_(index, index_len) && dsr_lent_(report, report_len))
-        number = dsr_read_bits(octets ? octets : &no_octet, octets_len, from, least, tables ? tables->codebook : &no_table,
+        number = dsr_read_bits(octets ? octets : &no_octet, octets_len, from, least, DSR_DEFAULT_CHOICES, tables ? tables->codebook : &no_table,
                                tables ? DSR_CODEBOOK_NUMBERS : 0, tables ? tables->thresholds : &no_table,
                                tables ? DSR_THRESHOLD_NUMBERS : 0, index ? index : &no_index, index_len, report ? report : &no_report,
                                report_len, answer, DSR_BITS_ANSWER_NUMBERS, &place);
