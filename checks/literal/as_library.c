@@ -28,12 +28,15 @@ uint32_t dsr_write(uint64_t rate, uint64_t type, const uint8_t *indices, size_t 
     return literal_write(rate, type, indices, indices_len, out, out_len, place);
 }
 
-uint32_t dsr_read(const uint8_t *octets, size_t octets_len, const int32_t *codebook, size_t codebook_len, const int32_t *thresholds,
-                  size_t thresholds_len, uint8_t *index, size_t index_len, uint8_t *report, size_t report_len, uint64_t *answer,
-                  size_t answer_len, uint64_t *place) {
+static int known(uint64_t choices) { return choices == DSR_DEFAULT_CHOICES || choices == DSR_ONE_HEADER_SETTLES; }
+
+uint32_t dsr_read(const uint8_t *octets, size_t octets_len, uint64_t choices, const int32_t *codebook, size_t codebook_len,
+                  const int32_t *thresholds, size_t thresholds_len, uint8_t *index, size_t index_len, uint8_t *report, size_t report_len,
+                  uint64_t *answer, size_t answer_len, uint64_t *place) {
     if (answer_len < DSR_ANSWER_NUMBERS) return DSR_READ_ANSWER_SHORT;
-    return literal_read(octets, octets_len, codebook, codebook_len, thresholds, thresholds_len, index, index_len, report, report_len,
-                        answer, place);
+    if (!known(choices)) return DSR_NO_SUCH_CHOICE;
+    return literal_read(octets, octets_len, choices == DSR_ONE_HEADER_SETTLES, codebook, codebook_len, thresholds, thresholds_len, index,
+                        index_len, report, report_len, answer, place);
 }
 
 uint32_t dsr_hunt(const uint8_t *octets, size_t octets_len, uint64_t from, uint64_t least, uint64_t *found, uint64_t *tested,
@@ -41,10 +44,11 @@ uint32_t dsr_hunt(const uint8_t *octets, size_t octets_len, uint64_t from, uint6
     return literal_hunt(octets, octets_len, from, least, found, tested, place);
 }
 
-uint32_t dsr_read_bits(const uint8_t *octets, size_t octets_len, uint64_t from, uint64_t least, const int32_t *codebook,
-                       size_t codebook_len, const int32_t *thresholds, size_t thresholds_len, uint8_t *index, size_t index_len,
-                       uint8_t *report, size_t report_len, uint64_t *answer, size_t answer_len, uint64_t *place) {
+uint32_t dsr_read_bits(const uint8_t *octets, size_t octets_len, uint64_t from, uint64_t least, uint64_t choices,
+                       const int32_t *codebook, size_t codebook_len, const int32_t *thresholds, size_t thresholds_len, uint8_t *index,
+                       size_t index_len, uint8_t *report, size_t report_len, uint64_t *answer, size_t answer_len, uint64_t *place) {
     if (answer_len < DSR_BITS_ANSWER_NUMBERS) return DSR_READ_ANSWER_SHORT;
-    return literal_read_bits(octets, octets_len, from, least, codebook, codebook_len, thresholds, thresholds_len, index, index_len,
-                              report, report_len, answer, place);
+    if (!known(choices)) return DSR_NO_SUCH_CHOICE;
+    return literal_read_bits(octets, octets_len, from, least, choices == DSR_ONE_HEADER_SETTLES, codebook, codebook_len, thresholds,
+                             thresholds_len, index, index_len, report, report_len, answer, place);
 }

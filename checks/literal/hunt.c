@@ -88,9 +88,9 @@ static uint32_t hunt_all(const uint8_t *octets, size_t octets_len, uint64_t from
     return number;
 }
 
-uint32_t literal_read_bits(const uint8_t *octets, size_t octets_len, uint64_t from, uint64_t least, const int32_t *codebook,
-                            size_t codebook_len, const int32_t *thresholds, size_t thresholds_len, uint8_t *index, size_t index_len,
-                            uint8_t *report, size_t report_len, uint64_t *answer, uint64_t *place) {
+uint32_t literal_read_bits(const uint8_t *octets, size_t octets_len, uint64_t from, uint64_t least, int one_header_settles,
+                            const int32_t *codebook, size_t codebook_len, const int32_t *thresholds, size_t thresholds_len,
+                            uint8_t *index, size_t index_len, uint8_t *report, size_t report_len, uint64_t *answer, uint64_t *place) {
     struct gathered g;
     if (codebook_len != CODEBOOK_NUMBERS || thresholds_len != THRESHOLD_NUMBERS) {
         *place = 0;
@@ -98,8 +98,8 @@ uint32_t literal_read_bits(const uint8_t *octets, size_t octets_len, uint64_t fr
     }
     uint32_t number = hunt_all(octets, octets_len, from, least, &g, place);
     if (number != 0) return number;
-    number = literal_read(g.image, MULTIFRAME_OCTETS * g.m, codebook, codebook_len, thresholds, thresholds_len, index, index_len,
-                          report, report_len, answer, place);
+    number = literal_read(g.image, MULTIFRAME_OCTETS * g.m, one_header_settles, codebook, codebook_len, thresholds, thresholds_len,
+                          index, index_len, report, report_len, answer, place);
     if (number != 0) return number;
     answer[READ_NUMBERS] = bits_of(octets_len) - from - MULTIFRAME_BITS * g.m;
     answer[READ_NUMBERS + 1] = g.tested;

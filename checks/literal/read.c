@@ -1,4 +1,4 @@
-/* The reader (01, "Reading"). */
+/* The reader (01, "Reading"; 02, C-20). */
 #include <string.h>
 
 #include "literal.h"
@@ -51,8 +51,9 @@ static void read_headers(const uint8_t *octets, struct utterance *u) {
     }
 }
 
-/* The first readable header that agrees in its common bits with an earlier readable one; else an only codeword. */
-static int settle(const struct utterance *u, uint16_t *common) {
+/* The first readable header that agrees in its common bits with an earlier readable one; else, if the caller asked for it, an only
+ * codeword. */
+static int settle(const struct utterance *u, int one_header_settles, uint16_t *common) {
     for (size_t k = 1; k < u->m; k++) {
         if (!u->headers[k].readable) continue;
         for (size_t j = 0; j < k; j++)
@@ -61,7 +62,7 @@ static int settle(const struct utterance *u, uint16_t *common) {
                 return 1;
             }
     }
-    if (u->m == 1 && u->headers[0].readable && u->headers[0].flips == 0) {
+    if (one_header_settles && u->m == 1 && u->headers[0].readable && u->headers[0].flips == 0) {
         *common = u->headers[0].message & COMMON;
         return 1;
     }
@@ -128,7 +129,7 @@ static uint32_t refuse(uint64_t *place, uint32_t number, uint64_t where) {
     return number;
 }
 
-uint32_t literal_read(const uint8_t *octets, size_t octets_len, const int32_t *codebook, size_t codebook_len,
+uint32_t literal_read(const uint8_t *octets, size_t octets_len, int one_header_settles, const int32_t *codebook, size_t codebook_len,
                        const int32_t *thresholds, size_t thresholds_len, uint8_t *index, size_t index_len, uint8_t *report,
                        size_t report_len, uint64_t *answer, uint64_t *place) {
     struct utterance u;
@@ -139,7 +140,7 @@ uint32_t literal_read(const uint8_t *octets, size_t octets_len, const int32_t *c
     if (number != 0) return refuse(place, number, cut_at);
     if (u.m == 0) return refuse(place, 14, octets_len);
     read_headers(octets, &u);
-    if (!settle(&u, &common)) return refuse(place, 16, 0);
+    if (!settle(&u, one_header_settles, &common)) return refuse(place, 16, 0);
     if ((common & 3) == 2 || common >> 7 != 0) return refuse(place, 17, 0);
     if (index_len < INDEX_OCTETS * u.m) return refuse(place, 18, INDEX_OCTETS * u.m);
     if (report_len < REPORT_OCTETS * u.m) return refuse(place, 19, REPORT_OCTETS * u.m);
