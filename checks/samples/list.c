@@ -1,5 +1,5 @@
-/* The listing of `dsrlist` by a C program over dsr_read: standard input up to 65,536 octets, all codebook numbers and thresholds 0.
- * Linked with the literal C version it says what dsrlist has to print. */
+/* The listing of `dsrlist` by a C program over dsr_read: standard input up to 65,536 octets, all codebook numbers and thresholds 0, and one
+ * header alone settles, as dsrlist asks by name (02, C-20). Linked with the literal C version it says what dsrlist has to print. */
 #include <stdio.h>
 
 #include "../../c/dsr.h"
@@ -24,8 +24,8 @@ int main(void) {
         printf("too long\n");
         return 0;
     }
-    uint32_t number = dsr_read(octets, len, codebook, DSR_CODEBOOK_NUMBERS, thresholds, DSR_THRESHOLD_NUMBERS, frames, sizeof frames,
-                               report, sizeof report, answer, DSR_ANSWER_NUMBERS, &place);
+    uint32_t number = dsr_read(octets, len, DSR_ONE_HEADER_SETTLES, codebook, DSR_CODEBOOK_NUMBERS, thresholds, DSR_THRESHOLD_NUMBERS, frames,
+                               sizeof frames, report, sizeof report, answer, DSR_ANSWER_NUMBERS, &place);
     if (number != DSR_DONE) {
         printf("refused %u %llu\n", number, (unsigned long long)place);
         return 0;

@@ -23,13 +23,14 @@ static void (*call)(void);
 static void write_all(void) { status = dsr_write(DSR_RATE_8_KHZ, DSR_STANDARD, indices, sizeof indices, sent, sizeof sent, &place); }
 
 static void read_all(void) {
-    status = dsr_read(image, sizeof image, codebook, DSR_CODEBOOK_NUMBERS, thresholds, DSR_THRESHOLD_NUMBERS, index_octets,
-                      sizeof index_octets, report, sizeof report, answer, DSR_ANSWER_NUMBERS, &place);
+    status = dsr_read(image, sizeof image, DSR_DEFAULT_CHOICES, codebook, DSR_CODEBOOK_NUMBERS, thresholds, DSR_THRESHOLD_NUMBERS,
+                      index_octets, sizeof index_octets, report, sizeof report, answer, DSR_ANSWER_NUMBERS, &place);
 }
 
 static void read_bits(void) {
-    status = dsr_read_bits(image, sizeof image, 0, DSR_LEAST_MATCH, codebook, DSR_CODEBOOK_NUMBERS, thresholds, DSR_THRESHOLD_NUMBERS,
-                           index_octets, sizeof index_octets, report, sizeof report, answer, DSR_BITS_ANSWER_NUMBERS, &place);
+    status = dsr_read_bits(image, sizeof image, 0, DSR_LEAST_MATCH, DSR_DEFAULT_CHOICES, codebook, DSR_CODEBOOK_NUMBERS, thresholds,
+                           DSR_THRESHOLD_NUMBERS, index_octets, sizeof index_octets, report, sizeof report, answer,
+                           DSR_BITS_ANSWER_NUMBERS, &place);
 }
 
 static void hunt(void) { status = dsr_hunt(image, sizeof image, 1, DSR_LEAST_MATCH, &found, &tested, &place); }
