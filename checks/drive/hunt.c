@@ -1,9 +1,9 @@
 /* Drives dsr_hunt and dsr_read_bits.
  *   'H', mode, from, least, before (64 bits each), octets, found, tested, place  ->  number, kept, found, tested, place
- *   'B', mode, from, least, before, octets, codebook, thresholds, index, report, answer, place
+ *   'B', mode, from, least, before, octets, choices, codebook, thresholds, index, report, answer, place
  *        ->  number, kept, place, answer, index, report
  * `before` is how many zero octets stand before the given ones: so bits beyond 32 bits in number can be lent. A slice is a length of
- * 32 bits and its elements; found, tested and place are one number of 64 bits each, what is lent for it. */
+ * 32 bits and its elements; choices is one number of 64 bits, and found, tested and place are one each, what is lent for it. */
 #include "../../c/dsr.h"
 #include "drive.h"
 
@@ -56,8 +56,8 @@ static void hunt(int mode) {
     give_64(*number_of(&lend.place));
 }
 
-static uint32_t call_read_bits(const struct search *s) {
-    return dsr_read_bits(s->octets, s->octets_len, s->from, s->least, (const int32_t *)lend.codebook.data,
+static uint32_t call_read_bits(const struct search *s, uint64_t choices) {
+    return dsr_read_bits(s->octets, s->octets_len, s->from, s->least, choices, (const int32_t *)lend.codebook.data,
                          lend.codebook.len / sizeof(int32_t), (const int32_t *)lend.thresholds.data,
                          lend.thresholds.len / sizeof(int32_t), lend.index.data, lend.index.len, lend.report.data, lend.report.len,
                          number_of(&lend.answer), lend.answer.len / sizeof(uint64_t), number_of(&lend.place));
@@ -65,13 +65,14 @@ static uint32_t call_read_bits(const struct search *s) {
 
 static void read_bits(int mode) {
     struct search s = take_search(mode);
+    uint64_t choices = take_64();
     take_slice(&lend.codebook, mode, sizeof(int32_t));
     take_slice(&lend.thresholds, mode, sizeof(int32_t));
     take_slice(&lend.index, mode, 1);
     take_slice(&lend.report, mode, 1);
     take_slice(&lend.answer, mode, sizeof(uint64_t));
     take_number(&lend.place, mode);
-    uint32_t number = call_read_bits(&s);
+    uint32_t number = call_read_bits(&s, choices);
     int kept = search_kept(&s) && all_kept(&lend.codebook) && all_kept(&lend.thresholds) && margin_kept(&lend.index)
                && margin_kept(&lend.report) && margin_kept(&lend.answer) && margin_kept(&lend.place);
     give_32(number);

@@ -1,10 +1,11 @@
 /* Drives dsr_read.
- *   'R', mode, octets, codebook, thresholds, index, report, answer, place  ->  number, kept, place, answer, index, report
- *   'L', before, lengths of codebook, thresholds, index, report and answer (64 bits each), octets, place
+ *   'R', mode, choices, octets, codebook, thresholds, index, report, answer, place  ->  number, kept, place, answer, index, report
+ *   'L', choices, before, lengths of codebook, thresholds, index, report and answer (64 bits each), octets, place
  *        ->  number, 1, place, multiframes of the answer, first index octet, first report octet (64 bits each)
  * In 'L' `before` octets of inverse syncs stand before the given octets, and all other memory is of zeros: so places and lengths beyond
  * 32 bits can be tried.
- * A slice is a length of 32 bits and its elements; answer is a slice of numbers of 64 bits, and place is one such number. */
+ * A slice is a length of 32 bits and its elements; answer is a slice of numbers of 64 bits; choices and place are one such number
+ * each. */
 #include "drive.h"
 
 #include "../../c/dsr.h"
@@ -13,8 +14,8 @@ static struct {
     struct lent octets, codebook, thresholds, index, report, answer, place;
 } lend;
 
-static uint32_t call_read(const uint8_t *octets, size_t len) {
-    return dsr_read(octets, len, (const int32_t *)lend.codebook.data, lend.codebook.len / sizeof(int32_t),
+static uint32_t call_read(const uint8_t *octets, size_t len, uint64_t choices) {
+    return dsr_read(octets, len, choices, (const int32_t *)lend.codebook.data, lend.codebook.len / sizeof(int32_t),
                     (const int32_t *)lend.thresholds.data, lend.thresholds.len / sizeof(int32_t), lend.index.data, lend.index.len,
                     lend.report.data, lend.report.len, number_of(&lend.answer), lend.answer.len / sizeof(uint64_t),
                     number_of(&lend.place));
@@ -22,6 +23,7 @@ static uint32_t call_read(const uint8_t *octets, size_t len) {
 
 static void read_lent(void) {
     int mode = take_8();
+    uint64_t choices = take_64();
     take_slice(&lend.octets, mode, 1);
     take_slice(&lend.codebook, mode, sizeof(int32_t));
     take_slice(&lend.thresholds, mode, sizeof(int32_t));
@@ -29,7 +31,7 @@ static void read_lent(void) {
     take_slice(&lend.report, mode, 1);
     take_slice(&lend.answer, mode, sizeof(uint64_t));
     take_number(&lend.place, mode);
-    uint32_t number = call_read(lend.octets.data, lend.octets.len);
+    uint32_t number = call_read(lend.octets.data, lend.octets.len, choices);
     int kept = all_kept(&lend.octets) && all_kept(&lend.codebook) && all_kept(&lend.thresholds) && margin_kept(&lend.index)
                && margin_kept(&lend.report) && margin_kept(&lend.answer) && margin_kept(&lend.place);
     give_32(number);
@@ -62,7 +64,7 @@ static uint8_t *behind_inverse_syncs(uint64_t before, const struct lent *octets)
 static void read_wide(void) {
     enum { SLICES = 5 };
     static const size_t size[SLICES] = {sizeof(int32_t), sizeof(int32_t), 1, 1, sizeof(uint64_t)};
-    uint64_t before = take_64(), len[SLICES];
+    uint64_t choices = take_64(), before = take_64(), len[SLICES];
     uint8_t *zeros[SLICES];
     for (unsigned i = 0; i < SLICES; i++) {
         len[i] = take_64();
@@ -72,8 +74,8 @@ static void read_wide(void) {
     uint64_t place = take_64();
     uint8_t *octets = behind_inverse_syncs(before, &lend.octets);
     uint64_t *answer = (uint64_t *)zeros[4];
-    give_32(dsr_read(octets, before + lend.octets.len, (const int32_t *)zeros[0], len[0], (const int32_t *)zeros[1], len[1], zeros[2],
-                     len[2], zeros[3], len[3], answer, len[4], &place));
+    give_32(dsr_read(octets, before + lend.octets.len, choices, (const int32_t *)zeros[0], len[0], (const int32_t *)zeros[1], len[1],
+                     zeros[2], len[2], zeros[3], len[3], answer, len[4], &place));
     give_32(1);
     give_64(place);
     give_64(answer[DSR_ANSWER_MULTIFRAMES]);

@@ -1,14 +1,36 @@
 //! Talks to a driver (drive/*.c), which makes each call of the library and sends back what it left in the lent memory.
-use crate::reading::REPORT;
+use crate::reading::{Rule, REPORT};
 use std::collections::BTreeMap;
 use std::io::{BufReader, BufWriter, Read, Write};
 use std::process::{Child, ChildStdin, ChildStdout, Command, Stdio};
 
 /// What dsr.h's functions answer beside 01's and 02's numbers.
 pub const DONE: u32 = 0;
+pub const NO_SUCH_CHOICE: u32 = 96;
 pub const HEADER_UNREADABLE: u32 = 97;
 pub const WRONG_LENGTH: u32 = 98;
 pub const ANSWER_SHORT: u32 = 99;
+
+/// The numbers for `choices` that dsr.h names: the default, and the old rule for an only multiframe.
+pub const DEFAULT: u64 = 0;
+pub const ONE_HEADER_SETTLES: u64 = 1;
+pub const KNOWN_CHOICES: [u64; 2] = [DEFAULT, ONE_HEADER_SETTLES];
+
+/// Numbers for `choices` that dsr.h does not name: each bit beside the lowest alone, so that the number is 0 or 1 to whoever does not look
+/// at that bit; and many bits at once.
+pub fn unknown_choices() -> Vec<u64> {
+    let one_bit = (1..64).flat_map(|bit| [1 << bit, 1 << bit | 1]);
+    one_bit.chain([255, u64::MAX - 1, u64::MAX]).collect()
+}
+
+/// The rule that a number asks for, if there is one.
+pub fn rule_of(choices: u64) -> Option<Rule> {
+    match choices {
+        DEFAULT => Some(Rule::TwoHeaders),
+        ONE_HEADER_SETTLES => Some(Rule::OneHeaderSettles),
+        _ => None,
+    }
+}
 
 pub struct Driver {
     child: Child,

@@ -1,7 +1,7 @@
 //! The hunt for a sync at any bit and the reading that hunts, 02 C-13. The octets are laid out as single bits in sending order, and
 //! every rule is then about places in that row.
 use crate::header::Code;
-use crate::reading::{read, Reading, CODEBOOK, MOST, THRESHOLDS};
+use crate::reading::{read, Reading, Rule, CODEBOOK, MOST, THRESHOLDS};
 use crate::writing::{Refusal, MULTIFRAME, SYNC};
 
 pub const MULTIFRAME_BITS: usize = 8 * MULTIFRAME;
@@ -116,6 +116,7 @@ pub fn read_bits(
     octets: &[u8],
     from: u64,
     least: u64,
+    rule: Rule,
     tables: (&[i32], &[i32]),
     rooms: (usize, usize),
 ) -> Result<HuntingReading, Refusal> {
@@ -127,7 +128,7 @@ pub fn read_bits(
     let bits = bits_of(octets);
     let met = meet(code, &bits, from, least)?;
     let image: Vec<u8> = met.found.iter().flat_map(|&place| lifted(&bits, place)).collect();
-    let reading = read(code, &image, tables.0, tables.1, rooms.0, rooms.1)?;
+    let reading = read(code, &image, rule, tables, rooms)?;
     Ok(HuntingReading { reading, outside: outside(bits.len(), from, &met.found), tested: met.tested })
 }
 
@@ -154,12 +155,21 @@ mod tests {
         (found.map_err(|refused| (refused.number, refused.place)), tested)
     }
 
+    /// By the old rule, so that an only multiframe is read too.
+    fn read_found(octets: &[u8], from: u64, least: u64) -> HuntingReading {
+        read_bits(&Code::new(), octets, from, least, Rule::OneHeaderSettles, TABLES, ROOMS).ok().expect("it is read")
+    }
+
     /// The eight numbers of the answer.
-    fn answered(octets: &[u8], from: u64, least: u64) -> Result<Vec<u64>, (u32, u64)> {
-        match read_bits(&Code::new(), octets, from, least, TABLES, ROOMS) {
+    fn answered_by(rule: Rule, octets: &[u8], from: u64, least: u64) -> Result<Vec<u64>, (u32, u64)> {
+        match read_bits(&Code::new(), octets, from, least, rule, TABLES, ROOMS) {
             Ok(hunting) => Ok([&hunting.reading.answer[..], &[hunting.outside, hunting.tested]].concat()),
             Err(refused) => Err((refused.number, refused.place)),
         }
+    }
+
+    fn answered(octets: &[u8], from: u64, least: u64) -> Result<Vec<u64>, (u32, u64)> {
+        answered_by(Rule::OneHeaderSettles, octets, from, least)
     }
 
     #[test]
@@ -220,18 +230,20 @@ mod tests {
         }
         assert_eq!(answered(&[], 5, 12), Err((22, 5)));
         let short: (&[i32], &[i32]) = (&[0; CODEBOOK], &[0; 13]);
-        let refused = read_bits(&Code::new(), &[], 5, 17, short, ROOMS).err().expect("tables come first");
-        assert_eq!((refused.number, refused.place), (11, 0));
-        let refused = read_bits(&Code::new(), &image(2), 0, 16, TABLES, (335, 25)).err().expect("rooms are short");
-        assert_eq!((refused.number, refused.place), (18, 336));
+        for rule in [Rule::TwoHeaders, Rule::OneHeaderSettles] {
+            let refused = read_bits(&Code::new(), &[], 5, 17, rule, short, ROOMS).err().expect("tables come first");
+            assert_eq!((refused.number, refused.place), (11, 0));
+            let refused = read_bits(&Code::new(), &image(2), 0, 16, rule, TABLES, (335, 25)).err().expect("rooms are short");
+            assert_eq!((refused.number, refused.place), (18, 336));
+        }
     }
 
     #[test]
     fn a_shifted_image_reads_as_the_octets_do() {
         let image = image(3);
-        let octets = read(&Code::new(), &image, TABLES.0, TABLES.1, ROOMS.0, ROOMS.1).ok().expect("it is read");
+        let octets = read(&Code::new(), &image, Rule::TwoHeaders, TABLES, ROOMS).ok().expect("it is read");
         for gap in [0, 1, 13] {
-            let hunting = read_bits(&Code::new(), &shifted(&vec![true; gap], &image), 0, 16, TABLES, ROOMS).ok().expect("it is read");
+            let hunting = read_found(&shifted(&vec![true; gap], &image), 0, 16);
             assert_eq!(hunting.reading.answer, octets.answer);
             assert_eq!((hunting.reading.index, hunting.reading.report), (octets.index.clone(), octets.report.clone()));
             assert_eq!((hunting.outside, hunting.tested), (8 * gap.div_ceil(8) as u64, gap as u64 + 3));
@@ -255,7 +267,7 @@ mod tests {
         let octets = [&planted[..], &image(1), &[0; 4]].concat();
         assert_eq!(hunted(&octets, 0, 16), (Ok(0), 1));
         assert_eq!(hunted(&octets, 1, 16), (Ok(208), 208));
-        let taken = read_bits(&Code::new(), &octets, 0, 16, TABLES, ROOMS).ok().expect("it is read");
+        let taken = read_found(&octets, 0, 16);
         assert_eq!((taken.reading.answer[2], taken.outside, taken.tested), (1, 30 * 8, 1));
         assert_eq!(answered(&octets, 1, 16), Ok(vec![0, 0, 1, 23, 0, 1, 207 + 32, 208]));
     }
@@ -264,9 +276,23 @@ mod tests {
     fn flips_in_the_sync_leave_no_note() {
         let mut octets = image(2);
         octets[0] ^= 0x0F;
-        let hunting = read_bits(&Code::new(), &octets, 0, 12, TABLES, ROOMS).ok().expect("it is read");
+        let hunting = read_found(&octets, 0, 12);
         assert_eq!((hunting.reading.answer, hunting.reading.report), ([0, 0, 2, 47, 0, 1], vec![0; 26]));
         assert_eq!(answered(&octets, 0, 13), Ok(vec![0, 0, 1, 23, 0, 1, 1152, 1153]));
+    }
+
+    /// What counts is what was found, not what was sent.
+    #[test]
+    fn an_only_multiframe_found_is_unsettled_by_default() {
+        let mut octets = shifted(&[false; 5], &image(2));
+        let both = Ok(vec![0, 0, 2, 47, 0, 1, 8, 7]);
+        assert_eq!(answered_by(Rule::TwoHeaders, &octets, 0, 16), both);
+        assert_eq!(answered(&octets, 0, 16), both);
+        assert_eq!(answered_by(Rule::TwoHeaders, &octets, 6, 16), Err((16, 0)));
+        assert_eq!(answered(&octets, 6, 16), Ok(vec![0, 0, 1, 23, 0, 1, 1154, 1152]));
+        octets[1] ^= 1;
+        assert_eq!(answered_by(Rule::TwoHeaders, &octets, 0, 16), Err((16, 0)));
+        assert_eq!(answered_by(Rule::TwoHeaders, &octets, 0, 15), both);
     }
 
     #[test]

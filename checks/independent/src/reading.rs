@@ -1,4 +1,4 @@
-//! The reader, 01 "Reading".
+//! The reader, 01 "Reading" and 02 C-20.
 use crate::header::{Code, Read};
 use crate::stream::{frames_of, packets_of, right, FRAME, FRAMES, INDICES, PAIRS};
 use crate::writing::{Refusal, INVERSE, MULTIFRAME, SYNC};
@@ -7,6 +7,15 @@ pub const MOST: usize = 255;
 pub const REPORT: usize = 13;
 pub const CODEBOOK: usize = 1280;
 pub const THRESHOLDS: usize = 14;
+
+/// By which rule settings are settled, 02 C-20.
+#[derive(Clone, Copy, PartialEq, Debug)]
+pub enum Rule {
+    /// The default: an only multiframe is refused as unsettled.
+    TwoHeaders,
+    /// The old rule, which a caller may ask for.
+    OneHeaderSettles,
+}
 
 /// What a successful reading gives: the six numbers of the answer, and the octets of both parts.
 pub struct Reading {
@@ -62,7 +71,7 @@ fn counter(message: u16) -> usize {
     (message / 8 % 16) as usize
 }
 
-fn settled(headers: &[Read]) -> Option<Common> {
+fn settled(headers: &[Read], rule: Rule) -> Option<Common> {
     let mut seen: Vec<Common> = vec![];
     for message in headers.iter().flatten().map(|&(message, _)| message) {
         if seen.contains(&common(message)) {
@@ -70,8 +79,8 @@ fn settled(headers: &[Read]) -> Option<Common> {
         }
         seen.push(common(message));
     }
-    match headers {
-        [Some((message, 0))] => Some(common(*message)),
+    match (rule, headers) {
+        (Rule::OneHeaderSettles, [Some((message, 0))]) => Some(common(*message)),
         _ => None,
     }
 }
@@ -139,8 +148,9 @@ fn header_note(header: &Read, position: usize, settled: Common) -> u8 {
     note
 }
 
-/// The reading, or the refusal; `index` and `report` are the rooms of the two buffers.
-pub fn read(code: &Code, octets: &[u8], codebook: &[i32], thresholds: &[i32], index: usize, report: usize) -> Result<Reading, Refusal> {
+/// The reading, or the refusal; `tables` are codebook and thresholds, `rooms` those of the index and the report buffer.
+pub fn read(code: &Code, octets: &[u8], rule: Rule, tables: (&[i32], &[i32]), rooms: (usize, usize)) -> Result<Reading, Refusal> {
+    let ((codebook, thresholds), (index, report)) = (tables, rooms);
     if codebook.len() != CODEBOOK || thresholds.len() != THRESHOLDS {
         return refusal(11, 0);
     }
@@ -150,7 +160,7 @@ pub fn read(code: &Code, octets: &[u8], codebook: &[i32], thresholds: &[i32], in
         return refusal(14, octets.len());
     }
     let headers: Vec<Read> = parts.iter().map(|part| code.read(u32::from_le_bytes(part[2..6].try_into().unwrap()))).collect();
-    let Some(settings) = settled(&headers) else { return refusal(16, 0) };
+    let Some(settings) = settled(&headers, rule) else { return refusal(16, 0) };
     if settings.rate == 2 || settings.exp != 0 {
         return refusal(17, 0);
     }
@@ -176,4 +186,72 @@ pub fn read(code: &Code, octets: &[u8], codebook: &[i32], thresholds: &[i32], in
         index: frames.concat(),
         report: (0..m).flat_map(octets_of).collect(),
     })
+}
+
+#[cfg(test)]
+mod tests {
+    use super::*;
+    use crate::header::encode;
+    use crate::writing::write;
+
+    const TABLES: (&[i32], &[i32]) = (&[0; CODEBOOK], &[0; THRESHOLDS]);
+    const ROOMS: (usize, usize) = (1 << 16, 1 << 16);
+    const RULES: [Rule; 2] = [Rule::TwoHeaders, Rule::OneHeaderSettles];
+
+    fn answered(octets: &[u8], rule: Rule, rooms: (usize, usize)) -> Result<[u64; 6], (u32, u64)> {
+        match read(&Code::new(), octets, rule, TABLES, rooms) {
+            Ok(reading) => Ok(reading.answer),
+            Err(refused) => Err((refused.number, refused.place)),
+        }
+    }
+
+    /// An image of m multiframes, 8 kHz, standard front end; every frame but the last is 1, 2, 3, 4, 5, 6, 7.
+    fn image(m: usize) -> Vec<u8> {
+        write(0, 0, &[1, 2, 3, 4, 5, 6, 7].repeat(24 * m - 1), 144 * m).ok().expect("it is written")
+    }
+
+    fn with_header(mut image: Vec<u8>, k: usize, header: u32) -> Vec<u8> {
+        image[MULTIFRAME * k + SYNC.len()..][..4].copy_from_slice(&header.to_le_bytes());
+        image
+    }
+
+    #[test]
+    fn an_only_multiframe_settles_if_asked_for() {
+        let among = [&INVERSE.repeat(2)[..], &image(1), &INVERSE.repeat(80)].concat();
+        for octets in [image(1), among] {
+            assert_eq!(answered(&octets, Rule::TwoHeaders, ROOMS), Err((16, 0)));
+            assert_eq!(answered(&octets, Rule::OneHeaderSettles, ROOMS), Ok([0, 0, 1, 23, 0, 1]));
+        }
+    }
+
+    #[test]
+    fn an_only_header_that_is_no_codeword_never_settles() {
+        for flips in [1, 3, 7] {
+            for rule in RULES {
+                assert_eq!(answered(&with_header(image(1), 0, encode(8) ^ flips), rule, ROOMS), Err((16, 0)));
+            }
+        }
+    }
+
+    #[test]
+    fn the_rule_says_nothing_of_two_multiframes() {
+        let lost = encode(16) ^ 7;
+        for rule in RULES {
+            assert_eq!(answered(&image(2), rule, ROOMS), Ok([0, 0, 2, 47, 0, 1]));
+            assert_eq!(answered(&with_header(image(2), 1, encode(16) ^ 3), rule, ROOMS), Ok([0, 0, 2, 47, 0, 1]));
+            assert_eq!(answered(&with_header(image(2), 1, encode(17)), rule, ROOMS), Err((16, 0)));
+            assert_eq!(answered(&with_header(image(2), 1, lost), rule, ROOMS), Err((16, 0)));
+            assert_eq!(answered(&with_header(image(2), 0, lost), rule, ROOMS), Err((16, 0)));
+        }
+    }
+
+    #[test]
+    fn unsettled_comes_before_settings_and_rooms() {
+        let forbidden = with_header(image(1), 0, encode(8 | 2));
+        assert_eq!(answered(&forbidden, Rule::TwoHeaders, (0, 0)), Err((16, 0)));
+        assert_eq!(answered(&forbidden, Rule::OneHeaderSettles, (0, 0)), Err((17, 0)));
+        assert_eq!(answered(&image(1), Rule::TwoHeaders, (167, 12)), Err((16, 0)));
+        assert_eq!(answered(&image(1), Rule::OneHeaderSettles, (167, 12)), Err((18, 168)));
+        assert_eq!(answered(&image(1), Rule::OneHeaderSettles, (168, 12)), Err((19, 13)));
+    }
 }

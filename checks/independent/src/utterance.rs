@@ -121,6 +121,31 @@ pub fn spoil(chance: &mut Chance, parts: &mut [Part]) {
     }
 }
 
+/// Headers for an only multiframe: codewords of every counter, of rate 2 and with each expansion bit; one flip at each place, two and three
+/// anywhere.
+pub fn only_headers(chance: &mut Chance) -> Vec<u32> {
+    let settings = chance.pick(&[0u16, 1, 3, 4, 5, 7]);
+    let first = settings | 1 << 3;
+    let counters = (0..16).map(|counter| settings | counter << 3);
+    let refused = (7..16).map(|bit| first | 1 << bit).chain([first & !3 | 2]);
+    let mut headers: Vec<u32> = counters.chain(refused).map(encode).collect();
+    headers.extend((0..32).map(|place| encode(first) ^ 1 << place));
+    for flips in [2, 3].repeat(30) {
+        headers.push(chance.places(flips, 32).into_iter().fold(encode(first), |word, place| word ^ 1 << place));
+    }
+    headers
+}
+
+/// Leaves a header as it is (0), with two flips (1), with other settings (2) or lost (3).
+pub fn set_header(chance: &mut Chance, part: &mut Part, kind: usize) {
+    match kind {
+        1 => part.header ^= 0b11 << chance.below(31),
+        2 => part.header ^= encode(chance.pick(&[1, 2, 4, 1 << 7, 1 << 15])),
+        3 => part.lose_header(chance),
+        _ => {}
+    }
+}
+
 /// Damage of every kind anywhere in an utterance; how rare each kind is, is drawn once for all of it.
 pub fn damage_anywhere(chance: &mut Chance, parts: &mut [Part]) {
     let rare: [usize; 5] = std::array::from_fn(|_| chance.pick(&[1_000_000, 2, 5, 20, 100]));
@@ -158,6 +183,13 @@ pub fn image(parts: &[Part]) -> Vec<u8> {
 pub struct Tables {
     pub codebook: Vec<i32>,
     pub thresholds: Vec<i32>,
+}
+
+impl Tables {
+    /// As they are lent to a reading.
+    pub fn lent(&self) -> (&[i32], &[i32]) {
+        (&self.codebook, &self.thresholds)
+    }
 }
 
 /// Nothing but zeros; values that flag about a sixth, a half or most index pairs; the ends of 32 bits.

@@ -1,17 +1,20 @@
 //! Compares the library's hunt and hunting reading with the independent version. Arguments: the command that runs the hunt driver.
 use independent::chance::{seed, Chance};
-use independent::driver::{over, Call, Driver, ANSWER_SHORT};
+use independent::driver::{over, rule_of, unknown_choices, Call, Driver, ANSWER_SHORT, NO_SUCH_CHOICE};
+use independent::driver::{DEFAULT, KNOWN_CHOICES, ONE_HEADER_SETTLES};
 use independent::header::{encode, Code};
 use independent::hunting::{bits_of, hunt, octets_of, read_bits, HEADER_BITS, MULTIFRAME_BITS, SYNC_BITS};
-use independent::reading::{MOST, REPORT};
+use independent::reading::{CODEBOOK, MOST, REPORT, THRESHOLDS};
 use independent::stream::{INDICES, PAIRS};
-use independent::utterance::{bad_packet, damage_anywhere, estrange, forbid, image, spoil, tables, unsettle, utterance, Part, Tables};
+use independent::utterance::{bad_packet, damage_anywhere, estrange, forbid, image, only_headers, set_header, spoil, tables};
+use independent::utterance::{unsettle, utterance, Part, Tables};
 use independent::writing::{Refusal, INVERSE, MULTIFRAME, SYNC};
 
 type Bits = Vec<bool>;
 
 const LEASTS: [u64; 5] = [12, 13, 14, 15, 16];
 const ANSWER: usize = 8;
+const UNSETTLED: u32 = 16;
 
 /// What is hunted in: octets, with zero octets before them; the first bit, and the least number of sync bits that have to match.
 struct Search {
@@ -173,11 +176,20 @@ impl Check {
         self.driver.count(&format!("of these hunts answered with {:2}", want.0), 1);
     }
 
+    /// By either rule; and what the default leaves unsettled by the other too, so that an only multiframe is always read.
     fn read(&mut self, name: &str, search: &Search, lent: &Lent) {
+        let choices = self.chance.pick(&KNOWN_CHOICES);
+        if (choices, self.read_chosen(name, search, choices, lent)) == (DEFAULT, UNSETTLED) {
+            self.read_chosen(name, search, ONE_HEADER_SETTLES, lent);
+        }
+    }
+
+    /// The number that both answer.
+    fn read_chosen(&mut self, name: &str, search: &Search, choices: u64, lent: &Lent) -> u32 {
         let (index, report) = (self.chance.octets(lent.index), self.chance.octets(lent.report));
         let answer: Vec<u64> = (0..lent.answer).map(|_| self.chance.word()).collect();
         let came = Outcome { number: 0, kept: 1, place: self.chance.word(), answer, index, report };
-        let call = search.call(b'B', self.driver.mode()).signed(&lent.tables.codebook).signed(&lent.tables.thresholds);
+        let call = search.call(b'B', self.driver.mode()).long(choices).signed(&lent.tables.codebook).signed(&lent.tables.thresholds);
         let call = call.octets(&came.index).octets(&came.report).longs(&came.answer).long(came.place);
         let mut back = self.driver.call(call, 16 + 8 * lent.answer + lent.index + lent.report);
         let got = Outcome {
@@ -188,11 +200,11 @@ impl Check {
             index: back.take(lent.index).to_vec(),
             report: back.take(lent.report).to_vec(),
         };
-        let want = self.expected(search, lent, came);
+        let want = self.expected(search, choices, lent, came);
         if got != want {
             let first = |a: &[u8], b: &[u8]| a.iter().zip(b).position(|(x, y)| x != y);
             println!("{name}: octets {:02x?}\nfrom {} least {} before {}", search.octets, search.from, search.least, search.before);
-            println!("thresholds {:?} rooms {} {}", lent.tables.thresholds, lent.index, lent.report);
+            println!("choices {choices} thresholds {:?} rooms {} {}", lent.tables.thresholds, lent.index, lent.report);
             println!("library: number {} kept {} place {} answer {:?}", got.number, got.kept, got.place, got.answer);
             println!("independent: number {} kept {} place {} answer {:?}", want.number, want.kept, want.place, want.answer);
             println!("first other octet of index {:?}, of report {:?}", first(&got.index, &want.index), first(&got.report, &want.report));
@@ -200,16 +212,17 @@ impl Check {
         }
         self.driver.count(&format!("read: {name}"), 1);
         self.driver.count(&format!("of these readings answered with {:2}", want.number), 1);
+        want.number
     }
 
     /// What the independent version returns and leaves of the memory that came.
-    fn expected(&mut self, search: &Search, lent: &Lent, came: Outcome) -> Outcome {
+    fn expected(&mut self, search: &Search, choices: u64, lent: &Lent, came: Outcome) -> Outcome {
         if lent.answer < ANSWER {
             return Outcome { number: ANSWER_SHORT, ..came };
         }
-        let tables = (&lent.tables.codebook[..], &lent.tables.thresholds[..]);
-        let from = search.from - search.skipped();
-        match read_bits(&self.code, &search.searched(), from, search.least, tables, (lent.index, lent.report)) {
+        let Some(rule) = rule_of(choices) else { return Outcome { number: NO_SUCH_CHOICE, ..came } };
+        let (from, rooms) = (search.from - search.skipped(), (lent.index, lent.report));
+        match read_bits(&self.code, &search.searched(), from, search.least, rule, lent.tables.lent(), rooms) {
             Ok(hunting) => {
                 let (reading, counts) = (hunting.reading, [hunting.outside, hunting.tested]);
                 self.driver.count("of these, multiframes found and read", reading.answer[2] as usize);
@@ -592,7 +605,8 @@ impl Check {
         }
     }
 
-    /// Every set of refusals that can apply at once, each with an answer that is too short and with one that is not.
+    /// Every set of refusals that can apply at once, by both rules and with a choice that there is not, each with an answer that is too
+    /// short and with one that is not. By the default rule an only multiframe is unsettled whatever its header.
     fn every_set(&mut self) {
         for set in 0..3 * 3 * 32 {
             for turn in 0..4 {
@@ -601,7 +615,7 @@ impl Check {
                 if met == 15 && turn > 1 {
                     continue;
                 }
-                let m = if met == 15 { MOST + 1 } else { 1 + self.chance.below(4) };
+                let m = if met == 15 { MOST + 1 } else { [1, 2 + self.chance.below(3)][turn / 2] };
                 let mut parts = utterance(&mut self.chance, m);
                 match settings {
                     1 => unsettle_found(&mut self.chance, &mut parts),
@@ -618,7 +632,93 @@ impl Check {
                 let lent = self.lend_faulty(m, [has(2), has(3), has(4)], turn % 2 == 1);
                 let search = Search::new(&octets, from, least);
                 self.hunt("every set of refusals at once", &search);
-                self.read("every set of refusals at once", &search, &lent);
+                for choices in [DEFAULT, ONE_HEADER_SETTLES, self.chance.pick(&unknown_choices())] {
+                    self.read_chosen("every set of refusals at once", &search, choices, &lent);
+                }
+            }
+        }
+    }
+
+    fn read_by_both(&mut self, name: &str, search: &Search, lent: &Lent) {
+        for choices in KNOWN_CHOICES {
+            self.read_chosen(name, search, choices, lent);
+        }
+    }
+
+    /// A multiframe that a hunt finds alone, and the first bit searched: by itself, between other bits, or beside another that is not
+    /// found, because its header is lost, it is cut, or the search begins behind its first bit.
+    fn found_alone(&mut self, only: &Part, company: usize) -> (Bits, u64) {
+        let only = bits_of(&only.octets());
+        let mut other = utterance(&mut self.chance, 1);
+        if company == 2 {
+            other[0].lose_header(&mut self.chance);
+        }
+        let other = bits_of(&image(&other));
+        let (before, after) = (self.chance.below(40), self.chance.below(1300));
+        match company {
+            0 => (only, 0),
+            1 => ([gap(&mut self.chance, before), only, gap(&mut self.chance, after)].concat(), 0),
+            2 => ([other, only].concat(), 0),
+            3 => ([&only[..], &other[..MULTIFRAME_BITS - 8]].concat(), 0),
+            _ => ([other, only].concat(), 1),
+        }
+    }
+
+    /// An only multiframe found, whatever its header and company, by both rules: with its pairs good, some bad or all bad, with short rooms
+    /// and wrong tables.
+    fn only_multiframe(&mut self) {
+        for header in only_headers(&mut self.chance) {
+            for faults in 0..3 * 4 * 2 * 5 {
+                let mut parts = utterance(&mut self.chance, 1);
+                parts[0].header = header;
+                match faults % 3 {
+                    1 => parts[0].packets[self.chance.below(PAIRS)] ^= 1 << self.chance.below(92),
+                    2 => spoil(&mut self.chance, &mut parts),
+                    _ => {}
+                }
+                let (index, report) = (INDICES - faults / 3 % 2, REPORT - faults / 6 % 2);
+                let mut tables = tables(&mut self.chance);
+                tables.thresholds.truncate(THRESHOLDS - faults / 12 % 2);
+                let (bits, from) = self.found_alone(&parts[0], faults / 24);
+                let search = Search::new(&whole(&mut self.chance, &bits), from, self.least());
+                let lent = Lent { tables, index, report, answer: ANSWER };
+                self.read_by_both("an only multiframe, whatever its header, by both rules", &search, &lent);
+            }
+        }
+    }
+
+    /// Two and three multiframes whose headers agree, are mended, have other settings or are lost, in every way: by both rules.
+    fn more_than_one(&mut self) {
+        for m in [2, 3] {
+            for kinds in 0..4usize.pow(m) {
+                for _ in 0..8 {
+                    let mut parts = utterance(&mut self.chance, m as usize);
+                    for (k, part) in parts.iter_mut().enumerate() {
+                        set_header(&mut self.chance, part, kinds >> (2 * k) & 3);
+                    }
+                    let bits = spread(&mut self.chance, &parts, 0, 40);
+                    let search = Search::new(&whole(&mut self.chance, &bits), 0, self.least());
+                    let (tables, m) = (tables(&mut self.chance), m as usize);
+                    let lent = Lent { tables, index: INDICES * m, report: REPORT * m, answer: ANSWER };
+                    self.read_by_both("two or three multiframes, headers of every kind", &search, &lent);
+                }
+            }
+        }
+    }
+
+    /// Choices that there are not, with answers of every length up to ten numbers, whatever else would be refused or read.
+    fn unknown_choices(&mut self) {
+        for choices in unknown_choices() {
+            for answer in 0..=10 {
+                let octets = image(&self.parts(2));
+                let m = octets.len() / MULTIFRAME;
+                for (from, least) in [(0, 16), (u64::MAX, 12), (0, 11)] {
+                    let mut tables = tables(&mut self.chance);
+                    tables.codebook.truncate(CODEBOOK - self.chance.below(2));
+                    let (index, report) = self.chance.pick(&[(INDICES * m, REPORT * m), (0, 0)]);
+                    let search = Search::new(&octets, from, least);
+                    self.read_chosen("choices that there are not", &search, choices, &Lent { tables, index, report, answer });
+                }
             }
         }
     }
@@ -741,6 +841,9 @@ impl Check {
 fn main() {
     let mut check = Check { driver: Driver::start(), chance: Chance::new(seed()), code: Code::new() };
     check.every_set();
+    check.only_multiframe();
+    check.more_than_one();
+    check.unknown_choices();
     check.anywhere();
     check.wide();
     check.far_hunts();
@@ -763,5 +866,5 @@ fn main() {
     check.late_hunts();
     check.after_the_last();
     check.too_many_comes_first();
-    check.driver.end(200_000);
+    check.driver.end(250_000);
 }

@@ -1,13 +1,25 @@
 //! Compares the library's reader with the independent version. Arguments: the command that runs the read driver.
 use independent::chance::{seed, Chance};
-use independent::driver::{over, Call, Driver, ANSWER_SHORT};
+use independent::driver::{over, rule_of, unknown_choices, Call, Driver, ANSWER_SHORT, NO_SUCH_CHOICE};
+use independent::driver::{DEFAULT, KNOWN_CHOICES, ONE_HEADER_SETTLES};
 use independent::header::{encode, Code};
-use independent::reading::{read, CODEBOOK, REPORT, THRESHOLDS};
+use independent::reading::{read, Rule, CODEBOOK, REPORT, THRESHOLDS};
 use independent::stream::{packet_of, packets_of, INDICES, PAIRS};
-use independent::utterance::{bad_packet, damage_anywhere, estrange, forbid, image, spoil, tables, unsettle, utterance, Part, Tables};
+use independent::utterance::{bad_packet, damage_anywhere, estrange, forbid, image, only_headers, set_header, spoil, tables};
+use independent::utterance::{unsettle, utterance, Part, Tables};
 use independent::writing::{INVERSE, MULTIFRAME, SYNC};
 
 const ANSWER: usize = 6;
+const UNSETTLED: u32 = 16;
+
+/// What a call takes besides octets and tables: the rooms of the index and the report buffer, how many numbers the answer has, and the
+/// choice.
+#[derive(Clone, Copy, Debug)]
+struct Asked {
+    rooms: (usize, usize),
+    numbers: usize,
+    choices: u64,
+}
 
 /// What a reading returns and leaves in the lent memory.
 #[derive(Clone, PartialEq)]
@@ -27,14 +39,21 @@ struct Check {
 }
 
 impl Check {
+    /// By either rule; and what the default leaves unsettled by the other too, so that an only multiframe is always read.
     fn compare(&mut self, name: &str, octets: &[u8], tables: &Tables, rooms: (usize, usize)) {
-        self.compare_answer(name, octets, tables, rooms, ANSWER);
+        let choices = self.chance.pick(&KNOWN_CHOICES);
+        let number = self.compare_asked(name, octets, tables, Asked { rooms, numbers: ANSWER, choices });
+        if (choices, number) == (DEFAULT, UNSETTLED) {
+            self.compare_asked(name, octets, tables, Asked { rooms, numbers: ANSWER, choices: ONE_HEADER_SETTLES });
+        }
     }
 
-    /// As above, with an answer of that many numbers.
-    fn compare_answer(&mut self, name: &str, octets: &[u8], tables: &Tables, rooms: (usize, usize), numbers: usize) {
+    /// The number that both answer.
+    fn compare_asked(&mut self, name: &str, octets: &[u8], tables: &Tables, asked: Asked) -> u32 {
+        let Asked { rooms, numbers, choices } = asked;
         let came = self.lend(rooms, numbers);
-        let call = Call::kind(b'R').octet(self.driver.mode()).octets(octets).signed(&tables.codebook).signed(&tables.thresholds);
+        let call = Call::kind(b'R').octet(self.driver.mode()).long(choices).octets(octets);
+        let call = call.signed(&tables.codebook).signed(&tables.thresholds);
         let call = call.octets(&came.index).octets(&came.report).longs(&came.answer).long(came.place);
         let mut back = self.driver.call(call, 16 + 8 * numbers + rooms.0 + rooms.1);
         let got = Outcome {
@@ -45,10 +64,10 @@ impl Check {
             index: back.take(rooms.0).to_vec(),
             report: back.take(rooms.1).to_vec(),
         };
-        let want = self.expected(octets, tables, came);
+        let want = self.expected(octets, tables, choices, came);
         if got != want {
             let first = |a: &[u8], b: &[u8]| a.iter().zip(b).position(|(x, y)| x != y);
-            println!("{name}: octets {octets:02x?}\nthresholds {:?} rooms {rooms:?}", tables.thresholds);
+            println!("{name}: octets {octets:02x?}\nthresholds {:?} {asked:?}", tables.thresholds);
             println!("library: number {} kept {} place {} answer {:?}", got.number, got.kept, got.place, got.answer);
             println!("independent: number {} kept {} place {} answer {:?}", want.number, want.kept, want.place, want.answer);
             println!("first other octet of index {:?}, of report {:?}", first(&got.index, &want.index), first(&got.report, &want.report));
@@ -56,6 +75,7 @@ impl Check {
         }
         self.driver.count(name, 1);
         self.driver.count(&format!("of these answered with {:2}", want.number), 1);
+        want.number
     }
 
     /// What is lent: any octets and numbers.
@@ -66,11 +86,12 @@ impl Check {
     }
 
     /// What the independent version returns and leaves of the memory that came.
-    fn expected(&mut self, octets: &[u8], tables: &Tables, came: Outcome) -> Outcome {
+    fn expected(&mut self, octets: &[u8], tables: &Tables, choices: u64, came: Outcome) -> Outcome {
         if came.answer.len() < ANSWER {
             return Outcome { number: ANSWER_SHORT, ..came };
         }
-        match read(&self.code, octets, &tables.codebook, &tables.thresholds, came.index.len(), came.report.len()) {
+        let Some(rule) = rule_of(choices) else { return Outcome { number: NO_SUCH_CHOICE, ..came } };
+        match read(&self.code, octets, rule, tables.lent(), (came.index.len(), came.report.len())) {
             Ok(reading) => {
                 self.driver.count_notes(&reading.report);
                 Outcome {
@@ -439,35 +460,112 @@ impl Check {
         [&image(parts)[..], &inverse, &end].concat()
     }
 
-    /// Every set of refusals that can apply at once, each with an answer that is too short and with one that is not.
+    /// Every set of refusals that can apply at once, by both rules and with a choice that there is not, each with an answer that is too
+    /// short and with one that is not. By the default rule an only multiframe is unsettled whatever its header.
     fn every_set(&mut self) {
         for set in 0..5 * 3 * 16 {
             for turn in 0..6 {
-                let (cut, settings) = ([0, 12, 13, 14, 15][set % 5], set / 5 % 3);
-                let short = [1, 2, 3 + self.chance.below(3)][turn / 2];
-                let m = if cut == 15 || turn == 4 && set % 4 == 0 { 255 } else { short };
-                if cut == 15 && turn > 1 {
-                    continue;
+                for choices in [DEFAULT, ONE_HEADER_SETTLES, self.chance.pick(&unknown_choices())] {
+                    self.one_set(set, turn, choices);
                 }
-                let has = |fault: usize| set / 15 >> fault & 1 == 1;
-                let mut parts = utterance(&mut self.chance, m);
-                match settings {
-                    1 => unsettle(&mut self.chance, &mut parts),
-                    2 => forbid(&mut self.chance, &mut parts),
+            }
+        }
+    }
+
+    fn one_set(&mut self, set: usize, turn: usize, choices: u64) {
+        let (cut, settings) = ([0, 12, 13, 14, 15][set % 5], set / 5 % 3);
+        let short = [1, 2, 3 + self.chance.below(3)][turn / 2];
+        let m = if cut == 15 || turn == 4 && set % 4 == 0 { 255 } else { short };
+        if cut == 15 && turn > 1 {
+            return;
+        }
+        let has = |fault: usize| set / 15 >> fault & 1 == 1;
+        let mut parts = utterance(&mut self.chance, m);
+        match settings {
+            1 => unsettle(&mut self.chance, &mut parts),
+            2 => forbid(&mut self.chance, &mut parts),
+            _ => {}
+        }
+        if has(0) {
+            spoil(&mut self.chance, &mut parts);
+        }
+        let octets = self.cut_off(cut, if cut == 14 { &[] } else { &parts });
+        let mut tables = tables(&mut self.chance);
+        if has(1) {
+            tables.codebook.resize(self.chance.pick(&[0, 1279, 1281]), 0);
+        }
+        let short = |chance: &mut Chance, short, room| if short { chance.pick(&[0, room - 1]) } else { room };
+        let rooms = (short(&mut self.chance, has(2), INDICES * m), short(&mut self.chance, has(3), REPORT * m));
+        let numbers = if turn % 2 == 0 { ANSWER + self.chance.below(5) } else { self.chance.below(ANSWER) };
+        self.compare_asked("every set of refusals at once", &octets, &tables, Asked { rooms, numbers, choices });
+    }
+
+    fn compare_by_both(&mut self, name: &str, octets: &[u8], tables: &Tables, rooms: (usize, usize)) {
+        for choices in KNOWN_CHOICES {
+            self.compare_asked(name, octets, tables, Asked { rooms, numbers: ANSWER, choices });
+        }
+    }
+
+    /// An only multiframe, whatever its header, by both rules: with its pairs good, some bad or all bad, with short rooms and wrong tables,
+    /// and with inverse syncs before and after it, also as many octets of them as a multiframe has.
+    fn only_multiframe(&mut self) {
+        for header in only_headers(&mut self.chance) {
+            for faults in 0..3 * 4 * 2 * 4 {
+                let mut parts = utterance(&mut self.chance, 1);
+                parts[0].header = header;
+                match faults % 3 {
+                    1 => parts[0].packets[self.chance.below(PAIRS)] ^= 1 << self.chance.below(92),
+                    2 => spoil(&mut self.chance, &mut parts),
                     _ => {}
                 }
-                if has(0) {
-                    spoil(&mut self.chance, &mut parts);
-                }
-                let octets = self.cut_off(cut, if cut == 14 { &[] } else { &parts });
+                let rooms = (INDICES - faults / 3 % 2, REPORT - faults / 6 % 2);
                 let mut tables = tables(&mut self.chance);
-                if has(1) {
-                    tables.codebook.resize(self.chance.pick(&[0, 1279, 1281]), 0);
+                tables.thresholds.truncate(THRESHOLDS - faults / 12 % 2);
+                let mut inverse = |stands: usize| INVERSE.repeat(stands * self.chance.pick(&[1, 2, 5, 71, 72, 73, 144]));
+                let octets = [inverse(faults / 24 % 2), image(&parts), inverse(faults / 48)].concat();
+                self.compare_by_both("an only multiframe, whatever its header, by both rules", &octets, &tables, rooms);
+            }
+        }
+        let parts = utterance(&mut self.chance, 1);
+        let tables = tables(&mut self.chance);
+        for a in 0..32 {
+            for b in a..32 {
+                let mut flipped = parts.clone();
+                flipped[0].header ^= 1 << a | 1 << b;
+                self.compare_by_both("every one and two flipped places of an only header", &image(&flipped), &tables, (INDICES, REPORT));
+            }
+        }
+    }
+
+    /// Two and three multiframes whose headers agree, are mended, have other settings or are lost, in every way: the rule changes nothing.
+    fn more_than_one(&mut self) {
+        for m in [2, 3] {
+            for kinds in 0..4usize.pow(m) {
+                for _ in 0..8 {
+                    let mut parts = utterance(&mut self.chance, m as usize);
+                    for (k, part) in parts.iter_mut().enumerate() {
+                        set_header(&mut self.chance, part, kinds >> (2 * k) & 3);
+                    }
+                    let (tables, m) = (tables(&mut self.chance), m as usize);
+                    let rooms = (INDICES * m, REPORT * m);
+                    self.compare_by_both("two or three multiframes, headers of every kind", &image(&parts), &tables, rooms);
                 }
-                let short = |chance: &mut Chance, short, room| if short { chance.pick(&[0, room - 1]) } else { room };
-                let rooms = (short(&mut self.chance, has(2), INDICES * m), short(&mut self.chance, has(3), REPORT * m));
-                let numbers = if turn % 2 == 0 { ANSWER + self.chance.below(5) } else { self.chance.below(ANSWER) };
-                self.compare_answer("every set of refusals at once", &octets, &tables, rooms, numbers);
+            }
+        }
+    }
+
+    /// Choices that there are not, with answers of every length up to ten numbers, whatever else would be refused or read.
+    fn unknown_choices(&mut self) {
+        for choices in unknown_choices() {
+            for numbers in 0..=10 {
+                let two = image(&utterance(&mut self.chance, 2));
+                for octets in [vec![], vec![0], two[..MULTIFRAME].to_vec(), two] {
+                    let mut tables = tables(&mut self.chance);
+                    tables.codebook.truncate(CODEBOOK - self.chance.below(2));
+                    let m = octets.len() / MULTIFRAME;
+                    let rooms = self.chance.pick(&[(INDICES * m, REPORT * m), (0, 0)]);
+                    self.compare_asked("choices that there are not", &octets, &tables, Asked { rooms, numbers, choices });
+                }
             }
         }
     }
@@ -489,9 +587,10 @@ impl Check {
         }
     }
 
-    /// One call with so many inverse syncs before the octets, and with tables and rooms of these lengths, all zeros.
+    /// One call with so many inverse syncs before the octets, and with tables and rooms of these lengths, all zeros; by either rule.
     fn wide_call(&mut self, before: u64, lengths: [u64; 5], octets: &[u8]) {
-        let mut call = Call::kind(b'L').long(before);
+        let choices = self.chance.pick(&KNOWN_CHOICES);
+        let mut call = Call::kind(b'L').long(choices).long(before);
         for length in lengths {
             call = call.long(length);
         }
@@ -501,7 +600,8 @@ impl Check {
         let rooms = (lengths[2] as usize, lengths[3] as usize);
         let right = [CODEBOOK as u64, THRESHOLDS as u64] == lengths[..2];
         let tables = Tables { codebook: vec![0; if right { CODEBOOK } else { 0 }], thresholds: vec![0; THRESHOLDS] };
-        let want = match read(&self.code, octets, &tables.codebook, &tables.thresholds, rooms.0, rooms.1) {
+        let rule = rule_of(choices).expect("it is known");
+        let want = match read(&self.code, octets, rule, tables.lent(), rooms) {
             Ok(reading) => (0, 1, [came, reading.answer[2], reading.index[0] as u64, reading.report[0] as u64]),
             Err(refusal) => {
                 let moved = if (12..=15).contains(&refusal.number) { before } else { 0 };
@@ -540,14 +640,18 @@ impl Check {
         listing.extend([0; 10]);
         listing.push(0x04);
         listing.extend([0; 126]);
-        let reading = read(&self.code, &listing, &[0; CODEBOOK], &[0; THRESHOLDS], 168, 13).ok().expect("01's listing is read");
+        let zeros = Tables { codebook: vec![0; CODEBOOK], thresholds: vec![0; THRESHOLDS] };
+        let by = |rule: Rule, octets: &[u8]| read(&self.code, octets, rule, zeros.lent(), (168, 13));
+        let reading = by(Rule::OneHeaderSettles, &listing).ok().expect("01's listing is read");
         assert_eq!((reading.answer, reading.report), ([0, 0, 1, 1, 0, 1], vec![0; 13]));
+        let refused = by(Rule::TwoHeaders, &listing).err().expect("one header alone does not settle");
+        assert_eq!((refused.number, refused.place), (16, 0));
         for (bad, want) in [(1..2, [1, 2, 2, 5, 5, 6, 7, 8]), (1..3, [1, 2, 2, 2, 7, 7, 7, 8])] {
             let frames: Vec<[u8; 7]> = (1..=24).map(|f| [f; 7]).collect();
             let mut packets: [u128; PAIRS] = std::array::from_fn(|p| packet_of(&frames[2 * p], &frames[2 * p + 1]));
             bad.for_each(|p| packets[p] ^= 1);
             let octets = Part { header: encode(8), packets }.octets();
-            let reading = read(&self.code, &octets, &[0; CODEBOOK], &[0; THRESHOLDS], 168, 13).ok().expect("it is read");
+            let reading = by(Rule::OneHeaderSettles, &octets).ok().expect("it is read");
             let got: Vec<u8> = reading.index.chunks(7).take(8).map(|frame| frame[0]).collect();
             assert_eq!(got, want);
             assert_eq!(packets_of(&octets[6..]), packets);
@@ -559,6 +663,9 @@ fn main() {
     let mut check = Check { driver: Driver::start(), chance: Chance::new(seed()), code: Code::new() };
     check.examples();
     check.every_set();
+    check.only_multiframe();
+    check.more_than_one();
+    check.unknown_choices();
     check.anywhere();
     check.far_settings();
     check.far_places();
@@ -577,5 +684,5 @@ fn main() {
     check.rooms();
     check.table_lengths();
     check.mixed();
-    check.driver.end(100_000);
+    check.driver.end(150_000);
 }
