@@ -1,7 +1,7 @@
 /* Makes random calls of the library until the time is up, and after each checks what a caller may rely on: a refusal leaves every buffer
  * as it came, octets beyond the answer stay, answers are in their range and agree with the buffers, what was written reads back,
- * damage of the kinds that the reader is proved to see is named, a hunt ends at the first place that passes, and a reading that hunts is
- * the reading of what the hunts find.
+ * damage of the kinds that the reader is proved to see is named, a hunt ends at the first place that passes, a reading that hunts is
+ * the reading of what the hunts find, and the choice of a rule changes nothing but for an only multiframe.
  *
  *   fuzz SECONDS [SEED]            runs for that time and prints how often each answer was given; the environment can give SEED too
  *   fuzz 0 SEED ROUND              makes the calls of one round again
@@ -26,7 +26,7 @@ enum {
     SEED = 201108
 };
 
-static uint64_t state, seed = SEED, round_number, given[STATUSES], read_back, named, hunted;
+static uint64_t state, seed = SEED, round_number, given[STATUSES], read_back, named, hunted, only_ones;
 
 static uint32_t chance(uint32_t below) {
     state = state * 6364136223846793005u + 1442695040888963407u;
@@ -214,12 +214,14 @@ static void check_refused_writing(uint32_t number, uint64_t place, const struct 
     }
 }
 
+static uint64_t known_choice(void) { return chance(2) ? DSR_DEFAULT_CHOICES : DSR_ONE_HEADER_SETTLES; }
+
 static void check_reads_back(uint64_t rate, uint64_t type, const struct lent *indices, const struct lent *image) {
     size_t frames = indices->len / DSR_FRAME_INDICES, m = image->len / DSR_MULTIFRAME_OCTETS;
     struct lent index = lend_buffer(DSR_MULTIFRAME_INDICES * m), report = lend_buffer(DSR_MULTIFRAME_REPORT * m);
     struct lent codebook = lend_buffer(4 * DSR_CODEBOOK_NUMBERS), thresholds = lend_buffer(4 * DSR_THRESHOLD_NUMBERS);
-    uint64_t a[DSR_ANSWER_NUMBERS], place = UNTOUCHED;
-    uint32_t number = dsr_read(image->data, image->len, (const int32_t *)codebook.data, DSR_CODEBOOK_NUMBERS,
+    uint64_t a[DSR_ANSWER_NUMBERS], place = UNTOUCHED, choices = m == 1 ? DSR_ONE_HEADER_SETTLES : known_choice();
+    uint32_t number = dsr_read(image->data, image->len, choices, (const int32_t *)codebook.data, DSR_CODEBOOK_NUMBERS,
                                (const int32_t *)thresholds.data, DSR_THRESHOLD_NUMBERS, index.data, index.len, report.data, report.len, a,
                                DSR_ANSWER_NUMBERS, &place);
     expect(number == DSR_DONE && place == UNTOUCHED, "a written utterance is refused, or its place touched");
@@ -288,6 +290,9 @@ static void insert(size_t at, const uint8_t *what, size_t len) {
     octets_len += len;
 }
 
+/* Often so few that one multiframe holds them: there the rule matters. */
+static size_t few_frames(void) { return chance(4) == 0 ? chance(FRAMES) : chance(150); }
+
 /* Adds one codeword to every header: other settings, still codewords. */
 static void change_settings(size_t m) {
     uint32_t common = dsr_header_encode((uint16_t)(chance(2) ? 1u << chance(16) : chance(65536)));
@@ -310,8 +315,8 @@ static void mutate(void) {
     }
 }
 
-/* Notes are in range, the bad pairs are counted, and two readable headers agree in the settings, or the only one is clean. */
-static void check_notes(const uint8_t *report, const uint64_t *a) {
+/* Notes are in range, the bad pairs are counted, and two readable headers agree in the settings, or the only one is clean and may settle. */
+static void check_notes(const uint8_t *report, const uint64_t *a, uint64_t choices) {
     uint64_t bad = 0, agree = 0;
     for (size_t i = 0; i < DSR_MULTIFRAME_REPORT * a[DSR_ANSWER_MULTIFRAMES]; i++) {
         if (i % DSR_MULTIFRAME_REPORT != 0) {
@@ -323,7 +328,8 @@ static void check_notes(const uint8_t *report, const uint64_t *a) {
             agree += flips != 3 && (report[i] & DSR_HEADER_DIFFERS) == 0;
         }
     }
-    expect(agree >= 2 || (a[DSR_ANSWER_MULTIFRAMES] == 1 && agree == 1 && (report[0] & 3) == 0), "settings that nothing settles");
+    int only = a[DSR_ANSWER_MULTIFRAMES] == 1 && agree == 1 && (report[0] & 3) == 0;
+    expect(agree >= 2 || (only && choices == DSR_ONE_HEADER_SETTLES), "settings that nothing settles");
     expect(bad == a[DSR_ANSWER_BAD], "the number of bad pairs is not that of the notes");
 }
 
@@ -356,14 +362,15 @@ static void check_written_again(const struct lent *in, const struct lent *index,
     give_back(&out);
 }
 
-static void check_reading(const struct lent *in, const struct lent *index, const struct lent *report, const uint64_t *a) {
+static void check_reading(const struct lent *in, const struct lent *index, const struct lent *report, const uint64_t *a,
+                          uint64_t choices) {
     uint64_t m = a[DSR_ANSWER_MULTIFRAMES], speech = a[DSR_ANSWER_SPEECH];
     expect(a[DSR_ANSWER_RATE] <= 3 && a[DSR_ANSWER_RATE] != 2 && a[DSR_ANSWER_TYPE] <= 1, "settings out of range");
     expect(m >= 1 && m <= DSR_MOST_MULTIFRAMES && DSR_MULTIFRAME_OCTETS * m <= in->len, "multiframes out of range");
     expect((in->len - DSR_MULTIFRAME_OCTETS * m) % 2 == 0, "something else than inverse syncs was stepped over");
     expect(DSR_MULTIFRAME_INDICES * m <= index->len && DSR_MULTIFRAME_REPORT * m <= report->len, "read into a short buffer");
     expect(stays_from(index, DSR_MULTIFRAME_INDICES * m) && stays_from(report, DSR_MULTIFRAME_REPORT * m), "octets beyond were touched");
-    check_notes(report->data, a);
+    check_notes(report->data, a, choices);
     for (size_t f = 0; f < FRAMES * m; f++) expect(!is_wide(index->data + DSR_FRAME_INDICES * f), "an index above 63");
     expect(a[DSR_ANSWER_BAD] < DSR_MULTIFRAME_PAIRS * m, "all pairs are bad");
     check_replaced(index->data, report->data, DSR_MULTIFRAME_PAIRS * m);
@@ -386,7 +393,7 @@ static void check_refused_reading(uint32_t number, uint64_t place, const struct 
     case DSR_READ_NO_MULTIFRAME: expect(place == in->len, "refusal 14"); break;
     case DSR_READ_TOO_MANY: expect(left > 1 && at[0] == 0x87 && place >= DSR_MOST_MULTIFRAMES * DSR_MULTIFRAME_OCTETS, "refusal 15"); break;
     case DSR_READ_INDEX_SHORT: expect(place > index->len && place % DSR_MULTIFRAME_INDICES == 0, "refusal 18"); break;
-    case DSR_READ_ANSWER_SHORT: break;
+    case DSR_NO_SUCH_CHOICE: case DSR_READ_ANSWER_SHORT: break;
     case DSR_READ_REPORT_SHORT: expect(place > report->len && place % DSR_MULTIFRAME_REPORT == 0, "refusal 19"); break;
     default: expect(place == 0, "a refusal has a place that 01 does not give it");
     }
@@ -409,8 +416,6 @@ static size_t room_near(size_t needed) {
     return chance(2) ? needed : needed + chance(300);
 }
 
-static size_t room_for(size_t each) { return room_near(each * (octets_len / DSR_MULTIFRAME_OCTETS)); }
-
 /* An answer of its length, of less or of more, and a place. */
 static struct lent lend_answer(size_t numbers) {
     return lend_buffer(sizeof(uint64_t) * (chance(15) == 0 ? chance((uint32_t)numbers) : numbers + chance(2) * chance(5)));
@@ -421,16 +426,100 @@ static struct lent lend_place(void) {
     return lend_copy(&untouched, sizeof untouched);
 }
 
-/* What the number says of tables, answer and place. */
-static void check_number(uint32_t number, int tables, const struct lent *answer, const struct lent *place) {
+/* Mostly a choice that there is; else any number, or one of these two moved up, so that it is right again where a number is cut. */
+static uint64_t some_choices(void) {
+    if (chance(12) != 0) return known_choice();
+    return chance(2) ? any_number() : known_choice() + ((uint64_t)1 << (1 + chance(63)));
+}
+
+static int is_known(uint64_t choices) { return choices == DSR_DEFAULT_CHOICES || choices == DSR_ONE_HEADER_SETTLES; }
+
+/* What the number says of choices, tables, answer and place. */
+static void check_number(uint32_t number, uint64_t choices, int tables, const struct lent *answer, const struct lent *place) {
     int short_answer = answer->len < sizeof(uint64_t) * DSR_ANSWER_NUMBERS, done = number == DSR_DONE;
+    int asked = !short_answer && is_known(choices);
     expect((number == DSR_READ_ANSWER_SHORT) == short_answer, "refusal 99 against the answer's length");
-    if (short_answer) expect(stays_from(place, 0), "a short answer touched the place");
+    expect((number == DSR_NO_SUCH_CHOICE) == (!short_answer && !is_known(choices)), "refusal 96 against the choices");
+    if (!asked) expect(stays_from(place, 0), "a short answer or an unknown choice touched the place");
     else expect(done || (number >= DSR_READ_TABLES && number <= DSR_READ_ALL_BAD), "a reading's answer is no number of 01");
-    if (!short_answer) expect((number == DSR_READ_TABLES) == !tables, "refusal 11 against the tables");
+    if (asked) expect((number == DSR_READ_TABLES) == !tables, "refusal 11 against the tables");
     expect(stays_from(answer, done ? sizeof(uint64_t) * DSR_ANSWER_NUMBERS : 0), "a reading touched numbers that have to stay");
     if (done) expect(stays_from(place, 0), "a reading that ended well touched the place");
     given[number]++;
+}
+
+/* What is lent to a reading beside the octets. */
+struct rooms {
+    struct lent codebook, thresholds, index, report, answer, place;
+};
+
+static struct rooms lend_rooms(size_t m, size_t numbers) {
+    struct rooms r;
+    r.codebook = lend_table(chance(40) ? DSR_CODEBOOK_NUMBERS : chance(2000));
+    r.thresholds = lend_table(chance(40) ? DSR_THRESHOLD_NUMBERS : chance(30));
+    r.index = lend_buffer(room_near(DSR_MULTIFRAME_INDICES * m));
+    r.report = lend_buffer(room_near(DSR_MULTIFRAME_REPORT * m));
+    r.answer = lend_answer(numbers);
+    r.place = lend_place();
+    return r;
+}
+
+/* The same tables, and memory to be written as it came. */
+static struct rooms lend_again(const struct rooms *r) {
+    struct rooms again = {r->codebook, r->thresholds, lend_copy(r->index.copy, r->index.len), lend_copy(r->report.copy, r->report.len),
+                          lend_copy(r->answer.copy, r->answer.len), lend_copy(r->place.copy, r->place.len)};
+    return again;
+}
+
+static void give_back_written(struct rooms *r) { give_back(&r->index), give_back(&r->report), give_back(&r->answer), give_back(&r->place); }
+
+static void give_back_rooms(struct rooms *r) {
+    give_back_written(r);
+    give_back_kept(&r->codebook, "reading touched the codebook"), give_back_kept(&r->thresholds, "reading touched the thresholds");
+}
+
+static uint64_t place_of(const struct rooms *r) {
+    uint64_t place;
+    memcpy(&place, r->place.data, sizeof place);
+    return place;
+}
+
+static int right_tables(const struct rooms *r) {
+    return r->codebook.len / 4 == DSR_CODEBOOK_NUMBERS && r->thresholds.len / 4 == DSR_THRESHOLD_NUMBERS;
+}
+
+static uint32_t read_and_check(const struct lent *in, uint64_t choices, struct rooms *r) {
+    uint32_t number = dsr_read(in->data, in->len, choices, (const int32_t *)r->codebook.data, r->codebook.len / 4,
+                               (const int32_t *)r->thresholds.data, r->thresholds.len / 4, r->index.data, r->index.len, r->report.data,
+                               r->report.len, (uint64_t *)r->answer.data, r->answer.len / sizeof(uint64_t), (uint64_t *)r->place.data);
+    check_number(number, choices, right_tables(r), &r->answer, &r->place);
+    if (number == DSR_DONE) check_reading(in, &r->index, &r->report, (const uint64_t *)r->answer.data, choices);
+    else check_refused_reading(number, place_of(r), in, &r->index, &r->report);
+    return number;
+}
+
+/* Whether octets that can be cut up hold one multiframe and no more. */
+static int has_only_one(const struct lent *in) {
+    size_t m = 0;
+    for (size_t p = 0; p < in->len; p += in->data[p] == 0x87 ? DSR_MULTIFRAME_OCTETS : SYNC) m += in->data[p] == 0x87;
+    return m == 1;
+}
+
+static int same(const struct lent *a, const struct lent *b) { return memcmp(a->data, b->data, a->len) == 0; }
+
+/* The other rule gives the same, but for an only multiframe: that one is unsettled by default. */
+static void check_other_rule(const struct lent *in, uint64_t choices, const struct rooms *r, uint32_t number) {
+    struct rooms again = lend_again(r);
+    uint32_t other = read_and_check(in, choices ^ DSR_ONE_HEADER_SETTLES, &again);
+    int cut_up = number == DSR_DONE || number >= DSR_READ_UNSETTLED;
+    if (cut_up && has_only_one(in)) {
+        expect((choices == DSR_DEFAULT_CHOICES ? number : other) == DSR_READ_UNSETTLED, "one header alone settles by default");
+        only_ones++;
+    } else {
+        expect(number == other && same(&r->answer, &again.answer) && same(&r->place, &again.place), "a rule changes what is answered");
+        expect(same(&r->index, &again.index) && same(&r->report, &again.report), "a rule changes what is read");
+    }
+    give_back_written(&again);
 }
 
 static void try_read(void) {
@@ -438,24 +527,16 @@ static void try_read(void) {
         octets_len = chance(400);
         for (size_t i = 0; i < octets_len; i++) octets[i] = (uint8_t)chance(256);
     } else {
-        write_octets(chance(200) == 0 ? DSR_MOST_FRAMES - chance(30) : chance(150));
+        write_octets(chance(200) == 0 ? DSR_MOST_FRAMES - chance(30) : few_frames());
     }
     for (uint32_t times = chance(chance(4) == 0 ? 40 : 5); times > 0; times--) mutate();
-    struct lent in = lend_copy(octets, octets_len), index = lend_buffer(room_for(DSR_MULTIFRAME_INDICES));
-    struct lent report = lend_buffer(room_for(DSR_MULTIFRAME_REPORT));
-    struct lent codebook = lend_table(chance(40) ? DSR_CODEBOOK_NUMBERS : chance(2000));
-    struct lent thresholds = lend_table(chance(40) ? DSR_THRESHOLD_NUMBERS : chance(30));
-    struct lent answer = lend_answer(DSR_ANSWER_NUMBERS), place = lend_place();
-    uint32_t number = dsr_read(in.data, in.len, (const int32_t *)codebook.data, codebook.len / 4, (const int32_t *)thresholds.data,
-                               thresholds.len / 4, index.data, index.len, report.data, report.len, (uint64_t *)answer.data,
-                               answer.len / sizeof(uint64_t), (uint64_t *)place.data);
-    int tables = codebook.len / 4 == DSR_CODEBOOK_NUMBERS && thresholds.len / 4 == DSR_THRESHOLD_NUMBERS;
-    check_number(number, tables, &answer, &place);
-    if (number == DSR_DONE) check_reading(&in, &index, &report, (const uint64_t *)answer.data);
-    else check_refused_reading(number, *(uint64_t *)place.data, &in, &index, &report);
-    give_back(&index), give_back(&report), give_back(&answer), give_back(&place);
+    struct lent in = lend_copy(octets, octets_len);
+    struct rooms r = lend_rooms(octets_len / DSR_MULTIFRAME_OCTETS, DSR_ANSWER_NUMBERS);
+    uint64_t choices = some_choices();
+    uint32_t number = read_and_check(&in, choices, &r);
+    if (number <= DSR_READ_ALL_BAD) check_other_rule(&in, choices, &r, number);
+    give_back_rooms(&r);
     give_back_kept(&in, "reading touched the octets");
-    give_back_kept(&codebook, "reading touched the codebook"), give_back_kept(&thresholds, "reading touched the thresholds");
 }
 
 /* --- damage that the reader is proved to see */
@@ -502,14 +583,15 @@ static void try_damage(void) {
     struct lent in = lend_copy(octets, octets_len), index = lend_buffer(DSR_MULTIFRAME_INDICES * m);
     struct lent report = lend_buffer(DSR_MULTIFRAME_REPORT * m);
     struct lent codebook = lend_table(DSR_CODEBOOK_NUMBERS), thresholds = lend_table(DSR_THRESHOLD_NUMBERS);
-    uint64_t a[DSR_ANSWER_NUMBERS] = {0}, place = UNTOUCHED;
-    uint32_t number = dsr_read(in.data, in.len, (const int32_t *)codebook.data, DSR_CODEBOOK_NUMBERS, (const int32_t *)thresholds.data,
-                               DSR_THRESHOLD_NUMBERS, index.data, index.len, report.data, report.len, a, DSR_ANSWER_NUMBERS, &place);
+    uint64_t a[DSR_ANSWER_NUMBERS] = {0}, place = UNTOUCHED, choices = known_choice();
+    uint32_t number = dsr_read(in.data, in.len, choices, (const int32_t *)codebook.data, DSR_CODEBOOK_NUMBERS,
+                               (const int32_t *)thresholds.data, DSR_THRESHOLD_NUMBERS, index.data, index.len, report.data, report.len, a,
+                               DSR_ANSWER_NUMBERS, &place);
     expect(number == DSR_DONE || number == DSR_READ_ALL_BAD, "a damaged image is refused");
     given[number]++;
     if (number == DSR_DONE) {
         expect(a[DSR_ANSWER_RATE] == rate && a[DSR_ANSWER_TYPE] == type && a[DSR_ANSWER_MULTIFRAMES] == m, "settings or length of a damaged image");
-        check_reading(&in, &index, &report, a);
+        check_reading(&in, &index, &report, a, choices);
         check_named(damaged, &index, &report, m);
         named++;
     } else {
@@ -588,7 +670,7 @@ static void fill_modem(void) {
     if (kind == 0) {
         for (uint32_t bits = chance(4000); bits > 0; bits--) send_bit(chance(2));
     } else {
-        write_octets(chance(60) == 0 ? DSR_MOST_FRAMES - chance(26) : chance(150));
+        write_octets(chance(60) == 0 ? DSR_MOST_FRAMES - chance(26) : few_frames());
         if (kind < 4) {
             for (uint32_t times = chance(5); times > 0; times--) mutate();
             send_octets(octets, octets_len);
@@ -676,37 +758,28 @@ static void gather(const struct lent *in, uint64_t from, uint64_t least, struct 
     g->tested += tested;
 }
 
-/* What is lent to a reading beside the octets. */
-struct rooms {
-    struct lent codebook, thresholds, index, report, answer;
+/* What a hunting reading is asked. */
+struct asked {
+    uint64_t from, least, choices;
 };
 
-static struct rooms lend_rooms(size_t m) {
-    struct rooms r;
-    r.codebook = lend_table(chance(40) ? DSR_CODEBOOK_NUMBERS : chance(2000));
-    r.thresholds = lend_table(chance(40) ? DSR_THRESHOLD_NUMBERS : chance(30));
-    r.index = lend_buffer(room_near(DSR_MULTIFRAME_INDICES * m));
-    r.report = lend_buffer(room_near(DSR_MULTIFRAME_REPORT * m));
-    r.answer = lend_answer(DSR_BITS_ANSWER_NUMBERS);
-    return r;
-}
-
-static uint32_t read_octets(const struct gathered *g, const struct rooms *r, struct lent *index, struct lent *report, uint64_t *a,
-                            uint64_t *place) {
-    return dsr_read(g->image, DSR_MULTIFRAME_OCTETS * g->m, (const int32_t *)r->codebook.data, r->codebook.len / 4,
+static uint32_t read_octets(const struct gathered *g, uint64_t choices, const struct rooms *r, struct lent *index, struct lent *report,
+                            uint64_t *a, uint64_t *place) {
+    return dsr_read(g->image, DSR_MULTIFRAME_OCTETS * g->m, choices, (const int32_t *)r->codebook.data, r->codebook.len / 4,
                     (const int32_t *)r->thresholds.data, r->thresholds.len / 4, index->data, index->len, report->data, report->len, a,
                     DSR_ANSWER_NUMBERS, place);
 }
 
 /* The refusals that come before anything is read, in their order; 0 if there is none. */
-static uint32_t refused_before(const struct rooms *r, uint64_t from, uint64_t least, const struct gathered *g, uint64_t *place) {
+static uint32_t refused_before(const struct rooms *r, const struct asked *asked, const struct gathered *g, uint64_t *place) {
     *place = UNTOUCHED;
     if (r->answer.len / sizeof(uint64_t) < DSR_BITS_ANSWER_NUMBERS) return DSR_READ_ANSWER_SHORT;
+    if (!is_known(asked->choices)) return DSR_NO_SUCH_CHOICE;
     *place = 0;
-    if (r->codebook.len / 4 != DSR_CODEBOOK_NUMBERS || r->thresholds.len / 4 != DSR_THRESHOLD_NUMBERS) return DSR_READ_TABLES;
-    *place = least;
-    if (!in_range(least)) return DSR_HUNT_MATCH;
-    *place = from;
+    if (!right_tables(r)) return DSR_READ_TABLES;
+    *place = asked->least;
+    if (!in_range(asked->least)) return DSR_HUNT_MATCH;
+    *place = asked->from;
     if (g->m == 0) return DSR_HUNT_NOWHERE;
     *place = g->too_many_at;
     return g->too_many ? DSR_READ_TOO_MANY : DSR_DONE;
@@ -726,18 +799,18 @@ static void check_bits_answer(const struct rooms *r, const struct gathered *g, c
     hunted++;
 }
 
-static void check_read_bits(const struct lent *in, const struct rooms *r, uint64_t from, uint64_t least, const struct gathered *g,
-                            uint32_t number, uint64_t place) {
+static void check_read_bits(const struct lent *in, const struct rooms *r, const struct asked *asked, const struct gathered *g,
+                            uint32_t number) {
     struct lent index = lend_copy(r->index.copy, r->index.len), report = lend_copy(r->report.copy, r->report.len);
     uint64_t a[DSR_ANSWER_NUMBERS] = {0}, right_place;
-    uint32_t right = refused_before(r, from, least, g, &right_place);
+    uint32_t right = refused_before(r, asked, g, &right_place);
     if (right == DSR_DONE) {
         right_place = UNTOUCHED;
-        right = read_octets(g, r, &index, &report, a, &right_place);
+        right = read_octets(g, asked->choices, r, &index, &report, a, &right_place);
     }
-    expect(number == right && place == right_place, "a hunting reading's number or place is not that of what was found");
+    expect(number == right && place_of(r) == right_place, "a hunting reading's number or place is not that of what was found");
     if (number == DSR_DONE) {
-        check_bits_answer(r, g, &index, &report, a, 8 * in->len - from);
+        check_bits_answer(r, g, &index, &report, a, 8 * in->len - asked->from);
     } else {
         expect(stays_from(&r->index, 0) && stays_from(&r->report, 0), "a refused hunting reading touched a buffer");
         expect(stays_from(&r->answer, 0), "a refused hunting reading touched the answer");
@@ -748,16 +821,15 @@ static void check_read_bits(const struct lent *in, const struct rooms *r, uint64
 static void try_read_bits(const struct lent *in, uint64_t from, uint64_t least) {
     static struct gathered g;
     gather(in, from, least, &g);
-    struct rooms r = lend_rooms(g.m);
-    uint64_t place = UNTOUCHED;
-    uint32_t number = dsr_read_bits(in->data, in->len, from, least, (const int32_t *)r.codebook.data, r.codebook.len / 4,
+    struct rooms r = lend_rooms(g.m, DSR_BITS_ANSWER_NUMBERS);
+    struct asked asked = {from, least, some_choices()};
+    uint32_t number = dsr_read_bits(in->data, in->len, from, least, asked.choices, (const int32_t *)r.codebook.data, r.codebook.len / 4,
                                     (const int32_t *)r.thresholds.data, r.thresholds.len / 4, r.index.data, r.index.len, r.report.data,
-                                    r.report.len, (uint64_t *)r.answer.data, r.answer.len / sizeof(uint64_t), &place);
+                                    r.report.len, (uint64_t *)r.answer.data, r.answer.len / sizeof(uint64_t), (uint64_t *)r.place.data);
     expect(number < STATUSES, "a hunting reading's answer is no number of 01 or 02");
     given[number]++;
-    check_read_bits(in, &r, from, least, &g, number, place);
-    give_back(&r.index), give_back(&r.report), give_back(&r.answer);
-    give_back_kept(&r.codebook, "reading touched the codebook"), give_back_kept(&r.thresholds, "reading touched the thresholds");
+    check_read_bits(in, &r, &asked, &g, number);
+    give_back_rooms(&r);
 }
 
 static void try_bits(void) {
@@ -796,7 +868,8 @@ int main(int argc, char **argv) {
     for (; time(NULL) < end; round_number++) play_round();
     printf("%llu rounds, %llu utterances read back, %llu damaged images with every damaged pair named, ",
            (unsigned long long)round_number, (unsigned long long)read_back, (unsigned long long)named);
-    printf("%llu read at any bit\nanswers:", (unsigned long long)hunted);
+    printf("%llu read at any bit, %llu of one multiframe by both rules\nanswers:", (unsigned long long)hunted,
+           (unsigned long long)only_ones);
     for (unsigned i = 0; i < STATUSES; i++)
         if (given[i] > 0) printf(" %u:%llu", i, (unsigned long long)given[i]);
     printf("\n");
