@@ -290,6 +290,10 @@ static void insert(size_t at, const uint8_t *what, size_t len) {
     octets_len += len;
 }
 
+static void insert_often(size_t at, const uint8_t *sync, uint32_t times) {
+    for (; times > 0; times--) insert(at, sync, SYNC);
+}
+
 /* Often so few that one multiframe holds them: there the rule matters. */
 static size_t few_frames(void) { return chance(4) == 0 ? chance(FRAMES) : chance(150); }
 
@@ -305,7 +309,7 @@ static void mutate(void) {
     switch (chance(9)) {
     case 0: if (n > 0) flip(octets, chance(8 * n)); break;
     case 1: if (m > 0) add_to_header(octets + DSR_MULTIFRAME_OCTETS * chance(m) + SYNC, places(chance(5))); break;
-    case 2: insert(m > 0 ? DSR_MULTIFRAME_OCTETS * chance(m + 1) : 0, inverse, 2); break;
+    case 2: insert_often(m > 0 ? DSR_MULTIFRAME_OCTETS * chance(m + 1) : 0, inverse, chance(8) ? 1 : chance(150)); break;
     case 3: insert(chance(4) ? n : chance(n + 1), sync, 1 + chance(2)); break;
     case 4: octets_len = chance(3) ? n : chance(n + 1); break;
     case 5: if (n > 0) octets[chance(n)] = (uint8_t)chance(256); break;
@@ -498,22 +502,32 @@ static uint32_t read_and_check(const struct lent *in, uint64_t choices, struct r
     return number;
 }
 
-/* Whether octets that can be cut up hold one multiframe and no more. */
-static int has_only_one(const struct lent *in) {
+/* The only multiframe of octets that can be cut up; null if there are more. */
+static const uint8_t *only_multiframe(const struct lent *in) {
+    const uint8_t *last = NULL;
     size_t m = 0;
-    for (size_t p = 0; p < in->len; p += in->data[p] == 0x87 ? DSR_MULTIFRAME_OCTETS : SYNC) m += in->data[p] == 0x87;
-    return m == 1;
+    for (size_t p = 0; p < in->len; p += in->data[p] == 0x87 ? DSR_MULTIFRAME_OCTETS : SYNC)
+        if (in->data[p] == 0x87) last = in->data + p, m++;
+    return m == 1 ? last : NULL;
+}
+
+static int is_codeword(const uint8_t *header) {
+    uint32_t word = 0;
+    for (unsigned i = 0; i < HEADER; i++) word |= (uint32_t)header[i] << 8 * i;
+    return dsr_header_encode((uint16_t)word) == word;
 }
 
 static int same(const struct lent *a, const struct lent *b) { return memcmp(a->data, b->data, a->len) == 0; }
 
-/* The other rule gives the same, but for an only multiframe: that one is unsettled by default. */
+/* The other rule gives the same, but for an only multiframe: by default that is unsettled, by the old rule if its header is no codeword. */
 static void check_other_rule(const struct lent *in, uint64_t choices, const struct rooms *r, uint32_t number) {
     struct rooms again = lend_again(r);
     uint32_t other = read_and_check(in, choices ^ DSR_ONE_HEADER_SETTLES, &again);
-    int cut_up = number == DSR_DONE || number >= DSR_READ_UNSETTLED;
-    if (cut_up && has_only_one(in)) {
-        expect((choices == DSR_DEFAULT_CHOICES ? number : other) == DSR_READ_UNSETTLED, "one header alone settles by default");
+    uint32_t by_default = choices == DSR_DEFAULT_CHOICES ? number : other, by_old = choices == DSR_DEFAULT_CHOICES ? other : number;
+    const uint8_t *only = number == DSR_DONE || number >= DSR_READ_UNSETTLED ? only_multiframe(in) : NULL;
+    if (only != NULL) {
+        expect(by_default == DSR_READ_UNSETTLED, "one header alone settles by default");
+        expect((by_old == DSR_READ_UNSETTLED) == !is_codeword(only + SYNC), "an only codeword does not settle, or something else does");
         only_ones++;
     } else {
         expect(number == other && same(&r->answer, &again.answer) && same(&r->place, &again.place), "a rule changes what is answered");
