@@ -66,8 +66,8 @@ static void run_library_read_bits(void) {
 
 static void run_literal_read_bits(void) {
     uint64_t place = 0;
-    sink = literal_read_bits(shifted, image_len + 1, 0, LEAST, ASKED, codebook, CODEBOOK_NUMBERS, thresholds,
-                             THRESHOLD_NUMBERS, index_b, sizeof index_b, report_b, sizeof report_b, answer_b, &place);
+    sink = literal_read_bits(shifted, image_len + 1, 0, LEAST, ASKED, codebook, CODEBOOK_NUMBERS, thresholds, THRESHOLD_NUMBERS, index_b,
+                             sizeof index_b, report_b, sizeof report_b, answer_b, &place);
 }
 
 /* The octet reader on the same multiframes. */

@@ -24,8 +24,8 @@ static void run_library_read(void) {
 
 static void run_literal_read(void) {
     uint64_t place = 0;
-    sink = literal_read(image, image_len, ASKED, codebook, CODEBOOK_NUMBERS, thresholds, THRESHOLD_NUMBERS,
-                        index_b, sizeof index_b, report_b, sizeof report_b, answer_b, &place);
+    sink = literal_read(image, image_len, ASKED, codebook, CODEBOOK_NUMBERS, thresholds, THRESHOLD_NUMBERS, index_b, sizeof index_b,
+                        report_b, sizeof report_b, answer_b, &place);
 }
 
 static uint8_t *header_of(unsigned k) { return image + MULTIFRAME_OCTETS * (size_t)k + SYNC_OCTETS; }
