@@ -27,10 +27,10 @@ extern "C" {
 /* DSR_VERSION is this header's version as a number that grows, DSR_VERSION_TEXT the same to print. An incompatible change raises the major
  * number; while that is 0, the minor one. */
 #define DSR_VERSION_MAJOR 0
-#define DSR_VERSION_MINOR 2
+#define DSR_VERSION_MINOR 3
 #define DSR_VERSION_PATCH 0
 #define DSR_VERSION (DSR_VERSION_MAJOR * 10000 + DSR_VERSION_MINOR * 100 + DSR_VERSION_PATCH)
-#define DSR_VERSION_TEXT "0.2.0"
+#define DSR_VERSION_TEXT "0.3.0"
 
 /* DSR_MULTIFRAME_OCTETS is the size of a multiframe: sync 2, header 4, feature stream 138. */
 #define DSR_MULTIFRAME_OCTETS 144
@@ -65,7 +65,7 @@ extern "C" {
 #define DSR_MOST_MATCH 16
 
 /* dsr_status is what every function that can refuse returns: 0 if it is done, or the number of the refusal; beside each refusal stands
- * its place. Numbers from 97 on are this library's own, not 01's or 02's, and have no place. */
+ * its place. Numbers from 96 on are this library's own, not 01's or 02's, and have no place. */
 enum dsr_status {
     /* DSR_DONE: success. */
     DSR_DONE = 0,
@@ -94,7 +94,8 @@ enum dsr_status {
     /* DSR_READ_TOO_MANY: a sync after 255 multiframes, even a cut one. Place: p. In dsr_read_bits a match after 255 multiframes, a cut
      * one is none. Place: its bit. */
     DSR_READ_TOO_MANY = 15,
-    /* DSR_READ_UNSETTLED: settings not settled. Place: 0. */
+    /* DSR_READ_UNSETTLED: settings not settled, as no two readable headers agree in them. An only multiframe is refused so too, unless
+     * DSR_ONE_HEADER_SETTLES is asked for and its header is a codeword. Place: 0. */
     DSR_READ_UNSETTLED = 16,
     /* DSR_READ_SETTINGS: settled rate is 2 or any EXP is 1. Place: 0. */
     DSR_READ_SETTINGS = 17,
@@ -110,7 +111,7 @@ enum dsr_status {
     /* DSR_HUNT_NOWHERE: no place found by the first hunt. Place: the first bit searched. */
     DSR_HUNT_NOWHERE = 22,
 
-    /* DSR_NO_SUCH_CHOICE (dsr_read, dsr_read_bits): choices is no number of enum dsr_choices. All lent memory stays. */
+    /* DSR_NO_SUCH_CHOICE: choices is no number of enum dsr_choices. All lent memory stays. */
     DSR_NO_SUCH_CHOICE = 96,
     /* DSR_HEADER_UNREADABLE (dsr_header_read): no codeword differs from the word in at most two bits. */
     DSR_HEADER_UNREADABLE = 97,
@@ -120,14 +121,6 @@ enum dsr_status {
     /* DSR_READ_ANSWER_SHORT: answer shorter than DSR_ANSWER_NUMBERS, in dsr_read_bits than DSR_BITS_ANSWER_NUMBERS. All lent memory
      * stays. */
     DSR_READ_ANSWER_SHORT = 99
-};
-
-/* dsr_choices is by which rule a reading settles an only multiframe. */
-enum dsr_choices {
-    /* DSR_DEFAULT_CHOICES: an only multiframe is refused as unsettled. */
-    DSR_DEFAULT_CHOICES = 0,
-    /* DSR_ONE_HEADER_SETTLES: an only multiframe whose header is a codeword settles. */
-    DSR_ONE_HEADER_SETTLES = 1
 };
 
 /* dsr_rate is the code of a sample rate. 2 is undefined and refused. */
@@ -144,6 +137,18 @@ enum dsr_rate {
 enum dsr_front_end {
     DSR_STANDARD = 0,
     DSR_NOISE_ROBUST = 1
+};
+
+/* dsr_choices is what a caller chooses of a reading: the rule for an only multiframe, in dsr_read_bits one that alone was found. For two
+ * multiframes or more the choice changes nothing. Every other number is refused, so that a choice of a later library is never passed
+ * over. */
+enum dsr_choices {
+    /* DSR_DEFAULT_CHOICES: an only multiframe is refused with DSR_READ_UNSETTLED, however clean it is: its codeword can be the wrong one,
+     * and no second header is there to show it. */
+    DSR_DEFAULT_CHOICES = 0,
+    /* DSR_ONE_HEADER_SETTLES: an only multiframe whose header is itself a codeword settles the settings; with mended flips, or lost, it is
+     * refused all the same. For whoever has to read one and knows the line, as at a bench. */
+    DSR_ONE_HEADER_SETTLES = 1
 };
 
 /* dsr_answer is the place of each number in a successful reading's answer. */
@@ -248,7 +253,8 @@ DSR_MUST_USE uint32_t dsr_write(uint64_t rate, uint64_t type, const uint8_t *ind
 /* dsr_read reads received octets: DSR_DONE, and answer holds the six numbers of enum dsr_answer, index the first 168m octets and report
  * the first 13m (octets beyond them stay, numbers beyond the sixth too), and *place stays; or a refusal, 11 to 20, the first that applies,
  * and *place is its place and answer, index and report stay as they came. Lend an answer of DSR_ANSWER_NUMBERS numbers; fewer are refused
- * before all else with DSR_READ_ANSWER_SHORT, and then *place stays too.
+ * before all else with DSR_READ_ANSWER_SHORT, and choices that are no number of enum dsr_choices next with DSR_NO_SUCH_CHOICE; then *place
+ * stays too. The choices are a number of 64 bits, so that none is cut to a right one on its way.
  * An answer that is used again still holds the last success: look at the number returned. Put DSR_RATE_NONE into
  * answer[DSR_ANSWER_RATE] before each call, and a refusal that was missed does not pass for a rate. */
 DSR_MUST_USE uint32_t dsr_read(const uint8_t *octets, size_t octets_len, uint64_t choices, const int32_t *codebook, size_t codebook_len,
@@ -270,7 +276,8 @@ DSR_MUST_USE uint32_t dsr_hunt(const uint8_t *octets, size_t octets_len, uint64_
  * multiframes found as dsr_read does, their syncs taken as whole. DSR_DONE, and answer holds the eight numbers of enum dsr_answer, index
  * the first 168m octets and report the first 13m (octets beyond them stay, numbers beyond the eighth too), and *place stays; or a refusal,
  * the first of 11, 21, 22 and 15 to 20 that applies, and *place is its place and answer, index and report stay as they came. Lend an answer
- * of DSR_BITS_ANSWER_NUMBERS numbers; fewer are refused before all else with DSR_READ_ANSWER_SHORT, and then *place stays too.
+ * of DSR_BITS_ANSWER_NUMBERS numbers; fewer are refused before all else with DSR_READ_ANSWER_SHORT, and wrong choices next, as in
+ * dsr_read; then *place stays too.
  * A refusal gives no number of places tested: dsr_hunt does. An answer that is used again still holds the last success, as in dsr_read:
  * look at the number returned. */
 DSR_MUST_USE uint32_t dsr_read_bits(const uint8_t *octets, size_t octets_len, uint64_t from, uint64_t least, uint64_t choices,
@@ -366,7 +373,7 @@ static inline size_t dsr_report_octets(size_t multiframes) {
     return multiframes > DSR_MOST_MULTIFRAMES ? 0 : DSR_MULTIFRAME_REPORT * multiframes;
 }
 
-/* dsr_status_text gives the words of 01 and 02 for when a status is given; those of 0, of 97 to 99, of a hunt's 15 and of a number that is
+/* dsr_status_text gives the words of 01 and 02 for when a status is given; those of 0, of 96 to 99, of a hunt's 15 and of a number that is
  * no status are the library's own. */
 static inline const char *dsr_status_text(uint32_t status) {
     switch (status) {
@@ -389,6 +396,7 @@ static inline const char *dsr_status_text(uint32_t status) {
     case DSR_READ_ALL_BAD: return "every pair bad";
     case DSR_HUNT_MATCH: return "T outside 12 to 16";
     case DSR_HUNT_NOWHERE: return "no place found by the first hunt";
+    case DSR_NO_SUCH_CHOICE: return "no such choice";
     case DSR_HEADER_UNREADABLE: return "no codeword differs from the word in at most two bits";
     case DSR_WRONG_LENGTH: return "a length is not the multiframe's, or none that lent memory has";
     case DSR_READ_ANSWER_SHORT: return "answer too short";
@@ -430,25 +438,9 @@ static inline enum dsr_status dsr_fill_(uint32_t number, uint64_t place, const u
     return reading->status;
 }
 
-/* dsr_read_utterance reads received octets as dsr_read does. Null tables are refused with DSR_READ_TABLES. */
-DSR_MUST_USE static inline enum dsr_status dsr_read_utterance(const uint8_t *octets, size_t octets_len, const struct dsr_tables *tables,
-                                                              uint8_t *index, size_t index_len, uint8_t *report, size_t report_len,
-                                                              struct dsr_reading *reading) {
-    uint8_t no_octet = 0, no_index = 0, no_report = 0;
-    int32_t no_table = 0;
-    uint64_t answer[DSR_BITS_ANSWER_NUMBERS] = {DSR_RATE_NONE}, place = 0;
-    uint32_t number = DSR_WRONG_LENGTH;
-    if (dsr_lent_(octets, octets_len) && dsr_lent_(index, index_len) && dsr_lent_(report, report_len))
-        number = dsr_read(octets ? octets : &no_octet, octets_len, DSR_DEFAULT_CHOICES, tables ? tables->codebook : &no_table,
-                          tables ? DSR_CODEBOOK_NUMBERS : 0, tables ? tables->thresholds : &no_table, tables ? DSR_THRESHOLD_NUMBERS : 0,
-                          index ? index : &no_index, index_len, report ? report : &no_report, report_len, answer, DSR_ANSWER_NUMBERS,
-                          &place);
-    return dsr_fill_(number, place, answer, reading);
-}
-
-/* dsr_hunt_utterance reads bits with no octet boundary as dsr_read_bits does: from bit `from` on, at least `least` (12 to 16) of the sync's
- * bits matching. Null tables are refused with DSR_READ_TABLES. */
-DSR_MUST_USE static inline enum dsr_status dsr_hunt_utterance(const uint8_t *octets, size_t octets_len, uint64_t from, uint64_t least,
+/* dsr_read_utterance reads received octets as dsr_read does. Choices are a number of enum dsr_choices. Null tables are refused with
+ * DSR_READ_TABLES. */
+DSR_MUST_USE static inline enum dsr_status dsr_read_utterance(const uint8_t *octets, size_t octets_len, uint64_t choices,
                                                               const struct dsr_tables *tables, uint8_t *index, size_t index_len,
                                                               uint8_t *report, size_t report_len, struct dsr_reading *reading) {
     uint8_t no_octet = 0, no_index = 0, no_report = 0;
@@ -456,7 +448,25 @@ DSR_MUST_USE static inline enum dsr_status dsr_hunt_utterance(const uint8_t *oct
     uint64_t answer[DSR_BITS_ANSWER_NUMBERS] = {DSR_RATE_NONE}, place = 0;
     uint32_t number = DSR_WRONG_LENGTH;
     if (dsr_lent_(octets, octets_len) && dsr_lent_(index, index_len) && dsr_lent_(report, report_len))
-        number = dsr_read_bits(octets ? octets : &no_octet, octets_len, from, least, DSR_DEFAULT_CHOICES, tables ? tables->codebook : &no_table,
+        number = dsr_read(octets ? octets : &no_octet, octets_len, choices, tables ? tables->codebook : &no_table,
+                          tables ? DSR_CODEBOOK_NUMBERS : 0, tables ? tables->thresholds : &no_table, tables ? DSR_THRESHOLD_NUMBERS : 0,
+                          index ? index : &no_index, index_len, report ? report : &no_report, report_len, answer, DSR_ANSWER_NUMBERS,
+                          &place);
+    return dsr_fill_(number, place, answer, reading);
+}
+
+/* dsr_hunt_utterance reads bits with no octet boundary as dsr_read_bits does: from bit `from` on, at least `least` (12 to 16) of the sync's
+ * bits matching. Choices are a number of enum dsr_choices. Null tables are refused with DSR_READ_TABLES. */
+DSR_MUST_USE static inline enum dsr_status dsr_hunt_utterance(const uint8_t *octets, size_t octets_len, uint64_t from, uint64_t least,
+                                                              uint64_t choices, const struct dsr_tables *tables, uint8_t *index,
+                                                              size_t index_len, uint8_t *report, size_t report_len,
+                                                              struct dsr_reading *reading) {
+    uint8_t no_octet = 0, no_index = 0, no_report = 0;
+    int32_t no_table = 0;
+    uint64_t answer[DSR_BITS_ANSWER_NUMBERS] = {DSR_RATE_NONE}, place = 0;
+    uint32_t number = DSR_WRONG_LENGTH;
+    if (dsr_lent_(octets, octets_len) && dsr_lent_(index, index_len) && dsr_lent_(report, report_len))
+        number = dsr_read_bits(octets ? octets : &no_octet, octets_len, from, least, choices, tables ? tables->codebook : &no_table,
                                tables ? DSR_CODEBOOK_NUMBERS : 0, tables ? tables->thresholds : &no_table,
                                tables ? DSR_THRESHOLD_NUMBERS : 0, index ? index : &no_index, index_len, report ? report : &no_report,
                                report_len, answer, DSR_BITS_ANSWER_NUMBERS, &place);

@@ -1,5 +1,5 @@
-/* Writes an utterance of 30 frames, damages its image as a radio link would, and reads it back: by octets, and then as a modem gives it
- * that knows no octet boundary. */
+/* Writes an utterance of 30 frames, reads it back and its first multiframe alone, damages its image as a radio link would, and reads it
+ * again: by octets, and then as a modem gives it that knows no octet boundary. */
 #include <inttypes.h>
 #include <stdio.h>
 
@@ -24,9 +24,9 @@ static void print_notes(unsigned multiframes) {
     }
 }
 
-static void read_and_print(size_t octets) {
+static void read_and_print(size_t octets, uint64_t choices) {
     struct dsr_reading r;
-    if (dsr_read_utterance(image, octets, &tables, frames, sizeof frames, report, sizeof report, &r) != DSR_DONE) {
+    if (dsr_read_utterance(image, octets, choices, &tables, frames, sizeof frames, report, sizeof report, &r) != DSR_DONE) {
         print_refusal(r.status, r.place);
         return;
     }
@@ -48,7 +48,8 @@ static void hunt_and_print(uint64_t from) {
 
 static void read_bits_and_print(void) {
     struct dsr_reading r;
-    if (dsr_hunt_utterance(modem, sizeof modem, 0, LEAST, &tables, frames, sizeof frames, report, sizeof report, &r) != DSR_DONE) {
+    if (dsr_hunt_utterance(modem, sizeof modem, 0, LEAST, DSR_DEFAULT_CHOICES, &tables, frames, sizeof frames, report, sizeof report, &r) !=
+        DSR_DONE) {
         print_refusal(r.status, r.place);
         return;
     }
@@ -64,13 +65,15 @@ int main(void) {
     if (dsr_write_utterance(2, DSR_STANDARD, indices, sizeof indices, image, sizeof image, &w) != DSR_DONE)
         print_refusal(w.status, w.place); /* there is no rate 2 */
     if (dsr_write_utterance(DSR_RATE_11_KHZ, DSR_STANDARD, indices, sizeof indices, image, sizeof image, &w) != DSR_DONE) return 1;
-    read_and_print(w.octets);
+    read_and_print(w.octets, DSR_DEFAULT_CHOICES);
+    read_and_print(DSR_MULTIFRAME_OCTETS, DSR_DEFAULT_CHOICES); /* the first multiframe alone: no second header agrees with its own */
+    read_and_print(DSR_MULTIFRAME_OCTETS, DSR_ONE_HEADER_SETTLES); /* asked for by name it is read: this line is known to be good */
     image[2] ^= 0x81; /* two flips in the first header, one of them in the rate: mended */
     image[6] ^= 0x01; /* one in its first pair: found, and the pair replaced */
-    read_and_print(w.octets);
-    read_and_print(w.octets - 1); /* the last multiframe is cut */
+    read_and_print(w.octets, DSR_DEFAULT_CHOICES);
+    read_and_print(w.octets - 1, DSR_DEFAULT_CHOICES); /* the last multiframe is cut */
     image[1] ^= 0x10; /* one flip in the first sync: the octet reader refuses, the hunt does not mind */
-    read_and_print(w.octets);
+    read_and_print(w.octets, DSR_DEFAULT_CHOICES);
     send_through_modem(w.octets);
     hunt_and_print(0);
     hunt_and_print(IDLE_BITS + 1); /* goes on behind the first */
