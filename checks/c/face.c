@@ -1,5 +1,7 @@
 /* Tests every inline function of dsr.h, as C99, C++11 and C++20: the values on success, what a refusal leaves in the struct, null pointers,
- * and numbers that are too wide. Prints how many expectations were met, or the first that was not. */
+ * and numbers that are too wide; and of the proved functions what they say of an only multiframe and of a choice that there is not. Two
+ * multiframes are read alike by either rule, so all that is expected of them is tried with both. Prints how many expectations were met, or
+ * the first that was not. */
 #include <stdio.h>
 #include <stdlib.h>
 #include <string.h>
@@ -13,6 +15,7 @@ static uint8_t image[MULTIFRAMES * DSR_MULTIFRAME_OCTETS];
 static uint8_t modem[sizeof image + 4];
 static uint8_t heard[MULTIFRAMES * DSR_MULTIFRAME_INDICES];
 static uint8_t report[MULTIFRAMES * DSR_MULTIFRAME_REPORT];
+static uint64_t answer[DSR_BITS_ANSWER_NUMBERS], place;
 static struct dsr_tables zero;
 static unsigned met;
 
@@ -29,21 +32,28 @@ static void expect_at(int line, int holds, const char *what) {
 static void mark(void) {
     memset(heard, MARK, sizeof heard);
     memset(report, MARK, sizeof report);
+    memset(answer, MARK, sizeof answer);
+    memset(&place, MARK, sizeof place);
 }
 
-static int marks_stay(void) {
-    for (size_t i = 0; i < sizeof heard; i++)
-        if (heard[i] != MARK) return 0;
-    for (size_t i = 0; i < sizeof report; i++)
-        if (report[i] != MARK) return 0;
+static int marked(const void *memory, size_t len) {
+    const uint8_t *octets = (const uint8_t *)memory;
+    for (size_t i = 0; i < len; i++)
+        if (octets[i] != MARK) return 0;
     return 1;
 }
+
+static int buffers_stay(void) {
+    return marked(heard, sizeof heard) && marked(report, sizeof report) && marked(answer, sizeof answer);
+}
+
+static int marks_stay(void) { return buffers_stay() && marked(&place, sizeof place); }
 
 static void expect_version(void) {
     char text[32];
     snprintf(text, sizeof text, "%d.%d.%d", DSR_VERSION_MAJOR, DSR_VERSION_MINOR, DSR_VERSION_PATCH);
     EXPECT(strcmp(text, DSR_VERSION_TEXT) == 0);
-    EXPECT(DSR_VERSION == 200);
+    EXPECT(DSR_VERSION == 300);
 }
 
 static void expect_sizes(void) {
@@ -67,10 +77,11 @@ static void expect_texts(void) {
         for (uint32_t b = 0; b < a; b++)
             if (strcmp(dsr_status_text(a), dsr_status_text(b)) == 0) expect_at(__LINE__, 0, "two statuses have the same words");
     }
-    EXPECT(known == 22);
+    EXPECT(known == 23);
     EXPECT(strcmp(dsr_status_text(DSR_DONE), "done") == 0);
     EXPECT(strcmp(dsr_status_text(DSR_READ_CUT), "sync with too few octets, or a lone last 87 or 78") == 0);
     EXPECT(strcmp(dsr_status_text(DSR_HUNT_MATCH), "T outside 12 to 16") == 0);
+    EXPECT(strcmp(dsr_status_text(DSR_NO_SUCH_CHOICE), "no such choice") == 0);
 }
 
 static void expect_not_written(const struct dsr_writing *w, enum dsr_status got, enum dsr_status status, uint64_t place) {
@@ -137,52 +148,55 @@ static void expect_read(const struct dsr_reading *r, enum dsr_status got, unsign
     for (size_t i = sizeof said; i < sizeof heard; i++) EXPECT(heard[i] == 0);
 }
 
-static void expect_reading(void) {
+static void expect_reading(uint64_t rule) {
     struct dsr_reading r;
     mark();
-    expect_read(&r, dsr_read_utterance(image, sizeof image, &zero, heard, sizeof heard, report, sizeof report, &r), 0, 0, 0);
+    expect_read(&r, dsr_read_utterance(image, sizeof image, rule, &zero, heard, sizeof heard, report, sizeof report, &r), 0, 0, 0);
     for (size_t i = 0; i < sizeof report; i++) EXPECT(report[i] == 0);
     image[6] ^= 1;
-    expect_read(&r, dsr_read_utterance(image, sizeof image, &zero, heard, sizeof heard, report, sizeof report, &r), 1, 0, 0);
+    expect_read(&r, dsr_read_utterance(image, sizeof image, rule, &zero, heard, sizeof heard, report, sizeof report, &r), 1, 0, 0);
     EXPECT(report[1] == DSR_PAIR_CRC && memcmp(heard, said + 2 * DSR_FRAME_INDICES, DSR_FRAME_INDICES) == 0);
     image[6] ^= 1;
 }
 
 /* A struct that was used before shows a refusal all the same. */
-static void expect_reading_refusals(void) {
+static void expect_reading_refusals(uint64_t rule) {
     struct dsr_reading r;
+    const size_t n = sizeof image, h = sizeof heard, p = sizeof report;
     memset(&r, MARK, sizeof r);
     mark();
-    expect_not_read(&r, dsr_read_utterance(image, 287, &zero, heard, sizeof heard, report, sizeof report, &r), DSR_READ_CUT, 144);
-    expect_not_read(&r, dsr_read_utterance(said, sizeof said, &zero, heard, sizeof heard, report, sizeof report, &r), DSR_READ_UNKNOWN, 0);
-    expect_not_read(&r, dsr_read_utterance(image, sizeof image, &zero, heard, 335, report, sizeof report, &r), DSR_READ_INDEX_SHORT, 336);
-    expect_not_read(&r, dsr_read_utterance(image, sizeof image, &zero, heard, sizeof heard, report, 25, &r), DSR_READ_REPORT_SHORT, 26);
+    expect_not_read(&r, dsr_read_utterance(image, 287, rule, &zero, heard, h, report, p, &r), DSR_READ_CUT, 144);
+    expect_not_read(&r, dsr_read_utterance(said, sizeof said, rule, &zero, heard, h, report, p, &r), DSR_READ_UNKNOWN, 0);
+    expect_not_read(&r, dsr_read_utterance(image, n, rule, &zero, heard, 335, report, p, &r), DSR_READ_INDEX_SHORT, 336);
+    expect_not_read(&r, dsr_read_utterance(image, n, rule, &zero, heard, h, report, 25, &r), DSR_READ_REPORT_SHORT, 26);
 }
 
-static void expect_reading_null(void) {
+static void expect_reading_null(uint64_t rule) {
     struct dsr_reading r;
+    const size_t n = sizeof image, h = sizeof heard, p = sizeof report;
     mark();
-    expect_not_read(&r, dsr_read_utterance(image, sizeof image, NULL, heard, sizeof heard, report, sizeof report, &r), DSR_READ_TABLES, 0);
-    expect_not_read(&r, dsr_read_utterance(NULL, 0, &zero, heard, sizeof heard, report, sizeof report, &r), DSR_READ_NO_MULTIFRAME, 0);
-    expect_not_read(&r, dsr_read_utterance(image, sizeof image, &zero, NULL, 0, report, sizeof report, &r), DSR_READ_INDEX_SHORT, 336);
-    expect_not_read(&r, dsr_read_utterance(image, sizeof image, &zero, heard, sizeof heard, NULL, 0, &r), DSR_READ_REPORT_SHORT, 26);
-    expect_not_read(&r, dsr_read_utterance(image, SIZE_MAX, &zero, heard, sizeof heard, report, sizeof report, &r), DSR_WRONG_LENGTH, 0);
-    expect_not_read(&r, dsr_read_utterance(NULL, 1, NULL, heard, sizeof heard, report, sizeof report, &r), DSR_WRONG_LENGTH, 0);
-    expect_not_read(&r, dsr_read_utterance(image, sizeof image, &zero, NULL, 336, report, sizeof report, &r), DSR_WRONG_LENGTH, 0);
-    expect_not_read(&r, dsr_read_utterance(image, sizeof image, &zero, heard, sizeof heard, NULL, 26, &r), DSR_WRONG_LENGTH, 0);
+    expect_not_read(&r, dsr_read_utterance(image, n, rule, NULL, heard, h, report, p, &r), DSR_READ_TABLES, 0);
+    expect_not_read(&r, dsr_read_utterance(NULL, 0, rule, &zero, heard, h, report, p, &r), DSR_READ_NO_MULTIFRAME, 0);
+    expect_not_read(&r, dsr_read_utterance(image, n, rule, &zero, NULL, 0, report, p, &r), DSR_READ_INDEX_SHORT, 336);
+    expect_not_read(&r, dsr_read_utterance(image, n, rule, &zero, heard, h, NULL, 0, &r), DSR_READ_REPORT_SHORT, 26);
+    expect_not_read(&r, dsr_read_utterance(image, SIZE_MAX, rule, &zero, heard, h, report, p, &r), DSR_WRONG_LENGTH, 0);
+    expect_not_read(&r, dsr_read_utterance(NULL, 1, rule, NULL, heard, h, report, p, &r), DSR_WRONG_LENGTH, 0);
+    expect_not_read(&r, dsr_read_utterance(image, n, rule, &zero, NULL, 336, report, p, &r), DSR_WRONG_LENGTH, 0);
+    expect_not_read(&r, dsr_read_utterance(image, n, rule, &zero, heard, h, NULL, 26, &r), DSR_WRONG_LENGTH, 0);
 }
 
 /* Each table is lent at its place: thresholds that every rise exceeds make the pair before a failed CRC bad too. */
-static void expect_tables_lent(void) {
+static void expect_tables_lent(uint64_t rule) {
     static struct dsr_tables strict;
     struct dsr_reading r;
+    memset(&strict, 0, sizeof strict);
     for (size_t i = 0; i < DSR_THRESHOLD_NUMBERS; i++) strict.thresholds[i] = -1;
     image[6 + 92 * 3 / 8] ^= 0x10; /* stream bit 280, in pair 3 */
-    EXPECT(dsr_read_utterance(image, sizeof image, &strict, heard, sizeof heard, report, sizeof report, &r) == DSR_DONE);
+    EXPECT(dsr_read_utterance(image, sizeof image, rule, &strict, heard, sizeof heard, report, sizeof report, &r) == DSR_DONE);
     EXPECT(report[3] == DSR_PAIR_BAD && report[4] == DSR_PAIR_CRC && report[5] == DSR_PAIR_BAD);
     for (size_t i = 0; i < DSR_CODEBOOK_NUMBERS; i++) strict.codebook[i] = -(int32_t)(2 * i);
     for (size_t i = 0; i < DSR_THRESHOLD_NUMBERS; i++) strict.thresholds[i] = 3000;
-    EXPECT(dsr_read_utterance(image, sizeof image, &strict, heard, sizeof heard, report, sizeof report, &r) == DSR_DONE);
+    EXPECT(dsr_read_utterance(image, sizeof image, rule, &strict, heard, sizeof heard, report, sizeof report, &r) == DSR_DONE);
     EXPECT(report[3] == DSR_PAIR_GOOD && report[4] == DSR_PAIR_CRC && report[5] == DSR_PAIR_GOOD);
     image[6 + 92 * 3 / 8] ^= 0x10;
 }
@@ -206,27 +220,115 @@ static void expect_hunted(void) {
     EXPECT(dsr_hunt_multiframe(NULL, 144, 5, 17, &h) == DSR_WRONG_LENGTH && h.place == 0 && h.found == UINT64_MAX && h.tested == 0);
 }
 
-static void expect_hunt_reads(void) {
+static void expect_hunt_reads(uint64_t rule) {
     struct dsr_reading r;
     mark();
-    expect_read(&r, dsr_hunt_utterance(modem, sizeof modem, 0, 14, &zero, heard, sizeof heard, report, sizeof report, &r), 0, 32, 21);
+    expect_read(&r, dsr_hunt_utterance(modem, sizeof modem, 0, 14, rule, &zero, heard, sizeof heard, report, sizeof report, &r), 0, 32, 21);
     for (size_t i = 0; i < sizeof report; i++) EXPECT(report[i] == 0);
-    expect_read(&r, dsr_hunt_utterance(modem, sizeof modem, 19, 16, &zero, heard, sizeof heard, report, sizeof report, &r), 0, 13, 2);
+    expect_read(&r, dsr_hunt_utterance(modem, sizeof modem, 19, 16, rule, &zero, heard, sizeof heard, report, sizeof report, &r), 0, 13, 2);
 }
 
-static void expect_hunt_refusals(void) {
+static void expect_hunt_refusals(uint64_t rule) {
     struct dsr_reading r;
     const size_t n = sizeof modem, h = sizeof heard, p = sizeof report;
     mark();
-    expect_not_read(&r, dsr_hunt_utterance(modem, n, 0, 11, NULL, heard, h, report, p, &r), DSR_READ_TABLES, 0);
-    expect_not_read(&r, dsr_hunt_utterance(modem, n, 0, 11, &zero, heard, h, report, p, &r), DSR_HUNT_MATCH, 11);
-    expect_not_read(&r, dsr_hunt_utterance(modem, n, 9999, 12, &zero, heard, h, report, p, &r), DSR_HUNT_NOWHERE, 9999);
-    expect_not_read(&r, dsr_hunt_utterance(modem, n, 0, 14, &zero, NULL, 0, report, p, &r), DSR_READ_INDEX_SHORT, 336);
-    expect_not_read(&r, dsr_hunt_utterance(modem, n, 0, 14, &zero, heard, h, NULL, 0, &r), DSR_READ_REPORT_SHORT, 26);
-    expect_not_read(&r, dsr_hunt_utterance(NULL, 0, 0, 14, &zero, heard, h, report, p, &r), DSR_HUNT_NOWHERE, 0);
-    expect_not_read(&r, dsr_hunt_utterance(NULL, 1, 0, 11, NULL, heard, h, report, p, &r), DSR_WRONG_LENGTH, 0);
-    expect_not_read(&r, dsr_hunt_utterance(modem, n, 0, 14, &zero, NULL, 336, report, p, &r), DSR_WRONG_LENGTH, 0);
-    expect_not_read(&r, dsr_hunt_utterance(modem, n, 0, 14, &zero, heard, h, NULL, 26, &r), DSR_WRONG_LENGTH, 0);
+    expect_not_read(&r, dsr_hunt_utterance(modem, n, 0, 11, rule, NULL, heard, h, report, p, &r), DSR_READ_TABLES, 0);
+    expect_not_read(&r, dsr_hunt_utterance(modem, n, 0, 11, rule, &zero, heard, h, report, p, &r), DSR_HUNT_MATCH, 11);
+    expect_not_read(&r, dsr_hunt_utterance(modem, n, 9999, 12, rule, &zero, heard, h, report, p, &r), DSR_HUNT_NOWHERE, 9999);
+    expect_not_read(&r, dsr_hunt_utterance(modem, n, 0, 14, rule, &zero, NULL, 0, report, p, &r), DSR_READ_INDEX_SHORT, 336);
+    expect_not_read(&r, dsr_hunt_utterance(modem, n, 0, 14, rule, &zero, heard, h, NULL, 0, &r), DSR_READ_REPORT_SHORT, 26);
+    expect_not_read(&r, dsr_hunt_utterance(NULL, 0, 0, 14, rule, &zero, heard, h, report, p, &r), DSR_HUNT_NOWHERE, 0);
+    expect_not_read(&r, dsr_hunt_utterance(NULL, 1, 0, 11, rule, NULL, heard, h, report, p, &r), DSR_WRONG_LENGTH, 0);
+    expect_not_read(&r, dsr_hunt_utterance(modem, n, 0, 14, rule, &zero, NULL, 336, report, p, &r), DSR_WRONG_LENGTH, 0);
+    expect_not_read(&r, dsr_hunt_utterance(modem, n, 0, 14, rule, &zero, heard, h, NULL, 26, &r), DSR_WRONG_LENGTH, 0);
+}
+
+/* dsr_read and dsr_read_bits themselves, of so many octets of the image, a codebook of that length and an answer of that length. */
+static uint32_t plain_read(size_t octets, uint64_t choices, size_t codebook_len, size_t answer_len) {
+    mark();
+    return dsr_read(image, octets, choices, zero.codebook, codebook_len, zero.thresholds, DSR_THRESHOLD_NUMBERS, heard, sizeof heard,
+                    report, sizeof report, answer, answer_len, &place);
+}
+
+static uint32_t plain_read_bits(size_t octets, uint64_t choices, size_t codebook_len, size_t answer_len) {
+    mark();
+    return dsr_read_bits(image, octets, 0, DSR_LEAST_MATCH, choices, zero.codebook, codebook_len, zero.thresholds, DSR_THRESHOLD_NUMBERS,
+                         heard, sizeof heard, report, sizeof report, answer, answer_len, &place);
+}
+
+/* An only multiframe is refused by default, however clean; 16 comes behind 11 and before 18. */
+static void expect_only_refused(void) {
+    const size_t one = DSR_MULTIFRAME_OCTETS, h = sizeof heard, p = sizeof report;
+    const uint64_t rule = DSR_DEFAULT_CHOICES;
+    struct dsr_reading r;
+    EXPECT(plain_read(one, rule, DSR_CODEBOOK_NUMBERS, DSR_ANSWER_NUMBERS) == DSR_READ_UNSETTLED && place == 0 && buffers_stay());
+    EXPECT(plain_read_bits(one, rule, DSR_CODEBOOK_NUMBERS, DSR_BITS_ANSWER_NUMBERS) == DSR_READ_UNSETTLED && place == 0 && buffers_stay());
+    EXPECT(plain_read(one, rule, 0, DSR_ANSWER_NUMBERS) == DSR_READ_TABLES && place == 0 && buffers_stay());
+    mark();
+    expect_not_read(&r, dsr_read_utterance(image, one, rule, &zero, heard, h, report, p, &r), DSR_READ_UNSETTLED, 0);
+    expect_not_read(&r, dsr_read_utterance(image, one, rule, &zero, NULL, 0, NULL, 0, &r), DSR_READ_UNSETTLED, 0);
+    expect_not_read(&r, dsr_hunt_utterance(image, one, 0, 16, rule, &zero, heard, h, report, p, &r), DSR_READ_UNSETTLED, 0);
+    expect_not_read(&r, dsr_hunt_utterance(image, one, 0, 16, rule, NULL, heard, h, report, p, &r), DSR_READ_TABLES, 0);
+}
+
+static void expect_only_read(const struct dsr_reading *r, enum dsr_status got) {
+    EXPECT(got == DSR_DONE && r->status == DSR_DONE && r->rate == DSR_RATE_11_KHZ && r->type == DSR_STANDARD);
+    EXPECT(r->multiframes == 1 && r->speech == 24 && r->bad == 0 && r->end == 0 && r->outside == 0);
+    EXPECT(memcmp(heard, said, DSR_MULTIFRAME_INDICES) == 0);
+    EXPECT(marked(heard + DSR_MULTIFRAME_INDICES, sizeof heard - DSR_MULTIFRAME_INDICES));
+    for (size_t i = 0; i < DSR_MULTIFRAME_REPORT; i++) EXPECT(report[i] == 0);
+    EXPECT(marked(report + DSR_MULTIFRAME_REPORT, sizeof report - DSR_MULTIFRAME_REPORT));
+}
+
+static void expect_only_read_by_name(void) {
+    const size_t one = DSR_MULTIFRAME_OCTETS, h = sizeof heard, p = sizeof report;
+    const uint64_t rule = DSR_ONE_HEADER_SETTLES;
+    struct dsr_reading r;
+    mark();
+    expect_only_read(&r, dsr_read_utterance(image, one, rule, &zero, heard, h, report, p, &r));
+    mark();
+    expect_only_read(&r, dsr_hunt_utterance(image, one, 0, 16, rule, &zero, heard, h, report, p, &r));
+    mark();
+    expect_not_read(&r, dsr_read_utterance(image, one, rule, &zero, NULL, 0, report, p, &r), DSR_READ_INDEX_SHORT, 168);
+    expect_not_read(&r, dsr_hunt_utterance(image, one, 0, 16, rule, &zero, heard, h, NULL, 0, &r), DSR_READ_REPORT_SHORT, 13);
+}
+
+/* An only header that is no codeword settles by neither rule: with one flip or two it is mended, with three it is lost and not found. */
+static void expect_touched_header_refused(uint64_t rule) {
+    const size_t one = DSR_MULTIFRAME_OCTETS, h = sizeof heard, p = sizeof report;
+    static const uint8_t flips[3] = {0x01, 0x81, 0x83};
+    struct dsr_reading r;
+    mark();
+    for (size_t i = 0; i < sizeof flips; i++) {
+        enum dsr_status hunted = flips[i] == 0x83 ? DSR_HUNT_NOWHERE : DSR_READ_UNSETTLED;
+        image[2] = (uint8_t)(image[2] ^ flips[i]);
+        expect_not_read(&r, dsr_read_utterance(image, one, rule, &zero, heard, h, report, p, &r), DSR_READ_UNSETTLED, 0);
+        expect_not_read(&r, dsr_hunt_utterance(image, one, 0, 16, rule, &zero, heard, h, report, p, &r), hunted, 0);
+        image[2] = (uint8_t)(image[2] ^ flips[i]);
+    }
+}
+
+/* Every other number is no choice, also one that is a choice where it is cut to fewer bits. It comes behind a short answer and before all
+ * else, and all lent memory stays, the place too. */
+static void expect_no_such_choice(void) {
+    static const uint64_t none[] = {2, 3, 255, 256, 257, 65536, 65537, 0x100000000, 0x100000001, 0x8000000000000001, UINT64_MAX};
+    static const size_t lengths[] = {0, 143, 144, sizeof image}; /* refused with 14 and 13, one multiframe, two */
+    const size_t n = sizeof image, h = sizeof heard, p = sizeof report, six = DSR_ANSWER_NUMBERS, eight = DSR_BITS_ANSWER_NUMBERS;
+    struct dsr_reading r;
+    for (size_t i = 0; i < sizeof none / sizeof *none; i++) {
+        for (size_t k = 0; k < sizeof lengths / sizeof *lengths; k++) {
+            for (size_t codebook = 0; codebook <= DSR_CODEBOOK_NUMBERS; codebook += DSR_CODEBOOK_NUMBERS) {
+                EXPECT(plain_read(lengths[k], none[i], codebook, six) == DSR_NO_SUCH_CHOICE && marks_stay());
+                EXPECT(plain_read_bits(lengths[k], none[i], codebook, eight) == DSR_NO_SUCH_CHOICE && marks_stay());
+                EXPECT(plain_read(lengths[k], none[i], codebook, six - 1) == DSR_READ_ANSWER_SHORT && marks_stay());
+                EXPECT(plain_read_bits(lengths[k], none[i], codebook, eight - 1) == DSR_READ_ANSWER_SHORT && marks_stay());
+            }
+        }
+        expect_not_read(&r, dsr_read_utterance(image, n, none[i], NULL, heard, h, report, p, &r), DSR_NO_SUCH_CHOICE, 0);
+        expect_not_read(&r, dsr_hunt_utterance(image, n, 0, 11, none[i], &zero, heard, h, report, p, &r), DSR_NO_SUCH_CHOICE, 0);
+        expect_not_read(&r, dsr_read_utterance(NULL, 1, none[i], &zero, heard, h, report, p, &r), DSR_WRONG_LENGTH, 0);
+        expect_not_read(&r, dsr_hunt_utterance(NULL, 1, 0, 14, none[i], &zero, heard, h, report, p, &r), DSR_WRONG_LENGTH, 0);
+    }
 }
 
 int main(void) {
@@ -238,14 +340,20 @@ int main(void) {
     expect_writing_refusals();
     expect_writing_null();
     expect_writing();
-    expect_reading();
-    expect_reading_refusals();
-    expect_reading_null();
-    expect_tables_lent();
     send_through_modem();
     expect_hunted();
-    expect_hunt_reads();
-    expect_hunt_refusals();
+    for (uint64_t rule = DSR_DEFAULT_CHOICES; rule <= DSR_ONE_HEADER_SETTLES; rule++) {
+        expect_reading(rule);
+        expect_reading_refusals(rule);
+        expect_reading_null(rule);
+        expect_tables_lent(rule);
+        expect_hunt_reads(rule);
+        expect_hunt_refusals(rule);
+        expect_touched_header_refused(rule);
+    }
+    expect_only_refused();
+    expect_only_read_by_name();
+    expect_no_such_choice();
     printf("%u expectations met\n", met);
     return 0;
 }

@@ -10,16 +10,16 @@ extern "C" {
 
 uint32_t __real_dsr_write(uint64_t, uint64_t, const uint8_t *, size_t, uint8_t *, size_t, uint64_t *);
 uint32_t __wrap_dsr_write(uint64_t, uint64_t, const uint8_t *, size_t, uint8_t *, size_t, uint64_t *);
-uint32_t __real_dsr_read(const uint8_t *, size_t, const int32_t *, size_t, const int32_t *, size_t, uint8_t *, size_t, uint8_t *, size_t,
-                         uint64_t *, size_t, uint64_t *);
-uint32_t __wrap_dsr_read(const uint8_t *, size_t, const int32_t *, size_t, const int32_t *, size_t, uint8_t *, size_t, uint8_t *, size_t,
-                         uint64_t *, size_t, uint64_t *);
+uint32_t __real_dsr_read(const uint8_t *, size_t, uint64_t, const int32_t *, size_t, const int32_t *, size_t, uint8_t *, size_t, uint8_t *,
+                         size_t, uint64_t *, size_t, uint64_t *);
+uint32_t __wrap_dsr_read(const uint8_t *, size_t, uint64_t, const int32_t *, size_t, const int32_t *, size_t, uint8_t *, size_t, uint8_t *,
+                         size_t, uint64_t *, size_t, uint64_t *);
 uint32_t __real_dsr_hunt(const uint8_t *, size_t, uint64_t, uint64_t, uint64_t *, uint64_t *, uint64_t *);
 uint32_t __wrap_dsr_hunt(const uint8_t *, size_t, uint64_t, uint64_t, uint64_t *, uint64_t *, uint64_t *);
-uint32_t __real_dsr_read_bits(const uint8_t *, size_t, uint64_t, uint64_t, const int32_t *, size_t, const int32_t *, size_t, uint8_t *,
-                              size_t, uint8_t *, size_t, uint64_t *, size_t, uint64_t *);
-uint32_t __wrap_dsr_read_bits(const uint8_t *, size_t, uint64_t, uint64_t, const int32_t *, size_t, const int32_t *, size_t, uint8_t *,
-                              size_t, uint8_t *, size_t, uint64_t *, size_t, uint64_t *);
+uint32_t __real_dsr_read_bits(const uint8_t *, size_t, uint64_t, uint64_t, uint64_t, const int32_t *, size_t, const int32_t *, size_t,
+                              uint8_t *, size_t, uint8_t *, size_t, uint64_t *, size_t, uint64_t *);
+uint32_t __wrap_dsr_read_bits(const uint8_t *, size_t, uint64_t, uint64_t, uint64_t, const int32_t *, size_t, const int32_t *, size_t,
+                              uint8_t *, size_t, uint8_t *, size_t, uint64_t *, size_t, uint64_t *);
 
 static void expect_lent(int all) {
     if (all) return;
@@ -33,12 +33,12 @@ uint32_t __wrap_dsr_write(uint64_t rate, uint64_t type, const uint8_t *indices, 
     return __real_dsr_write(rate, type, indices, indices_len, out, out_len, place);
 }
 
-uint32_t __wrap_dsr_read(const uint8_t *octets, size_t octets_len, const int32_t *codebook, size_t codebook_len, const int32_t *thresholds,
-                         size_t thresholds_len, uint8_t *index, size_t index_len, uint8_t *report, size_t report_len, uint64_t *answer,
-                         size_t answer_len, uint64_t *place) {
+uint32_t __wrap_dsr_read(const uint8_t *octets, size_t octets_len, uint64_t choices, const int32_t *codebook, size_t codebook_len,
+                         const int32_t *thresholds, size_t thresholds_len, uint8_t *index, size_t index_len, uint8_t *report,
+                         size_t report_len, uint64_t *answer, size_t answer_len, uint64_t *place) {
     expect_lent(octets && codebook && thresholds && index && report && answer && place);
-    return __real_dsr_read(octets, octets_len, codebook, codebook_len, thresholds, thresholds_len, index, index_len, report, report_len,
-                           answer, answer_len, place);
+    return __real_dsr_read(octets, octets_len, choices, codebook, codebook_len, thresholds, thresholds_len, index, index_len, report,
+                           report_len, answer, answer_len, place);
 }
 
 uint32_t __wrap_dsr_hunt(const uint8_t *octets, size_t octets_len, uint64_t from, uint64_t least, uint64_t *found, uint64_t *tested,
@@ -47,12 +47,13 @@ uint32_t __wrap_dsr_hunt(const uint8_t *octets, size_t octets_len, uint64_t from
     return __real_dsr_hunt(octets, octets_len, from, least, found, tested, place);
 }
 
-uint32_t __wrap_dsr_read_bits(const uint8_t *octets, size_t octets_len, uint64_t from, uint64_t least, const int32_t *codebook,
-                              size_t codebook_len, const int32_t *thresholds, size_t thresholds_len, uint8_t *index, size_t index_len,
-                              uint8_t *report, size_t report_len, uint64_t *answer, size_t answer_len, uint64_t *place) {
+uint32_t __wrap_dsr_read_bits(const uint8_t *octets, size_t octets_len, uint64_t from, uint64_t least, uint64_t choices,
+                              const int32_t *codebook, size_t codebook_len, const int32_t *thresholds, size_t thresholds_len,
+                              uint8_t *index, size_t index_len, uint8_t *report, size_t report_len, uint64_t *answer, size_t answer_len,
+                              uint64_t *place) {
     expect_lent(octets && codebook && thresholds && index && report && answer && place);
-    return __real_dsr_read_bits(octets, octets_len, from, least, codebook, codebook_len, thresholds, thresholds_len, index, index_len,
-                                report, report_len, answer, answer_len, place);
+    return __real_dsr_read_bits(octets, octets_len, from, least, choices, codebook, codebook_len, thresholds, thresholds_len, index,
+                                index_len, report, report_len, answer, answer_len, place);
 }
 
 #ifdef __cplusplus

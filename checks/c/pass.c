@@ -25,26 +25,27 @@ uint32_t dsr_write(uint64_t rate, uint64_t type, const uint8_t *indices, size_t 
     return play_status;
 }
 
-static uint32_t played(const uint8_t *octets, size_t octets_len, uint64_t from, uint64_t least, const int32_t *codebook, size_t codebook_len,
-                       const int32_t *thresholds, size_t thresholds_len, uint8_t *index, size_t index_len, uint8_t *report,
-                       size_t report_len, uint64_t *answer, size_t answer_len, uint64_t *place) {
+static uint32_t played(const uint8_t *octets, size_t octets_len, uint64_t from, uint64_t least, uint64_t choices, const int32_t *codebook,
+                       size_t codebook_len, const int32_t *thresholds, size_t thresholds_len, uint8_t *index, size_t index_len,
+                       uint8_t *report, size_t report_len, uint64_t *answer, size_t answer_len, uint64_t *place) {
     memset(&got, 0, sizeof got);
     got.lent[0] = octets, got.lent[1] = codebook, got.lent[2] = thresholds, got.lent[3] = index, got.lent[4] = report;
     got.number[0] = octets_len, got.number[1] = from, got.number[2] = least, got.number[3] = codebook_len;
     got.number[4] = thresholds_len, got.number[5] = index_len, got.number[6] = report_len, got.number[7] = answer_len;
+    got.number[8] = choices;
     if (play_status == DSR_DONE) memcpy(answer, play, answer_len * sizeof *answer);
     if (play_status != DSR_DONE) *place = play_place;
     return play_status;
 }
 
-uint32_t dsr_read(const uint8_t *o, size_t ol, const int32_t *c, size_t cl, const int32_t *t, size_t tl, uint8_t *i, size_t il, uint8_t *r,
-                  size_t rl, uint64_t *a, size_t al, uint64_t *p) {
-    return played(o, ol, 0, 0, c, cl, t, tl, i, il, r, rl, a, al, p);
+uint32_t dsr_read(const uint8_t *o, size_t ol, uint64_t choices, const int32_t *c, size_t cl, const int32_t *t, size_t tl, uint8_t *i,
+                  size_t il, uint8_t *r, size_t rl, uint64_t *a, size_t al, uint64_t *p) {
+    return played(o, ol, 0, 0, choices, c, cl, t, tl, i, il, r, rl, a, al, p);
 }
 
-uint32_t dsr_read_bits(const uint8_t *o, size_t ol, uint64_t from, uint64_t least, const int32_t *c, size_t cl, const int32_t *t, size_t tl,
-                       uint8_t *i, size_t il, uint8_t *r, size_t rl, uint64_t *a, size_t al, uint64_t *p) {
-    return played(o, ol, from, least, c, cl, t, tl, i, il, r, rl, a, al, p);
+uint32_t dsr_read_bits(const uint8_t *o, size_t ol, uint64_t from, uint64_t least, uint64_t choices, const int32_t *c, size_t cl,
+                       const int32_t *t, size_t tl, uint8_t *i, size_t il, uint8_t *r, size_t rl, uint64_t *a, size_t al, uint64_t *p) {
+    return played(o, ol, from, least, choices, c, cl, t, tl, i, il, r, rl, a, al, p);
 }
 
 uint32_t dsr_hunt(const uint8_t *octets, size_t octets_len, uint64_t from, uint64_t least, uint64_t *found, uint64_t *tested, uint64_t *place) {
@@ -90,11 +91,11 @@ static void write_passes(uint32_t status) {
     EXPECT(w.status == (enum dsr_status)status && w.place == (status ? play_place : 0) && w.octets == (status ? 0 : play_place));
 }
 
-static void expect_passed(uint64_t from, uint64_t least, uint64_t numbers) {
+static void expect_passed(uint64_t from, uint64_t least, uint64_t choices, uint64_t numbers) {
     memset(&want, 0, sizeof want);
     want.lent[0] = a, want.lent[1] = tables.codebook, want.lent[2] = tables.thresholds, want.lent[3] = b, want.lent[4] = c;
     want.number[0] = length(1), want.number[1] = from, want.number[2] = least, want.number[3] = 1280, want.number[4] = 14;
-    want.number[5] = length(2), want.number[6] = length(3), want.number[7] = numbers;
+    want.number[5] = length(2), want.number[6] = length(3), want.number[7] = numbers, want.number[8] = choices;
     EXPECT(memcmp(&got, &want, sizeof want) == 0);
 }
 
@@ -109,12 +110,12 @@ static void reads_pass(uint32_t status) {
     struct dsr_reading r;
     memset(&r, 0xA5, sizeof r);
     play_status = status, play_place = wide(7);
-    EXPECT(dsr_read_utterance(a, length(1), &tables, b, length(2), c, length(3), &r) == (enum dsr_status)status);
-    expect_passed(0, 0, 6);
+    EXPECT(dsr_read_utterance(a, length(1), wide(6), &tables, b, length(2), c, length(3), &r) == (enum dsr_status)status);
+    expect_passed(0, 0, wide(6), 6);
     expect_said(&r, status, 0);
     memset(&r, 0xA5, sizeof r);
-    EXPECT(dsr_hunt_utterance(a, length(1), wide(4), wide(5), &tables, b, length(2), c, length(3), &r) == (enum dsr_status)status);
-    expect_passed(wide(4), wide(5), 8);
+    EXPECT(dsr_hunt_utterance(a, length(1), wide(4), wide(5), wide(6), &tables, b, length(2), c, length(3), &r) == (enum dsr_status)status);
+    expect_passed(wide(4), wide(5), wide(6), 8);
     expect_said(&r, status, 1);
 }
 
@@ -145,6 +146,7 @@ int main(void) {
     EXPECT(dsr_hunt_multiframe(NULL, 1, 0, 14, &h) == DSR_WRONG_LENGTH && h.status == DSR_WRONG_LENGTH);
     EXPECT(DSR_HEADER_LOST == 3 && DSR_HEADER_COUNTER == 4 && DSR_HEADER_DIFFERS == 8);
     EXPECT(DSR_RATE_8_KHZ == 0 && DSR_RATE_11_KHZ == 1 && DSR_RATE_16_KHZ == 3 && DSR_STANDARD == 0 && DSR_NOISE_ROBUST == 1);
+    EXPECT(DSR_DEFAULT_CHOICES == 0 && DSR_ONE_HEADER_SETTLES == 1 && DSR_NO_SUCH_CHOICE == 96);
     printf("%u expectations met\n", met);
     return 0;
 }
