@@ -81,7 +81,7 @@ refusals! {
 }
 
 impl Error {
-    /// Nothing for success, else the refusal. dsr.h's own numbers, from 97 on, never come here: the types of the callers rule them out.
+    /// Nothing for success, else the refusal. dsr.h's own numbers, from 96 on, never come here: the types of the callers rule them out.
     pub(crate) fn check(status: Status, place: u64) -> Result<(), Error> {
         match status {
             DONE => Ok(()),

@@ -1,7 +1,7 @@
 //! The hunt for a multiframe at any bit, and the reader that hunts.
 use crate::library::{self, Lent};
 use crate::reading::lent_part;
-use crate::{Error, HuntRefused, Reading, Tables, Utterance};
+use crate::{Choices, Error, HuntRefused, Reading, Tables, Utterance};
 
 /// Where a hunt ended.
 #[derive(Debug, Clone, Copy, PartialEq, Eq, Hash)]
@@ -52,16 +52,16 @@ pub struct BitsReading<B> {
 /// is read as [`read_into`](crate::read_into) does it, with its syncs taken as whole, into lent buffers.
 ///
 /// Refusals: 21, 22 and 15 to 20, and neither buffer is touched. [`Error::ReadTooMany`] (15) is here a match after 255 multiframes, a cut
-/// one is none, and its place a bit.
+/// one is none, and its place a bit. By [`Choices::DEFAULT`] a multiframe that alone was found is refused with 16.
 ///
 /// ```
-/// use dsr::{read_bits_into, write_into, FrontEnd, Rate, Settings, Tables};
-/// let mut modem = [0; 150];
-/// write_into(Settings::new(Rate::Khz8, FrontEnd::Standard), &[7; 7], &mut modem[3..])?;
-/// modem[3] ^= 1; // the link flips a bit of the sync
-/// let (mut index, mut report) = ([0; 168], [0; 13]);
-/// let found = read_bits_into(&modem, 0, 14, &Tables::ZEROS, &mut index, &mut report)?;
-/// assert_eq!((found.utterance.reading.speech, found.outside, found.tested), (1, 48, 25));
+/// use dsr::{read_bits_into, write_into, Choices, FrontEnd, Rate, Settings, Tables};
+/// let mut modem = [0; 294];
+/// write_into(Settings::new(Rate::Khz8, FrontEnd::Standard), &[7; 168], &mut modem[3..])?;
+/// modem[3] ^= 1; // the link flips a bit of the first sync
+/// let (mut index, mut report) = ([0; 336], [0; 26]);
+/// let found = read_bits_into(&modem, 0, 14, &Tables::ZEROS, Choices::DEFAULT, &mut index, &mut report)?;
+/// assert_eq!((found.utterance.reading.speech, found.outside, found.tested), (24, 48, 26));
 /// # Ok::<(), dsr::Error>(())
 /// ```
 pub fn read_bits_into<'b>(
@@ -69,10 +69,11 @@ pub fn read_bits_into<'b>(
     from: u64,
     least: u64,
     tables: &Tables<'_>,
+    choices: Choices,
     index: &'b mut [u8],
     report: &'b mut [u8],
 ) -> Result<BitsReading<&'b [u8]>, Error> {
-    let Totals { reading, outside, tested } = read_found(octets, from, least, tables, (index, report))?;
+    let Totals { reading, outside, tested } = read_found(octets, from, least, tables, choices, (index, report))?;
     Ok(BitsReading { utterance: lent_part(reading, index, report), outside, tested })
 }
 
@@ -80,16 +81,22 @@ pub fn read_bits_into<'b>(
 /// 20; there is always room.
 ///
 /// ```
-/// use dsr::{read_bits, write, FrontEnd, Rate, Settings, Tables};
+/// use dsr::{read_bits, write, Choices, FrontEnd, Rate, Settings, Tables};
 /// let settings = Settings::new(Rate::Khz8, FrontEnd::Standard);
-/// let found = read_bits(&write(settings, &[7; 70])?, 0, 16, &Tables::ZEROS)?;
-/// assert_eq!((found.utterance.spoken(), found.outside), (&[7; 70][..], 0));
+/// let found = read_bits(&write(settings, &[7; 210])?, 0, 16, &Tables::ZEROS, Choices::DEFAULT)?;
+/// assert_eq!((found.utterance.spoken(), found.outside), (&[7; 210][..], 0));
 /// # Ok::<(), dsr::Error>(())
 /// ```
 #[cfg(feature = "alloc")]
-pub fn read_bits(octets: &[u8], from: u64, least: u64, tables: &Tables<'_>) -> Result<BitsReading<alloc::vec::Vec<u8>>, Error> {
+pub fn read_bits(
+    octets: &[u8],
+    from: u64,
+    least: u64,
+    tables: &Tables<'_>,
+    choices: Choices,
+) -> Result<BitsReading<alloc::vec::Vec<u8>>, Error> {
     let (mut index, mut report) = crate::reading::rooms(octets);
-    let Totals { reading, outside, tested } = read_found(octets, from, least, tables, (&mut index, &mut report))?;
+    let Totals { reading, outside, tested } = read_found(octets, from, least, tables, choices, (&mut index, &mut report))?;
     Ok(BitsReading { utterance: crate::reading::own_part(reading, index, report), outside, tested })
 }
 
@@ -105,11 +112,12 @@ fn read_found(
     from: u64,
     least: u64,
     tables: &Tables<'_>,
+    choices: Choices,
     (index, report): (&mut [u8], &mut [u8]),
 ) -> Result<Totals, Error> {
     let lent = Lent { codebook: tables.codebook(), thresholds: tables.thresholds(), index, report };
     let (mut answer, mut place) = ([0; 8], 0);
-    let status = library::read_bits(octets, from, least, lent, &mut answer, &mut place);
+    let status = library::read_bits(octets, from, least, choices.number(), lent, &mut answer, &mut place);
     Error::check(status, place)?;
     let [rate, kind, multiframes, speech, bad, end, outside, tested] = answer;
     Ok(Totals { reading: Reading::of([rate, kind, multiframes, speech, bad, end]), outside, tested })

@@ -2,17 +2,19 @@
 //!
 //! A terminal turns speech into frames of seven indices. [`write`](crate::write_into) packs the frames of an utterance into protected
 //! multiframes; [`read`](crate::read_into) takes received octets apart again, mends headers with up to two flipped bits, and finds, names
-//! and replaces damaged pairs of frames. [`read_bits`](crate::read_bits_into) does so for bits with no octet boundary.
+//! and replaces damaged pairs of frames. [`read_bits`](crate::read_bits_into) does so for bits with no octet boundary. Each reading says by
+//! [`Choices`] what is to become of an only multiframe.
 //!
 #![cfg_attr(feature = "alloc", doc = "```")]
 #![cfg_attr(not(feature = "alloc"), doc = "```ignore")]
-//! use dsr::{read, write, FrontEnd, PairNote, Rate, Settings, Tables};
+//! use dsr::{read, write, Choices, FrontEnd, PairNote, Rate, Settings, Tables};
 //!
-//! let said = [[5, 12, 63, 0, 7, 9, 255], [6, 11, 60, 1, 7, 9, 250], [8, 10, 58, 1, 8, 9, 249]];
+//! // 24 frames: two multiframes, whose headers agree
+//! let said = [[5, 12, 63, 0, 7, 9, 255], [6, 11, 60, 1, 7, 9, 250], [8, 10, 58, 1, 8, 9, 249]].repeat(8);
 //! let mut image = write(Settings::new(Rate::Khz8, FrontEnd::Standard), said.as_flattened())?;
 //! image[6] ^= 1; // the link flips a bit of the first pair
-//! let heard = read(&image, &Tables::ZEROS)?;
-//! assert_eq!((heard.reading.settings.rate, heard.reading.speech, heard.reading.bad), (Rate::Khz8, 3, 1));
+//! let heard = read(&image, &Tables::ZEROS, Choices::DEFAULT)?;
+//! assert_eq!((heard.reading.settings.rate, heard.reading.speech, heard.reading.bad), (Rate::Khz8, 24, 1));
 //! assert_eq!(heard.pairs().next().map(|pair| pair.note), Some(PairNote::CrcFailed));
 //! assert_eq!(heard.frames().next(), Some(&said[2])); // replaced by the good frame after it
 //! # Ok::<(), dsr::Error>(())
@@ -33,6 +35,7 @@
 #[cfg(feature = "alloc")]
 extern crate alloc;
 
+mod choices;
 mod error;
 mod header;
 mod hunting;
@@ -47,6 +50,7 @@ mod tables;
 mod utterance;
 mod writing;
 
+pub use choices::Choices;
 pub use error::{Error, HuntRefused};
 pub use header::{header_encode, header_read, Header};
 #[cfg(feature = "alloc")]

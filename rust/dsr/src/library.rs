@@ -29,6 +29,7 @@ mod declared {
         pub fn dsr_read(
             octets: *const u8,
             octets_len: usize,
+            choices: u64,
             codebook: *const i32,
             codebook_len: usize,
             thresholds: *const i32,
@@ -55,6 +56,7 @@ mod declared {
             octets_len: usize,
             from: u64,
             least: u64,
+            choices: u64,
             codebook: *const i32,
             codebook_len: usize,
             thresholds: *const i32,
@@ -111,12 +113,13 @@ pub fn write(rate: u64, kind: u64, indices: &[u8], out: &mut [u8], place: &mut u
     unsafe { declared::dsr_write(rate, kind, indices.as_ptr(), indices.len(), out.as_mut_ptr(), out.len(), place) }
 }
 
-pub fn read(octets: &[u8], lent: Lent<'_>, answer: &mut [u64; 6], place: &mut u64) -> Status {
+pub fn read(octets: &[u8], choices: u64, lent: Lent<'_>, answer: &mut [u64; 6], place: &mut u64) -> Status {
     // Sound: each pointer goes with its slice's or array's own length, and what is written is lent by `&mut`.
     unsafe {
         declared::dsr_read(
             octets.as_ptr(),
             octets.len(),
+            choices,
             lent.codebook.as_ptr(),
             lent.codebook.len(),
             lent.thresholds.as_ptr(),
@@ -137,7 +140,15 @@ pub fn hunt(octets: &[u8], from: u64, least: u64, found: &mut u64, tested: &mut 
     unsafe { declared::dsr_hunt(octets.as_ptr(), octets.len(), from, least, found, tested, place) }
 }
 
-pub fn read_bits(octets: &[u8], from: u64, least: u64, lent: Lent<'_>, answer: &mut [u64; 8], place: &mut u64) -> Status {
+pub fn read_bits(
+    octets: &[u8],
+    from: u64,
+    least: u64,
+    choices: u64,
+    lent: Lent<'_>,
+    answer: &mut [u64; 8],
+    place: &mut u64,
+) -> Status {
     // Sound: each pointer goes with its slice's or array's own length, and what is written is lent by `&mut`.
     unsafe {
         declared::dsr_read_bits(
@@ -145,6 +156,7 @@ pub fn read_bits(octets: &[u8], from: u64, least: u64, lent: Lent<'_>, answer: &
             octets.len(),
             from,
             least,
+            choices,
             lent.codebook.as_ptr(),
             lent.codebook.len(),
             lent.thresholds.as_ptr(),

@@ -1,30 +1,32 @@
 //! The octet reader.
 use crate::library::{self, Lent};
-use crate::{Error, Reading, Tables, Utterance, MULTIFRAME_INDICES, MULTIFRAME_REPORT};
+use crate::{Choices, Error, Reading, Tables, Utterance, MULTIFRAME_INDICES, MULTIFRAME_REPORT};
 
 /// `read_into` reads received octets into lent buffers: all frames to `index`, 168 octets a multiframe, and a header note and twelve pair
 /// notes to `report`, 13 octets a multiframe. Octets beyond them stay.
 ///
-/// Refusals: 12 to 20, and neither buffer is touched. (11 is given by [`Tables::new`].) A caller who cannot know the number of multiframes
-/// lends buffers for [`most_multiframes`](crate::most_multiframes).
+/// Refusals: 12 to 20, and neither buffer is touched. (11 is given by [`Tables::new`].) By [`Choices::DEFAULT`] an only multiframe is
+/// refused with 16. A caller who cannot know the number of multiframes lends buffers for
+/// [`most_multiframes`](crate::most_multiframes).
 ///
 /// ```
-/// use dsr::{read_into, write_into, FrontEnd, Rate, Settings, Tables};
+/// use dsr::{read_into, write_into, Choices, FrontEnd, Rate, Settings, Tables};
 /// let settings = Settings::new(Rate::Khz11, FrontEnd::NoiseRobust);
-/// let (mut image, mut index, mut report) = ([0; 144], [0; 168], [0; 13]);
-/// write_into(settings, &[5, 12, 63, 0, 7, 9, 255], &mut image)?;
-/// let heard = read_into(&image, &Tables::ZEROS, &mut index, &mut report)?;
-/// assert_eq!((heard.reading.settings, heard.reading.speech, heard.reading.end), (settings, 1, true));
+/// let (mut image, mut index, mut report) = ([0; 288], [0; 336], [0; 26]);
+/// write_into(settings, &[5, 12, 63, 0, 7, 9, 255].repeat(24), &mut image)?;
+/// let heard = read_into(&image, &Tables::ZEROS, Choices::DEFAULT, &mut index, &mut report)?;
+/// assert_eq!((heard.reading.settings, heard.reading.speech, heard.reading.end), (settings, 24, true));
 /// assert_eq!(heard.frames().next(), Some(&[5, 12, 63, 0, 7, 9, 255]));
 /// # Ok::<(), dsr::Error>(())
 /// ```
 pub fn read_into<'b>(
     octets: &[u8],
     tables: &Tables<'_>,
+    choices: Choices,
     index: &'b mut [u8],
     report: &'b mut [u8],
 ) -> Result<Utterance<&'b [u8]>, Error> {
-    let reading = read_octets(octets, tables, index, report)?;
+    let reading = read_octets(octets, tables, choices, (index, report))?;
     Ok(lent_part(reading, index, report))
 }
 
@@ -32,27 +34,32 @@ pub fn read_into<'b>(
 /// always room.
 ///
 /// ```
-/// use dsr::{read, write, FrontEnd, PairNote, Rate, Settings, Tables};
+/// use dsr::{read, write, Choices, FrontEnd, PairNote, Rate, Settings, Tables};
 /// let settings = Settings::new(Rate::Khz8, FrontEnd::Standard);
-/// let mut image = write(settings, &[5, 12, 63, 0, 7, 9, 255])?;
+/// let mut image = write(settings, &[5, 12, 63, 0, 7, 9, 255].repeat(24))?;
 /// image[17] ^= 1; // the link flips a bit of the first pair's CRC
-/// let heard = read(&image, &Tables::ZEROS)?;
-/// assert_eq!((heard.reading.speech, heard.reading.bad), (0, 1));
+/// let heard = read(&image, &Tables::ZEROS, Choices::DEFAULT)?;
+/// assert_eq!((heard.reading.speech, heard.reading.bad), (24, 1));
 /// let bad: Vec<usize> = heard.pairs().enumerate().filter(|(_, pair)| pair.note.is_bad()).map(|(q, _)| q).collect();
 /// assert_eq!(bad, [0]);
 /// # Ok::<(), dsr::Error>(())
 /// ```
 #[cfg(feature = "alloc")]
-pub fn read(octets: &[u8], tables: &Tables<'_>) -> Result<Utterance<alloc::vec::Vec<u8>>, Error> {
+pub fn read(octets: &[u8], tables: &Tables<'_>, choices: Choices) -> Result<Utterance<alloc::vec::Vec<u8>>, Error> {
     let (mut index, mut report) = rooms(octets);
-    let reading = read_octets(octets, tables, &mut index, &mut report)?;
+    let reading = read_octets(octets, tables, choices, (&mut index, &mut report))?;
     Ok(own_part(reading, index, report))
 }
 
-fn read_octets(octets: &[u8], tables: &Tables<'_>, index: &mut [u8], report: &mut [u8]) -> Result<Reading, Error> {
+fn read_octets(
+    octets: &[u8],
+    tables: &Tables<'_>,
+    choices: Choices,
+    (index, report): (&mut [u8], &mut [u8]),
+) -> Result<Reading, Error> {
     let lent = Lent { codebook: tables.codebook(), thresholds: tables.thresholds(), index, report };
     let (mut answer, mut place) = ([0; 6], 0);
-    let status = library::read(octets, lent, &mut answer, &mut place);
+    let status = library::read(octets, choices.number(), lent, &mut answer, &mut place);
     Error::check(status, place)?;
     Ok(Reading::of(answer))
 }

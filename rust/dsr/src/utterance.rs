@@ -92,12 +92,12 @@ impl<B: AsRef<[u8]>> Utterance<B> {
     /// A listing as dsrlist prints it, of a buffer that was lent:
     ///
     /// ```
-    /// use dsr::{read_into, write_into, FrontEnd, Rate, Settings, Tables};
+    /// use dsr::{read_into, write_into, Choices, FrontEnd, Rate, Settings, Tables};
     /// let mut image = [0; 288];
     /// write_into(Settings::new(Rate::Khz8, FrontEnd::Standard), &[7; 168], &mut image)?;
     /// image[144 + 6] ^= 1; // a flip in the first pair of the second multiframe
     /// let (mut index, mut report) = ([0; 336], [0; 26]);
-    /// let heard = read_into(&image, &Tables::ZEROS, &mut index, &mut report)?;
+    /// let heard = read_into(&image, &Tables::ZEROS, Choices::DEFAULT, &mut index, &mut report)?;
     /// let mut lines = Vec::new();
     /// for multiframe in heard.multiframes() {
     ///     let notes: String = multiframe.pairs().map(|pair| pair.note.to_string()).collect();

@@ -1,8 +1,10 @@
 mod shared;
-use dsr::{hunt, read_bits_into, write_into, Error, FrontEnd, HuntRefused, Hunted, Rate, Settings, Tables};
+use dsr::{hunt, read_bits_into, write_into, Choices, Error, FrontEnd, HuntRefused, Hunted, Rate, Settings, Tables};
 use shared::{all_bad, flip, listing, multiframe, shifted, speech, MULTIFRAME_BITS, SETTINGS};
 
 const SYNC_BITS: usize = 16;
+/// The listing of 01 and most refusals here are of an only multiframe.
+const ONE_SETTLES: Choices = Choices::ONE_HEADER_SETTLES;
 
 #[test]
 fn a_hunt_says_place_and_places_tested() {
@@ -68,7 +70,7 @@ fn the_listing_of_01_at_every_bit() {
     for before in 0..=16 {
         let (mut index, mut report) = ([0xEE; 169], [0xEE; 14]);
         let bits = shifted(&listing(), before, 0);
-        let got = read_bits_into(&bits, 0, 14, &Tables::ZEROS, &mut index, &mut report).unwrap();
+        let got = read_bits_into(&bits, 0, 14, &Tables::ZEROS, ONE_SETTLES, &mut index, &mut report).unwrap();
         let reading = got.utterance.reading;
         assert_eq!((reading.settings, reading.multiframes, reading.speech), (SETTINGS, 1, 1));
         assert_eq!((reading.bad, reading.end, got.utterance.has_notes()), (0, true, false));
@@ -89,7 +91,7 @@ fn a_written_image_reads_back_at_every_bit() {
         flip(&mut bits, before + MULTIFRAME_BITS);
         flip(&mut bits, before + MULTIFRAME_BITS + 15);
         let (mut index, mut report) = ([0xEE; 504], [0xEE; 39]);
-        let got = read_bits_into(&bits, 0, 14, &Tables::ZEROS, &mut index, &mut report).unwrap();
+        let got = read_bits_into(&bits, 0, 14, &Tables::ZEROS, Choices::DEFAULT, &mut index, &mut report).unwrap();
         let reading = got.utterance.reading;
         assert_eq!((reading.settings, reading.multiframes, reading.speech), (settings, 3, 60));
         assert_eq!((reading.bad, reading.end, got.utterance.spoken()), (0, true, &said[..]));
@@ -108,7 +110,7 @@ fn bits_outside_are_counted() {
     bits.extend(multiframe(count_2));
     bits.extend([0; 160]);
     let (mut index, mut report) = ([0xEE; 336], [0xEE; 26]);
-    let got = read_bits_into(&bits, 1, 16, &Tables::ZEROS, &mut index, &mut report).unwrap();
+    let got = read_bits_into(&bits, 1, 16, &Tables::ZEROS, Choices::DEFAULT, &mut index, &mut report).unwrap();
     let reading = got.utterance.reading;
     assert_eq!((reading.multiframes, reading.speech, got.utterance.report()), (2, 25, &[0; 26][..]));
     let (before, between, behind) = (3, 8 * second - 3 - MULTIFRAME_BITS + 1, 8 * 160 - MULTIFRAME_BITS + 1);
@@ -121,11 +123,11 @@ fn a_match_after_255_multiframes_is_refused_and_a_cut_one_is_none() {
     let octets = listing().repeat(256);
     let bits = shifted(&octets, 3, 0);
     let (mut index, mut report) = (vec![0xEE; 168 * 255], vec![0xEE; 13 * 255]);
-    let refusal = read_bits_into(&bits, 0, 14, &Tables::ZEROS, &mut index, &mut report).unwrap_err();
+    let refusal = read_bits_into(&bits, 0, 14, &Tables::ZEROS, Choices::DEFAULT, &mut index, &mut report).unwrap_err();
     assert_eq!(refusal, Error::ReadTooMany { place: 3 + 255 * 1152 });
     assert_eq!((&index, &report), (&vec![0xEE; 168 * 255], &vec![0xEE; 13 * 255]));
     let cut = &bits[..bits.len() - 1];
-    let got = read_bits_into(cut, 0, 14, &Tables::ZEROS, &mut index, &mut report).unwrap();
+    let got = read_bits_into(cut, 0, 14, &Tables::ZEROS, Choices::DEFAULT, &mut index, &mut report).unwrap();
     assert_eq!((got.utterance.reading.multiframes, got.outside), (255, (8 * cut.len() - 255 * 1152) as u64));
 }
 
@@ -139,7 +141,7 @@ fn refused_readings_say_number_and_place_and_touch_nothing() {
     let (mut index, mut report) = ([0xEE; 168], [0xEE; 13]);
     let mut refused = |octets: &[u8], least: u64, rooms: (usize, usize)| {
         let bits = shifted(octets, 3, 0);
-        read_bits_into(&bits, 2, least, &Tables::ZEROS, &mut index[..rooms.0], &mut report[..rooms.1]).unwrap_err()
+        read_bits_into(&bits, 2, least, &Tables::ZEROS, ONE_SETTLES, &mut index[..rooms.0], &mut report[..rooms.1]).unwrap_err()
     };
     let (whole, mut one_flip) = (listing(), listing());
     flip(&mut one_flip, 47);
@@ -164,12 +166,12 @@ fn vectors_are_what_buffers_are() {
     for multiframes in [1, 2, 17, 255] {
         let bits = shifted(&listing().repeat(multiframes), 205, 3);
         let (mut index, mut report) = (vec![0; 168 * 255], vec![0; 13 * 255]);
-        let lent = read_bits_into(&bits, 0, 14, &Tables::ZEROS, &mut index, &mut report).unwrap();
-        let own = dsr::read_bits(&bits, 0, 14, &Tables::ZEROS).unwrap();
+        let lent = read_bits_into(&bits, 0, 14, &Tables::ZEROS, ONE_SETTLES, &mut index, &mut report).unwrap();
+        let own = dsr::read_bits(&bits, 0, 14, &Tables::ZEROS, ONE_SETTLES).unwrap();
         assert_eq!((own.outside, own.tested, own.utterance.reading), (lent.outside, lent.tested, lent.utterance.reading));
         assert_eq!((own.utterance.indices(), own.utterance.report()), (lent.utterance.indices(), lent.utterance.report()));
     }
-    let refused = |octets: &[u8], least: u64| dsr::read_bits(octets, 0, least, &Tables::ZEROS).unwrap_err();
+    let refused = |octets: &[u8], least: u64| dsr::read_bits(octets, 0, least, &Tables::ZEROS, ONE_SETTLES).unwrap_err();
     assert_eq!(refused(&[], 17), Error::HuntMatch { place: 17 });
     assert_eq!(refused(&[], 16), Error::HuntNowhere { place: 0 });
     assert_eq!(refused(&listing().repeat(256), 16), Error::ReadTooMany { place: 255 * 1152 });

@@ -1,11 +1,14 @@
 mod shared;
-use dsr::{read_into, Error, Tables};
+use dsr::{read_into, Choices, Error, Tables};
 use shared::{all_bad, flip, listing, multiframe, SETTINGS};
+
+/// The listing of 01 and most refusals here are of an only multiframe.
+const ONE_SETTLES: Choices = Choices::ONE_HEADER_SETTLES;
 
 #[test]
 fn the_listing_of_01() {
     let (mut index, mut report) = ([0xEE; 169], [0xEE; 14]);
-    let heard = read_into(&listing(), &Tables::ZEROS, &mut index, &mut report).unwrap();
+    let heard = read_into(&listing(), &Tables::ZEROS, ONE_SETTLES, &mut index, &mut report).unwrap();
     let reading = heard.reading;
     assert_eq!((reading.settings, reading.multiframes, reading.speech), (SETTINGS, 1, 1));
     assert_eq!((reading.bad, reading.end, heard.has_notes()), (0, true, false));
@@ -23,7 +26,7 @@ const EXPANSION: u16 = 0x8000;
 fn refusals_say_number_and_place_and_touch_nothing() {
     let (mut index, mut report) = ([0xEE; 168], [0xEE; 13]);
     let mut refused = |octets: &[u8], rooms: (usize, usize)| {
-        read_into(octets, &Tables::ZEROS, &mut index[..rooms.0], &mut report[..rooms.1]).unwrap_err()
+        read_into(octets, &Tables::ZEROS, ONE_SETTLES, &mut index[..rooms.0], &mut report[..rooms.1]).unwrap_err()
     };
     let (whole, mut one_flip) = (listing(), listing());
     flip(&mut one_flip, 47);
@@ -50,12 +53,12 @@ fn vectors_are_what_buffers_are() {
     for multiframes in [1, 2, 17, 255] {
         let octets = [&[0x78, 0x4D].repeat(80)[..], &listing().repeat(multiframes)].concat();
         let (mut index, mut report) = (vec![0; 168 * 255], vec![0; 13 * 255]);
-        let lent = read_into(&octets, &Tables::ZEROS, &mut index, &mut report).unwrap();
-        let own = dsr::read(&octets, &Tables::ZEROS).unwrap();
+        let lent = read_into(&octets, &Tables::ZEROS, ONE_SETTLES, &mut index, &mut report).unwrap();
+        let own = dsr::read(&octets, &Tables::ZEROS, ONE_SETTLES).unwrap();
         assert_eq!((own.reading, own.indices(), own.report()), (lent.reading, lent.indices(), lent.report()));
         assert_eq!((own.indices().len(), own.report().len()), (168 * multiframes, 13 * multiframes));
     }
-    let refused = |octets: &[u8]| dsr::read(octets, &Tables::ZEROS).unwrap_err();
+    let refused = |octets: &[u8]| dsr::read(octets, &Tables::ZEROS, ONE_SETTLES).unwrap_err();
     assert_eq!(refused(&[0x00]), Error::ReadUnknown { place: 0 });
     assert_eq!(refused(&[]), Error::ReadNoMultiframe { place: 0 });
     assert_eq!(refused(&listing()[..143]), Error::ReadCut { place: 0 });

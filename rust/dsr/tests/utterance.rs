@@ -1,6 +1,6 @@
 //! The iterators over frames, pairs and multiframes, and each note.
 mod shared;
-use dsr::{read_bits_into, read_into, write_into, HeaderNote, PairNote, Tables, Utterance};
+use dsr::{read_bits_into, read_into, write_into, Choices, HeaderNote, PairNote, Tables, Utterance};
 use shared::{flip, multiframe, speech, SETTINGS};
 
 /// The header notes of an utterance: flips, whether out of step, whether the settings differ; or nothing for a lost one.
@@ -27,7 +27,7 @@ fn damaged() -> Vec<u8> {
 /// Reads the octets, which are three multiframes, and hands the utterance on.
 fn with_reading(octets: &[u8], tables: &Tables, test: impl Fn(Utterance<&[u8]>)) {
     let (mut index, mut report) = ([0xEE; 504], [0xEE; 39]);
-    test(read_into(octets, tables, &mut index, &mut report).unwrap());
+    test(read_into(octets, tables, Choices::DEFAULT, &mut index, &mut report).unwrap());
 }
 
 #[test]
@@ -104,9 +104,9 @@ fn rising() -> Vec<u8> {
 /// The pair notes of the same octets by either reader.
 fn notes_by_both(octets: &[u8], tables: &Tables) -> [Vec<PairNote>; 2] {
     let (mut index, mut report) = ([0xEE; 504], [0xEE; 39]);
-    let by_octets = read_into(octets, tables, &mut index, &mut report).unwrap();
+    let by_octets = read_into(octets, tables, Choices::DEFAULT, &mut index, &mut report).unwrap();
     let notes: Vec<_> = by_octets.pairs().map(|pair| pair.note).collect();
-    let by_bits = read_bits_into(octets, 0, 16, tables, &mut index, &mut report).unwrap();
+    let by_bits = read_bits_into(octets, 0, 16, tables, Choices::DEFAULT, &mut index, &mut report).unwrap();
     [notes, by_bits.utterance.pairs().map(|pair| pair.note).collect()]
 }
 

@@ -2,7 +2,10 @@
 #![no_std]
 
 use core::panic::PanicInfo;
-use dsr::{Error, FrontEnd, Header, Rate, Settings, Tables};
+use dsr::{Choices, Error, FrontEnd, Header, Rate, Settings, Tables};
+
+/// A frame is an only multiframe, on a line that is no radio link.
+const ONE_SETTLES: Choices = Choices::ONE_HEADER_SETTLES;
 
 /// Writes a frame, reads it back both ways, and gives the number of bits outside: 0, or the number of a refusal negated.
 #[no_mangle]
@@ -16,13 +19,15 @@ pub extern "C" fn bare_round_trip(frame: &[u8; 7]) -> i64 {
 fn round_trip(frame: &[u8; 7]) -> Result<u64, Error> {
     let (mut image, mut index, mut report) = ([0; 144], [0; 168], [0; 13]);
     dsr::write_into(Settings::new(Rate::Khz8, FrontEnd::Standard), frame, &mut image)?;
-    let heard = dsr::read_into(&image, &Tables::ZEROS, &mut index, &mut report)?;
+    let unsettled = dsr::read_into(&image, &Tables::ZEROS, Choices::DEFAULT, &mut index, &mut report).map(|heard| heard.reading);
+    assert!(unsettled == Err(Error::ReadUnsettled { place: 0 }));
+    let heard = dsr::read_into(&image, &Tables::ZEROS, ONE_SETTLES, &mut index, &mut report)?;
     assert!(heard.frames().next() == Some(frame) && heard.pairs().all(|pair| !pair.note.is_bad()));
     assert!(dsr::hunt(&image, 0, 14)?.place == 0);
     assert!(matches!(dsr::header_read(dsr::header_encode(8)), Header::Read { message: 8, flips: 0, .. }));
     let (frames, _) = dsr::unpack(&dsr::pack(&[9; 168])?);
     assert!(frames == [9; 168]);
-    Ok(dsr::read_bits_into(&image, 0, 14, &Tables::ZEROS, &mut index, &mut report)?.outside)
+    Ok(dsr::read_bits_into(&image, 0, 14, &Tables::ZEROS, ONE_SETTLES, &mut index, &mut report)?.outside)
 }
 
 #[panic_handler]
