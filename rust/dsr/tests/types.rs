@@ -1,5 +1,5 @@
 //! The types by themselves: what they take, give and print.
-use dsr::{image_octets, most_multiframes, Error, FrontEnd, HeaderNote, PairNote, Rate, Settings, Tables};
+use dsr::{image_octets, most_multiframes, Choices, Error, FrontEnd, HeaderNote, PairNote, Rate, Settings, Tables};
 
 #[test]
 fn rates_and_front_ends_have_01s_codes() {
@@ -38,6 +38,12 @@ fn tables_have_the_right_lengths_or_are_refused() {
     for (numbers, limits) in [(1281, 14), (1279, 14), (0, 14), (1280, 15), (1280, 13), (1280, 0)] {
         assert_eq!(Tables::new(&codebook[..numbers], &thresholds[..limits]), Err(Error::ReadTables { place: 0 }));
     }
+}
+
+#[test]
+fn choices_are_the_default_or_named() {
+    assert_eq!(Choices::default(), Choices::DEFAULT);
+    assert_ne!(Choices::DEFAULT, Choices::ONE_HEADER_SETTLES);
 }
 
 #[test]
