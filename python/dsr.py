@@ -10,7 +10,7 @@ Octets may be bytes, bytearray, memoryview, array.array('B'), a numpy array of u
 of Python's own library is needed; numpy is imported only by Reading.frames_numpy and Reading.report_numpy. A refusal is the exception
 Refused, with number, place and words of document 01 (the specification) or 02 (its changes). Calls in several threads do not meet.
 
-The library is the file that the environment variable DSR_LIBRARY names; else the installed libdsr.so.0.2; else the one that `make lib` made
+The library is the file that the environment variable DSR_LIBRARY names; else the installed libdsr.so.0.3; else the one that `make lib` made
 beside this file's folder. c/dsr.h says of every number and octet what it means.
 """
 import array
@@ -23,7 +23,7 @@ import pathlib
 import platform
 import typing
 
-__version__ = "0.2.0"
+__version__ = "0.3.0"
 __all__ = ["BitsReading", "FrontEnd", "Header", "HeaderNote", "Hunted", "PairNote", "Rate", "Reading", "Refused", "Status", "Tables",
            "header_encode", "header_read", "hunt", "pack", "read", "read_bits", "unpack", "write"]
 
@@ -40,13 +40,15 @@ CODEBOOK_NUMBERS = 1280
 THRESHOLD_NUMBERS = 14
 
 _MOST_64 = 2**64 - 1
+# dsr.h's numbers of the choices.
+_DEFAULT_CHOICES, _ONE_HEADER_SETTLES = 0, 1
 # The Makefile's rule: the major number, and while it is 0 the minor one too.
-_SONAME = "libdsr.so.0.2"
+_SONAME = "libdsr.so.0.3"
 
 
 class Status(enum.IntEnum):
     """What the library answers: DONE, or the number of a refusal. `text` has the words of 01 and 02 for when it is given; those of 0, of
-    97 to 99 and of a hunt's 15 are the library's own."""
+    96 to 99 and of a hunt's 15 are the library's own."""
 
     def __new__(cls, number, text):
         status = int.__new__(cls, number)
@@ -73,6 +75,7 @@ class Status(enum.IntEnum):
     READ_ALL_BAD = 20, "every pair bad"
     HUNT_MATCH = 21, "T outside 12 to 16"
     HUNT_NOWHERE = 22, "no place found by the first hunt"
+    NO_SUCH_CHOICE = 96, "no such choice"
     HEADER_UNREADABLE = 97, "no codeword differs from the word in at most two bits"
     WRONG_LENGTH = 98, "a length is not the multiframe's, or none that lent memory has"
     READ_ANSWER_SHORT = 99, "answer too short"
@@ -219,23 +222,30 @@ def write(rate, front_end, indices):
     return out.raw[:place.value]
 
 
-def read(octets, tables):
+def read(octets, tables, *, one_header_settles=False):
     """Reads received octets by the tables lent, and gives a Reading.
+
+    An only multiframe is refused with 16, however clean it is: its codeword can be the wrong one, and no second header is there to show it.
+    With `one_header_settles` it is read if its header is itself a codeword, for whoever has to read one and knows the line, as at a bench.
+    For two multiframes or more that changes nothing.
 
     Refused: 11 to 17 and 20."""
     received = _octets(octets)
     lent = _Lent(len(received), 6)
-    _check(_library.dsr_read(received, len(received), *_lend(tables), *lent.arguments()), lent.place)
+    choices = _choices(one_header_settles)
+    _check(_library.dsr_read(received, len(received), choices, *_lend(tables), *lent.arguments()), lent.place)
     return Reading(*lent.reading())
 
 
-def read_bits(octets, tables, *, least, start=0):
+def read_bits(octets, tables, *, least, start=0, one_header_settles=False):
     """Reads bits with no octet boundary: hunts from bit `start` on, with at least `least` (12 to 16) of a sync's bits matching.
 
-    Bit t is in octet t // 8, with value 2 ** (t % 8). Gives a BitsReading. Refused: 11, 15 (its place is here a bit) to 17 and 20 to 22."""
+    Bit t is in octet t // 8, with value 2 ** (t % 8). Gives a BitsReading. A multiframe that alone was found is an only one, and
+    `one_header_settles` is as in `read`. Refused: 11, 15 (its place is here a bit) to 17 and 20 to 22."""
     received = _octets(octets)
     lent = _Lent(len(received), 8)
-    number = _library.dsr_read_bits(received, len(received), _wide(start), _wide(least), *_lend(tables), *lent.arguments())
+    choices = _choices(one_header_settles)
+    number = _library.dsr_read_bits(received, len(received), _wide(start), _wide(least), choices, *_lend(tables), *lent.arguments())
     _check(number, lent.place)
     return BitsReading(*lent.reading(), *lent.answer[6:])
 
@@ -324,6 +334,13 @@ def _lend(tables):
     return pointer(tables.codebook), len(tables.codebook), pointer(tables.thresholds), len(tables.thresholds)
 
 
+def _choices(one_header_settles):
+    """The number of the choices. Only True and False will do: a word such as "no", out of a file of settings, must not ask for the rule."""
+    if not isinstance(one_header_settles, bool):
+        raise TypeError(f"one_header_settles is True or False, not {one_header_settles!r}")
+    return _ONE_HEADER_SETTLES if one_header_settles else _DEFAULT_CHOICES
+
+
 def _setting(number):
     """A rate or type: one outside 64 bits becomes the largest, which is refused as it would be, rather than cut to a right one."""
     number = operator.index(number)
@@ -364,9 +381,9 @@ def _declare(library):
         "pack": [octets, size, octets, size],
         "unpack": [octets, size, octets, size, octets, size],
         "write": [wide, wide, octets, size, octets, size, answer],
-        "read": [octets, size, *tables, *lent],
+        "read": [octets, size, wide, *tables, *lent],
         "hunt": [octets, size, wide, wide, answer, answer, answer],
-        "read_bits": [octets, size, wide, wide, *tables, *lent],
+        "read_bits": [octets, size, wide, wide, wide, *tables, *lent],
     }
     for name, types in arguments.items():
         function = getattr(library, "dsr_" + name)

@@ -62,7 +62,7 @@ class Writing(Case):
         image = dsr.write(rate, front_end, frames(count))
         multiframes = count // 24 + 1
         self.assertEqual(len(image), 144 * multiframes)
-        reading = dsr.read(image, ZERO)
+        reading = dsr.read(image, ZERO, one_header_settles=count < 24)
         self.assertEqual((reading.rate, reading.front_end), (rate, front_end))
         self.assertEqual((reading.multiframes, reading.speech, reading.bad, reading.end), (multiframes, count, 0, True))
         self.assertEqual(reading.index, frames(count) + bytes(168 * multiframes - 7 * count))
@@ -111,8 +111,8 @@ class Reading(Case):
         self.assertEqual(dsr.read(self.image + EXAMPLE[:2] + other + EXAMPLE[6:], ZERO).header_notes()[2], dsr.HeaderNote(0, False, True))
 
     def test_end_missing(self):
-        reading = dsr.read(self.image[:144], ZERO)
-        self.assertEqual((reading.speech, reading.end), (24, False))
+        reading = dsr.read(dsr.write(1, 0, frames(50))[:288], ZERO)
+        self.assertEqual((reading.speech, reading.end), (48, False))
 
     def test_tables_are_lent(self):
         strict = dsr.Tables([0] * 1280, [-1] * 14)
@@ -133,8 +133,8 @@ class Reading(Case):
         self.refused(14, 4, dsr.read, b"\x78\x4d" * 2, ZERO)
         self.refused(15, 36720, dsr.read, image[:144] * 255 + b"\x87\xb2", ZERO)
         self.refused(16, 0, dsr.read, flipped(EXAMPLE, 16), ZERO)
-        self.refused(17, 0, dsr.read, EXAMPLE[:2] + dsr.header_encode(2 | 1 << 3).to_bytes(4, "little") + EXAMPLE[6:], ZERO)
-        self.refused(20, 0, dsr.read, flipped(EXAMPLE, *(48 + 92 * p for p in range(12))), ZERO)
+        self.refused(17, 0, dsr.read, 2 * (EXAMPLE[:2] + dsr.header_encode(2 | 1 << 3).to_bytes(4, "little") + EXAMPLE[6:]), ZERO)
+        self.refused(20, 0, dsr.read, 2 * flipped(EXAMPLE, *(48 + 92 * p for p in range(12))), ZERO)
 
     def test_refusal_says_itself(self):
         refusal = self.refused(13, 144, dsr.read, self.image[:-1], ZERO)
@@ -196,6 +196,74 @@ class Hunting(Case):
             self.assertRaises(OverflowError, dsr.read_bits, self.modem, ZERO, least=14, start=number)
 
 
+class Choosing(Case):
+    """The rule for an only multiframe: the default, and the one that is asked for by name."""
+
+    def readers(self, octets):
+        """Each reader with what it is given."""
+        return ((dsr.read, (octets, ZERO), {}), (dsr.read_bits, (octets, ZERO), {"least": 16}))
+
+    def outcome(self, function, given, named, one_header_settles):
+        try:
+            return function(*given, **named, one_header_settles=one_header_settles)
+        except dsr.Refused as refusal:
+            return refusal.status, refusal.place
+
+    def test_an_only_multiframe_is_refused(self):
+        for count in (0, 1, 23):
+            for function, given, named in self.readers(dsr.write(3, 1, frames(count))):
+                self.refused(16, 0, function, *given, **named)
+                self.refused(16, 0, function, *given, **named, one_header_settles=False)
+
+    def test_by_name_it_is_read(self):
+        for count in (0, 1, 23):
+            for function, given, named in self.readers(dsr.write(3, 1, frames(count))):
+                reading = function(*given, **named, one_header_settles=True)
+                self.assertEqual((reading.rate, reading.front_end, reading.multiframes), (3, 1, 1))
+                self.assertEqual((reading.speech, reading.bad, reading.end), (count, 0, True))
+                self.assertEqual((reading.index, reading.report), (frames(count) + bytes(168 - 7 * count), bytes(13)))
+
+    def test_a_mended_only_header_settles_by_neither_rule(self):
+        for flips in ((16,), (16, 47)):
+            for function, given, named in self.readers(flipped(EXAMPLE, *flips)):
+                for choice in (False, True):
+                    self.refused(16, 0, function, *given, **named, one_header_settles=choice)
+        for choice in (False, True):
+            self.refused(16, 0, dsr.read, flipped(EXAMPLE, 16, 17, 18), ZERO, one_header_settles=choice)
+
+    def test_alone_found_is_an_only_one(self):
+        lost = flipped(dsr.write(0, 0, frames(24)), 16, 17, 18)
+        self.refused(16, 0, dsr.read_bits, lost, ZERO, least=16)
+        self.assertEqual(dsr.read_bits(lost, ZERO, least=16, one_header_settles=True).outside, 1152)
+        self.refused(16, 0, dsr.read, lost, ZERO, one_header_settles=True)
+
+    def test_its_place_in_the_order(self):
+        rate_2 = EXAMPLE[:2] + dsr.header_encode(2 | 1 << 3).to_bytes(4, "little") + EXAMPLE[6:]
+        all_bad = flipped(EXAMPLE, *(48 + 92 * p for p in range(12)))
+        for octets, number in ((rate_2, 17), (all_bad, 20)):
+            for function, given, named in self.readers(octets):
+                self.refused(16, 0, function, *given, **named)
+                self.refused(number, 0, function, *given, **named, one_header_settles=True)
+        self.refused(11, 0, dsr.read, EXAMPLE, dsr.Tables([], []))
+        self.refused(13, 144, dsr.read, EXAMPLE + b"\x87", ZERO)
+
+    def test_longer_ones_are_read_alike(self):
+        image = dsr.write(1, 1, frames(60))
+        other = EXAMPLE[:2] + dsr.header_encode(3 | 2 << 3).to_bytes(4, "little") + EXAMPLE[6:]
+        longer = (image, image[:288], image * 85, image * 86, flipped(image, 16, 47, 300, 1152 + 16), flipped(image, 16, 17, 18),
+                  EXAMPLE + other, EXAMPLE + other + other, b"\x78\x4d" + image, 2 * flipped(EXAMPLE, *(48 + 92 * p for p in range(12))))
+        for octets in longer:
+            for function, given, named in self.readers(octets):
+                outcomes = [self.outcome(function, given, named, choice) for choice in (False, True)]
+                self.assertEqual(outcomes[0], outcomes[1])
+
+    def test_only_true_and_false_will_do(self):
+        for word in (1, 0, None, "no", "yes", 2**64):
+            for function, given, named in self.readers(EXAMPLE):
+                self.assertRaises(TypeError, function, *given, **named, one_header_settles=word)
+        self.assertRaises(TypeError, dsr.read, EXAMPLE, ZERO, True)  # by name only
+
+
 class Parts(Case):
     def test_header(self):
         for message, octets in ((8, "08000EEE"), (16, "10001D0D"), (24, "180013E3"), (1, "010001D1"), (0x8000, "008080E8")):
@@ -228,15 +296,15 @@ class Parts(Case):
 
 class Inputs(Case):
     def test_octets(self):
-        said = frames(3)
+        said = frames(25)
         image = dsr.write(0, 0, said)
         for kind in (bytes, bytearray, memoryview, list, tuple, lambda octets: array.array("B", octets)):
             self.assertEqual(dsr.write(0, 0, kind(said)), image)
-            self.assertEqual(dsr.read(kind(image), ZERO).speech, 3)
+            self.assertEqual(dsr.read(kind(image), ZERO).speech, 25)
         self.assertEqual(dsr.write(0, 0, memoryview(bytes(2 * x for x in range(42)))[::2][7:14]), dsr.write(0, 0, bytes(range(28, 56, 4))))
 
     def test_lent_octets_stay(self):
-        image = bytearray(flipped(dsr.write(0, 0, frames(3)), 48))
+        image = bytearray(flipped(dsr.write(0, 0, frames(25)), 48))
         kept = bytes(image)
         self.assertEqual(dsr.read(image, ZERO).bad, 1)
         self.assertEqual(image, kept)
@@ -304,7 +372,7 @@ class Module(unittest.TestCase):
             self.assertIn("ImportError: run make lib", done.stderr)
 
     def test_numpy_is_not_imported(self):
-        done = self.run_alone("import sys, dsr; dsr.read(dsr.write(0, 0, b''), dsr.Tables.zero()); print('numpy' in sys.modules)")
+        done = self.run_alone("import sys, dsr; dsr.read(2 * dsr.write(0, 0, b''), dsr.Tables.zero()); print('numpy' in sys.modules)")
         self.assertEqual(done.stdout, "False\n")
 
     def test_every_name_is_there(self):
@@ -332,6 +400,8 @@ class SameAsC(unittest.TestCase):
         rates = {"DSR_RATE_8_KHZ": dsr.Rate.KHZ_8, "DSR_RATE_11_KHZ": dsr.Rate.KHZ_11, "DSR_RATE_16_KHZ": dsr.Rate.KHZ_16, "DSR_RATE_NONE": 255}
         self.assertEqual(rates, self.enumeration("dsr_rate"))
         self.assertEqual({f"DSR_{end.name}": end for end in dsr.FrontEnd}, self.enumeration("dsr_front_end"))
+        choices = {"DSR_DEFAULT_CHOICES": dsr._DEFAULT_CHOICES, "DSR_ONE_HEADER_SETTLES": dsr._ONE_HEADER_SETTLES}
+        self.assertEqual(choices, self.enumeration("dsr_choices"))
         notes = self.enumeration("dsr_note")
         self.assertEqual([notes["DSR_PAIR_" + name] for name in ("GOOD", "CRC", "BAD")], list(dsr.PairNote))
 
