@@ -439,7 +439,7 @@ static inline enum dsr_status dsr_fill_(uint32_t number, uint64_t place, const u
 }
 
 /* dsr_read_utterance reads received octets as dsr_read does. Choices are a number of enum dsr_choices. Null tables are refused with
- * DSR_READ_TABLES. */
+ * DSR_READ_TABLES, when its turn comes. */
 DSR_MUST_USE static inline enum dsr_status dsr_read_utterance(const uint8_t *octets, size_t octets_len, uint64_t choices,
                                                               const struct dsr_tables *tables, uint8_t *index, size_t index_len,
                                                               uint8_t *report, size_t report_len, struct dsr_reading *reading) {
@@ -456,7 +456,7 @@ DSR_MUST_USE static inline enum dsr_status dsr_read_utterance(const uint8_t *oct
 }
 
 /* dsr_hunt_utterance reads bits with no octet boundary as dsr_read_bits does: from bit `from` on, at least `least` (12 to 16) of the sync's
- * bits matching. Choices are a number of enum dsr_choices. Null tables are refused with DSR_READ_TABLES. */
+ * bits matching. Choices are a number of enum dsr_choices. Null tables are refused with DSR_READ_TABLES, when its turn comes. */
 DSR_MUST_USE static inline enum dsr_status dsr_hunt_utterance(const uint8_t *octets, size_t octets_len, uint64_t from, uint64_t least,
                                                               uint64_t choices, const struct dsr_tables *tables, uint8_t *index,
                                                               size_t index_len, uint8_t *report, size_t report_len,
