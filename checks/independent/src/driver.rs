@@ -17,10 +17,10 @@ pub const ONE_HEADER_SETTLES: u64 = 1;
 pub const KNOWN_CHOICES: [u64; 2] = [DEFAULT, ONE_HEADER_SETTLES];
 
 /// Numbers for `choices` that dsr.h does not name: each bit beside the lowest alone, so that the number is 0 or 1 to whoever does not look
-/// at that bit; and many bits at once.
+/// at that bit; many bits at once; and every small one.
 pub fn unknown_choices() -> Vec<u64> {
     let one_bit = (1..64).flat_map(|bit| [1 << bit, 1 << bit | 1]);
-    one_bit.chain([255, u64::MAX - 1, u64::MAX]).collect()
+    one_bit.chain(2..=300).chain([u64::MAX - 1, u64::MAX]).collect()
 }
 
 /// The rule that a number asks for, if there is one.
