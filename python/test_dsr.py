@@ -237,6 +237,14 @@ class Choosing(Case):
         self.assertEqual(dsr.read_bits(lost, ZERO, least=16, one_header_settles=True).outside, 1152)
         self.refused(16, 0, dsr.read, lost, ZERO, one_header_settles=True)
 
+    def test_wherever_the_search_begins(self):
+        for before in (0, 3, 400, 75_000):
+            for start in (0, 1, 8 * before):
+                octets = bytes(before) + EXAMPLE + bytes(9)
+                named = {"least": 14 if start == 1 else 16, "start": 0 if before == 0 else start}
+                self.refused(16, 0, dsr.read_bits, octets, ZERO, **named)
+                self.assertEqual(dsr.read_bits(octets, ZERO, **named, one_header_settles=True).multiframes, 1)
+
     def test_its_place_in_the_order(self):
         rate_2 = EXAMPLE[:2] + dsr.header_encode(2 | 1 << 3).to_bytes(4, "little") + EXAMPLE[6:]
         all_bad = flipped(EXAMPLE, *(48 + 92 * p for p in range(12)))

@@ -1,7 +1,7 @@
 //! The rule for an only multiframe: the default, and the one that is asked for by name.
 mod shared;
 use dsr::{read_bits_into, read_into, write_into, Choices, Error, Tables};
-use shared::{all_bad, flip, listing, multiframe, speech, SETTINGS};
+use shared::{all_bad, flip, listing, multiframe, shifted, speech, SETTINGS};
 
 const BOTH: [Choices; 2] = [Choices::DEFAULT, Choices::ONE_HEADER_SETTLES];
 const UNSETTLED: Error = Error::ReadUnsettled { place: 0 };
@@ -103,6 +103,22 @@ fn a_multiframe_that_alone_was_found_is_an_only_one() {
     assert_eq!(by_octets.0, Err(UNSETTLED));
     let found = by_bits.0.unwrap();
     assert!(found.contains("multiframes: 1, ") && found.ends_with("1152 outside, 1153 tested"), "{found}");
+}
+
+/// Wherever it lies, wherever the search begins and whatever of a sync it asks for; the longest is over 65,536 octets.
+#[test]
+fn an_only_multiframe_among_other_bits_follows_the_choice() {
+    for before in [0, 5, 3_000, 600_001] {
+        let octets = shifted(&listing(), before, 70);
+        for (from, least) in [(0, 16), (0, 15), (0, 14), (before as u64, 16), (before as u64 / 2, 14)] {
+            let [by_default, by_name] = BOTH.map(|choices| {
+                let (mut index, mut report) = ([0xEE; 168], [0xEE; 13]);
+                let got = read_bits_into(&octets, from, least, &Tables::ZEROS, choices, &mut index, &mut report);
+                got.map(|got| got.utterance.reading.multiframes)
+            });
+            assert_eq!((by_default, by_name), (Err(UNSETTLED), Ok(1)), "{before} bits before, from {from}, {least}");
+        }
+    }
 }
 
 /// Octets of two multiframes or more, and whether they are read: clean, damaged, mended, one header lost, all lost, settings that do not
