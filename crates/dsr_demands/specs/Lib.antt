@@ -11,3 +11,4 @@ pub mod Linked
 pub mod Told
 pub mod Answers
 pub mod Chosen
+pub mod Edges
