@@ -36,8 +36,8 @@ use Rattle.refusals.specs.declared.Reading as RR
 use Rattle.refusals.specs.declared.Reading.the-variants.{WrongTables}
 use Rattle.demands.specs.Whole.{Lent}
 use Rattle.demands.specs.ReadsBack.{reads-image}
-use Rattle.demands.specs.Instances.{lone, says1}
-use Rattle.demands.specs.Met.{indexFor, reportFor}
+use Rattle.demands.specs.Instances.{lone, written-1, says1}
+use Rattle.demands.specs.Met.{indexFor, reportFor, lent-zeros}
 use Rattle.roundtrip.specs.declared.Trip.{Trip}
 use Rattle.roundtrip.specs.declared.Trip.the-variants.{NotWritten, NotRead, Back}
 
@@ -238,7 +238,12 @@ module _ (settings : Settings) (idx : List ℕ) (tables : Tables) (out index rep
           (length-image settings idx (multiframesFor (frameCount idx)) ∙ sym (b .octets-needed))
       same-length (Refused r) ev = refl
 
--- ---- BOTH REFUSALS ARE MET
+-- ---- ALL THREE ENDS ARE MET
+-- an utterance of one multiframe comes back: 01's frame 1, with just the room that it takes
+pub back-1 : trip (settings 0 0) (lone 1) zeroTables (replicate 144 255) (indexFor 1) (reportFor 1) .answer
+    ≡ Back (record { settings = settings 0 0; multiframes = 1; speech = 1; bad = 0; end = 1 })
+back-1 = comes-back (settings 0 0) (lone 1) zeroTables (replicate 144 255) (indexFor 1) (reportFor 1) (says1 .small) 144 written-1 (lent-zeros 1) .answer
+
 -- every utterance that is written and then read with a codebook of another size is unread, with refusal 11
 pub wrong-tables : (u : Utterance) (tables : Tables) (out index report : List ℕ) → needed (u .indices) ≤ length out → (length (tables .codebook) ≡ codebookNumbers → ⊥)
     → trip (u .settings) (u .indices) tables out index report
