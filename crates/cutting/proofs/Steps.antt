@@ -1,10 +1,10 @@
 -- The turns of `cut_into`: what is still to be cut, laid behind the places already stored, makes the whole answer and the whole buffer.
 -- Assumes nothing.
-use Prim.Native.Nat.{ℕ, suc, _+_, _-_, _≤_, _<_}
+use Prim.Native.Nat.{ℕ, suc, _+_, _≤_, _<_}
 use mathlib.Core.Path.{_≡_, refl, ap, sym, _∙_, subst}
 use mathlib.Core.List.{List, [], _∷_, append-assoc}
-use lib.ListN.{length, getD, drop, take, set, length-drop, length-set}
-use lib.Seq.{take-all, take-suc-set, drop-set-lt}
+use lib.ListN.{length, getD, drop, set, length-drop, length-set}
+use lib.Seq.{take-suc-set, drop-set-lt}
 use native.Mathlib.Numerals.{add-one}
 use native.Mathlib.Omega.{arith}
 use Rattle.lists.specs.Parts.{over-none}
@@ -16,10 +16,6 @@ use Rattle.cutting.specs.declared.Cut.{Cut}
 use Rattle.cutting.specs.declared.Cut.the-variants as C
 use Rattle.cutting.specs.Cutting.{pieceOf, Ending, whole, refused, Cutting, step, walk, cutting, answeredBy, answered, laid}
 use Rattle.cutting.specs.Laws.{Says, says, at-place}
-
--- all that is left, as the program's `&s[p..]` has it
-pub rest-of : (s : List ℕ) (p : ℕ) → take (length s - p) (drop p s) ≡ drop p s
-rest-of s p = take-all (length s - p) (drop p s) (omega (arith, length-drop p s))
 
 -- one more stored at the front of what is still to be laid
 laid-next : (k x : ℕ) (r l : List ℕ) → k < length l → laid (k + 1) r (set l k x) ≡ laid k (x ∷ r) l

@@ -5,8 +5,8 @@ use Prim.Native.Nat.{ℕ, zero, suc, _+_, _-_, _*_, _≤_, _<_}
 use mathlib.Core.Path.{_≡_, refl, ap, ap₂, sym, _∙_, subst}
 use mathlib.Core.Logic.{_⊎_, inl, inr}
 use mathlib.Core.List.{List, [], _∷_, _++_}
-use lib.ListN.{length, getD, drop, length-drop, length-append, List·getD-append}
-use lib.Seq.{drop-drop, drop-at, drop-length, getD-drop}
+use lib.ListN.{length, getD, drop, take, length-drop, length-append, List·getD-append}
+use lib.Seq.{take-all, drop-drop, drop-at, drop-length, getD-drop}
 use native.Mathlib.Numerals.{add-one}
 use lib.Dec.{ltb, eqb}
 use native.Mathlib.Omega.{arith}
@@ -166,6 +166,10 @@ walk-step (x ∷ l) p m =
 pub at-place : (s : List ℕ) (p m : ℕ) (q : Piece) → pieceOf (drop p s) m ≡ q
     → walk 0 (drop p s) p m ≡ step q p (walk 0 (drop (p + multiframeOctets) s) (p + multiframeOctets) (m + 1)) (walk 0 (drop (p + syncOctets) s) (p + syncOctets) m)
 at-place s p m q e = walk-step (drop p s) p m ∙ rw (e, drop-drop multiframeOctets p s, drop-drop syncOctets p s)
+
+-- all that is left, as a program's `&s[p..]` has it
+pub rest-of : (s : List ℕ) (p : ℕ) → take (length s - p) (drop p s) ≡ drop p s
+rest-of s p = take-all (length s - p) (drop p s) (omega (arith, length-drop p s))
 
 -- ---- there are at most 255 multiframes
 few-next : (q : Piece) (n a b m p : ℕ) (v w : Cutting) → m ≤ mostMultiframes → Says n a b m q

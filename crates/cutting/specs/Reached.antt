@@ -87,10 +87,10 @@ module _ (s : List ℕ) (p m : ℕ) where
       let a : getD (drop p s) 0 0 ≡ getD s p 0 = getD-drop p s 0 0 ∙ ap (λ (k : ℕ). getD s k 0) z in
       rw (length-drop p s, a, getD-drop p s 1 0)
 
-  here-piece : (q : Piece) → Here s p m q → pieceOf (drop p s) m ≡ q
+  pub here-piece : (q : Piece) → Here s p m q → pieceOf (drop p s) m ≡ q
   here-piece q h = piece-here ∙ said (length s - p) (getD s p 0) (getD s (p + 1) 0) m q h
 
-  here-says : (l : List ℕ) → drop p s ≡ l → Here s p m (pieceOf l m)
+  pub here-says : (l : List ℕ) → drop p s ≡ l → Here s p m (pieceOf l m)
   here-says l e = subst (λ (x : List ℕ). Here s p m (pieceOf x m)) e (subst (Here s p m) (sym piece-here) (says (length s - p) (getD s p 0) (getD s (p + 1) 0) m))
 
   -- what cutting does from there on

@@ -12,8 +12,7 @@ use Rattle.lists.specs.Parts.{over}
 use Rattle.layout.specs.Layout.{indexOctets, reportOctets}
 use Rattle.choices.specs.declared.Choices.{Choices}
 use Rattle.consistency.specs.Tables.{Tables}
-use Rattle.message.specs.Message.{rateOf, expOf}
-use Rattle.settling.specs.Settling.{readings, settling}
+use Rattle.settling.specs.Settling.{readings, settling, unfit}
 use Rattle.settling.specs.Stored.{openAll, packAll, stored-back}
 use Rattle.settling.specs.declared.Settlement.{Settlement}
 use Rattle.settling.specs.declared.Settlement.the-variants as S
@@ -37,29 +36,27 @@ andThen (Accept c) next = next
 
 pub in-two : (m bad pairs index report c : ℕ) → andThen (earlyVerdict m index report c) (lastVerdict bad pairs c) ≡ settledVerdict m bad pairs index report (S.Settled c)
 unfolding earlyVerdict lastVerdict settledVerdict roomVerdict
-in-two m bad pairs index report c = rate (eqb (rateOf c) 2) (eqb (expOf c) 0) (ltb index (indexOctets * m)) (ltb report (reportOctets * m))
+in-two m bad pairs index report c = by (unfit c) (ltb index (indexOctets * m)) (ltb report (reportOctets * m))
   where
-    rate : (s t u v : Bool)
-        → andThen (when s (Refuse Unfit) (when t (when u (Refuse (IndexShort (indexOctets * m))) (when v (Refuse (ReportShort (reportOctets * m))) (Accept c))) (Refuse Unfit))) (when (eqb bad pairs) (Refuse AllBad) (Accept c))
-        ≡ when s (Refuse Unfit) (when t (when u (Refuse (IndexShort (indexOctets * m))) (when v (Refuse (ReportShort (reportOctets * m))) (when (eqb bad pairs) (Refuse AllBad) (Accept c)))) (Refuse Unfit))
-    rate true t u v = refl
-    rate false false u v = refl
-    rate false true true v = refl
-    rate false true false true = refl
-    rate false true false false = refl
+    by : (t u v : Bool)
+        → andThen (when t (Refuse Unfit) (when u (Refuse (IndexShort (indexOctets * m))) (when v (Refuse (ReportShort (reportOctets * m))) (Accept c)))) (when (eqb bad pairs) (Refuse AllBad) (Accept c))
+        ≡ when t (Refuse Unfit) (when u (Refuse (IndexShort (indexOctets * m))) (when v (Refuse (ReportShort (reportOctets * m))) (when (eqb bad pairs) (Refuse AllBad) (Accept c))))
+    by true u v = refl
+    by false true v = refl
+    by false false true = refl
+    by false false false = refl
 
 -- early acceptance gives back the common bits that it was asked about
 pub early-common : (m index report c d : ℕ) → earlyVerdict m index report c ≡ Accept d → d ≡ c
 unfolding earlyVerdict
-early-common m index report c d = by (eqb (rateOf c) 2) (eqb (expOf c) 0) (ltb index (indexOctets * m)) (ltb report (reportOctets * m))
+early-common m index report c d = by (unfit c) (ltb index (indexOctets * m)) (ltb report (reportOctets * m))
   where
-    by : (s t u v : Bool)
-        → when s (Refuse Unfit) (when t (when u (Refuse (IndexShort (indexOctets * m))) (when v (Refuse (ReportShort (reportOctets * m))) (Accept c))) (Refuse Unfit)) ≡ Accept d → d ≡ c
-    by true t u v e = cc
-    by false false u v e = cc
-    by false true true v e = cc
-    by false true false true e = cc
-    by false true false false e = cc
+    by : (t u v : Bool)
+        → when t (Refuse Unfit) (when u (Refuse (IndexShort (indexOctets * m))) (when v (Refuse (ReportShort (reportOctets * m))) (Accept c))) ≡ Accept d → d ≡ c
+    by true u v e = cc
+    by false true v e = cc
+    by false false true e = cc
+    by false false false e = cc
 
 -- ---- what the deciding functions' branches show
 module _ (m bad pairs index report c : ℕ) (v : Verdict) (ev : v ≡ earlyVerdict m index report c) where

@@ -10,8 +10,7 @@ use Rattle.layout.specs.Layout.{indexOctets, reportOctets}
 use Rattle.choices.specs.declared.Choices.{Choices}
 use Rattle.consistency.specs.Tables.{Tables}
 use Rattle.refusals.specs.declared.Reading.the-variants.{Empty, Unsettled, Unfit, IndexShort, ReportShort, AllBad}
-use Rattle.message.specs.Message.{rateOf, expOf}
-use Rattle.settling.specs.Settling.{readings, settling}
+use Rattle.settling.specs.Settling.{readings, settling, unfit}
 use Rattle.settling.specs.declared.Settlement.{Settlement}
 use Rattle.settling.specs.declared.Settlement.the-variants as S
 use Rattle.carrier.specs.Carrier.{received, pairCount}
@@ -34,8 +33,7 @@ roomVerdict m bad pairs index report c =
 -- 16: settings not settled. 17: settled rate is 2 or any EXP is 1
 unfoldable pub settledVerdict : (m bad pairs index report : ℕ) → Settlement → Verdict
 settledVerdict m bad pairs index report S.Unsettled = Refuse Unsettled
-settledVerdict m bad pairs index report (S.Settled c) =
-    when (eqb (rateOf c) 2) (Refuse Unfit) (when (eqb (expOf c) 0) (roomVerdict m bad pairs index report c) (Refuse Unfit))
+settledVerdict m bad pairs index report (S.Settled c) = when (unfit c) (Refuse Unfit) (roomVerdict m bad pairs index report c)
 
 module _ (ch : Choices) (octets : List ℕ) (tables : Tables) (index report : ℕ) where
   -- 14: no multiframe

@@ -5,13 +5,13 @@ use mathlib.Core.Path.{_≡_, refl, ap, sym, subst}
 use mathlib.Core.List.{List}
 use lib.ListN.{length}
 use lib.Dec.{ltb, eqb}
-use borrow.Author.Tests.{ltb-false, eqb-true, eqb-false}
+use borrow.Author.Tests.{ltb-false, eqb-false}
 use Rattle.lists.specs.Tests.{by-test}
 use Rattle.layout.specs.Layout.{indexOctets, reportOctets}
 use Rattle.choices.specs.declared.Choices.{Choices}
 use Rattle.consistency.specs.Tables.{Tables}
-use Rattle.message.specs.Message.{rateOf, expOf}
-use Rattle.settling.specs.Settling.{readings, settling}
+use Rattle.settling.specs.Settling.{readings, settling, unfit}
+use Rattle.settling.specs.Laws.{Usable, fit-says}
 use Rattle.settling.specs.declared.Settlement.{Settlement}
 use Rattle.settling.specs.declared.Settlement.the-variants as S
 use Rattle.carrier.specs.Carrier.{pairCount}
@@ -45,11 +45,6 @@ room-says m bad pairs index report c =
       },
     ))))
 
--- settled bits that can be used
-pub record Usable (c : ℕ) : Type 0 where
-  pub rate : rateOf c ≡ 2 → ⊥
-  pub exp : expOf c ≡ 0
-
 pub record Fitting (m bad pairs index report : ℕ) (s : Settlement) (c : ℕ) : Type 0 where
   pub settles : s ≡ S.Settled c
   pub usable : Usable c
@@ -64,9 +59,7 @@ unfolding settledVerdict
 settled-says m bad pairs index report S.Unsettled = tt
 settled-says m bad pairs index report (S.Settled c) =
     let P = SettledSays m bad pairs index report (S.Settled c) in
-    by-test P (eqb (rateOf c) 2) (λ h. tt) (λ hr.
-    by-test P (eqb (expOf c) 0) (λ he.
-    lift (roomVerdict m bad pairs index report c) (record { rate = eqb-false (rateOf c) 2 hr; exp = eqb-true (expOf c) 0 he }) (room-says m bad pairs index report c)) (λ h. tt))
+    by-test P (unfit c) (λ h. tt) (λ h. lift (roomVerdict m bad pairs index report c) (fit-says c h) (room-says m bad pairs index report c))
   where
     lift : (v : Verdict) → Usable c → RoomSays m bad pairs index report c v → SettledSays m bad pairs index report (S.Settled c) v
     lift (Refuse r) u h = tt

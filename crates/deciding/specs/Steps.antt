@@ -3,22 +3,20 @@
 use Prim.Native.Nat.{ℕ, _*_}
 use mathlib.Core.Path.{_≡_}
 use mathlib.Core.List.{List}
-use lib.Dec.{ltb, eqb}
+use lib.Dec.{ltb}
 use Rattle.lists.specs.Tests.{when}
 use Rattle.layout.specs.Layout.{indexOctets, reportOctets}
-use Rattle.message.specs.Message.{rateOf, expOf}
 use Rattle.refusals.specs.declared.Reading.the-variants.{Unfit, IndexShort, ReportShort}
+use Rattle.settling.specs.Settling.{unfit}
 use Rattle.deciding.specs.declared.Verdict.{Verdict}
 use Rattle.deciding.specs.declared.Verdict.the-variants.{Refuse, Accept}
 
 -- ---- 17, 18 and 19, for which no pair need be judged
 unfoldable pub earlyVerdict : (m index report c : ℕ) → Verdict
 earlyVerdict m index report c =
-    when (eqb (rateOf c) 2) (Refuse Unfit)
-    (when (eqb (expOf c) 0)
+    when (unfit c) (Refuse Unfit)
     (when (ltb index (indexOctets * m)) (Refuse (IndexShort (indexOctets * m)))
     (when (ltb report (reportOctets * m)) (Refuse (ReportShort (reportOctets * m))) (Accept c)))
-    (Refuse Unfit))
 
 -- ---- what stands in an array of the code's own where a reading is accepted
 abbrev pub Kept : List ℕ → List ℕ → Verdict → Type 0

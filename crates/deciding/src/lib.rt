@@ -22,19 +22,12 @@ pub enum Verdict {
     Accept { common: u16 },
 }
 
-// A sample rate code that is not defined.
-const UNDEFINED_RATE: u8 = 2;
-
 // 17, 18 and 19: what can be refused of settled common bits before any pair is judged.
 fn early(common: u16, m: usize, index: usize, report: usize) -> Verdict
     requires { ⌜ m ≤ mostMultiframes ⌝ }
     ensures { λ r. ⌜ r ≡ earlyVerdict m index report common ⌝ }
 {
-    let fields = message::fields_of(common);
-    if fields.settings.rate == UNDEFINED_RATE {
-        return Verdict::Refuse(Reading::Unfit);
-    }
-    if fields.exp != 0 {
+    if settling::is_unfit(common) {
         return Verdict::Refuse(Reading::Unfit);
     }
     if index < ReadingLayout::INDEX * m {

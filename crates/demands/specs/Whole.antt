@@ -20,15 +20,15 @@ use Rattle.cutting.specs.Cutting.{Cutting, whole, cutting}
 use Rattle.cutting.specs.Laws.{every, every-length, every-at, whole-image}
 use Rattle.header.specs.Reading as H
 use Rattle.header.specs.declared.Header.the-variants.{Lost}
-use Rattle.message.specs.Message.{rateOf, expOf}
 use Rattle.settling.specs.declared.Settlement.the-variants as S
 use Rattle.settling.specs.Settling.{readings, settling, headerNote}
+use Rattle.settling.specs.Laws.{Usable, fit-is}
 use Rattle.carrier.specs.Carrier.{streamFrom, headerWord, streamPacket, wordAt, streamAt, inPlaces, received, pairCount}
 use Rattle.bad_pairs.specs.BadPairs.{badPairs}
 use Rattle.deciding.specs.Deciding.{roomVerdict, settledVerdict, wholeVerdict, receivedNotes}
 use Rattle.report.specs.Report.{reportPart, length-report, report-at}
 use Rattle.reader.specs.Reading.{indexPart, summary, endVerdict, verdict, finished, outcome, reading}
-use Rattle.deciding.specs.Laws.{Usable, Fitting}
+use Rattle.deciding.specs.Laws.{Fitting}
 use Rattle.reader.specs.ReadingLaws.{Accepted, accepting}
 use Rattle.deciding.specs.declared.Verdict.{Verdict}
 use Rattle.refusals.specs.declared.Reading.the-variants.{Unsettled, AllBad}
@@ -174,8 +174,7 @@ module _ (ch : Choices) (s : List ℕ) (m : ℕ) (few : m ≤ mostMultiframes) (
       rw (
         settled-next,
         e,
-        ne-eqb (rateOf c) 2 (u .rate),
-        eq-eqb (expOf c) 0 (u .exp),
+        fit-is c u,
         le-ltb (length index) (indexOctets * length (rowOf m)) i,
         le-ltb (length report) (reportOctets * length (rowOf m)) r,
         eq-eqb (badPairs (receivedNotes s (rowOf m) tables)) (pairCount (rowOf m)) b,

@@ -20,7 +20,7 @@ use Rattle.cutting.specs.Cutting.{Cutting, cutting, whole as uncut}
 use Rattle.cutting.specs.Laws.{every, every-length, whole-image}
 use Rattle.settling.specs.declared.Settlement.{Settlement}
 use Rattle.settling.specs.declared.Settlement.the-variants as S
-use Rattle.message.specs.Message.{rateOf, expOf}
+use Rattle.settling.specs.Settling.{unfit}
 use Rattle.hunt.specs.Hunt.{multiframeBits, inRange, searched, passes, placesLeft}
 use Rattle.reader.specs.Reading as R
 use Rattle.deciding.specs.Deciding.{receivedNotes, roomVerdict, settledVerdict, wholeVerdict}
@@ -80,10 +80,9 @@ late-settled : (m bad pairs index report : ℕ) (s : Settlement) → LateVerdict
 unfolding settledVerdict roomVerdict
 late-settled m bad pairs index report S.Unsettled = tt
 late-settled m bad pairs index report (S.Settled c) =
-    by-test LateVerdict (eqb (rateOf c) 2) (λ e. tt) (λ e.
-    by-test LateVerdict (eqb (expOf c) 0) (λ e.
+    by-test LateVerdict (unfit c) (λ e. tt) (λ e.
     by-test LateVerdict (ltb index (indexOctets * m)) (λ e. tt) (λ e.
-    by-test LateVerdict (ltb report (reportOctets * m)) (λ e. tt) (λ e. by-test LateVerdict (eqb bad pairs) (λ e. tt) (λ e. tt)))) (λ e. tt))
+    by-test LateVerdict (ltb report (reportOctets * m)) (λ e. tt) (λ e. by-test LateVerdict (eqb bad pairs) (λ e. tt) (λ e. tt))))
 
 module _ (ch : Choices) (s ps : List ℕ) (some : 0 < length ps) (few : length ps ≤ mostMultiframes) (tables : Tables) (index report : List ℕ)
     (sc : length (tables .codebook) ≡ codebookNumbers) (st : length (tables .thresholds) ≡ thresholdNumbers) where

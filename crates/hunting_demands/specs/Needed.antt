@@ -3,7 +3,7 @@
 use Prim.Native.Nat.{ℕ, zero, suc, _+_, _*_, _^_, _≤_, _<_}
 use mathlib.Core.Path.{_≡_, refl, sym, ap, ap₂, _∙_, subst}
 use mathlib.Core.List.{List, [], _∷_, _++_, append-nil}
-use mathlib.Core.Logic.{_⊎_, inl, inr, ⊎-elim}
+use mathlib.Core.Logic.{inl, inr, ⊎-elim}
 use mathlib.Core.Bool.{Bool, true, false}
 use native.Mathlib.Nat.{le-of-eq}
 use native.Mathlib.Omega.{arith}
@@ -12,7 +12,7 @@ use lib.Count.{ones, onesIn}
 use lib.Dec.{lit<, lit≤}
 use lib.ListN.{length, getD, replicate, length-append}
 use lib.Seq.{take-at, getD-take}
-use borrow.Author.Tests.{eq-eqb, ne-eqb, lt-ltb}
+use borrow.Author.Tests.{ne-eqb, lt-ltb}
 use Rattle.polynomials.specs.Light.{ones-in}
 use Rattle.lists.specs.Tests.{true-false}
 use Rattle.lists.specs.Rows.{each, joined, length-joined, joined-part}
@@ -31,7 +31,7 @@ use Rattle.packet.specs.Packet.{packetOf, stream}
 use Rattle.packet.specs.Laws.{length-packetOf, length-stream}
 use Rattle.header_code.specs.Code.{codeword}
 use Rattle.header_code.specs.Code.Distance.{codeword-lt}
-use Rattle.message.specs.Message.{message, rateOf, expOf, commonBits}
+use Rattle.message.specs.Message.{message, rateOf, commonBits}
 use Rattle.message.specs.Message.Laws.{message-lt, rate-back, common-rate}
 use Rattle.header.specs.Reading.{decodedAs, reading}
 use Rattle.header.specs.Reading.Laws.{mended}
@@ -39,13 +39,12 @@ use Rattle.header.specs.declared.Decoded.{Decoded}
 use Rattle.header.specs.declared.Header.{Header}
 use Rattle.header.specs.declared.Header.the-variants.{Codeword}
 use Rattle.settling.specs.Settling.{readings, settling, firstAgreeing}
-use Rattle.settling.specs.Laws.{length-readings, one-default, two-or-more, only-clean, only-mended}
+use Rattle.settling.specs.Laws.{length-readings, one-default, two-or-more, only-clean, only-mended, Usable, fit-is}
 use Rattle.settling.specs.declared.Settlement.the-variants as S
 use Rattle.hunt.specs.Hunt.{syncBits, headerBits, multiframeBits, fewestMatches, inRange, sync, matches, passes, searched, placesLeft}
 use Rattle.hunt.specs.Laws.{searched-all, in-range}
 use Rattle.deciding.specs.Deciding.{roomVerdict, settledVerdict, wholeVerdict}
 use Rattle.reader.specs.Reading as R
-use Rattle.deciding.specs.Laws.{Usable}
 use Rattle.reader.specs.declared.Answer.the-variants as RA
 use Rattle.refusals.specs.declared.Reading.the-variants.{Unsettled, IndexShort}
 use Rattle.gathering.specs.Gathering.{imageOf as foundImage, outsideOf}
@@ -162,8 +161,7 @@ module _ (ch : Choices) (s : List ℕ) (m : ℕ) (some : 0 < m) (few : m ≤ mos
         cut-is s m few size syncs,
         ne-eqb (length (rowOf m)) 0 (λ z. omega arith),
         e,
-        ne-eqb (rateOf c) 2 (u .rate),
-        eq-eqb (expOf c) 0 (u .exp),
+        fit-is c u,
         lt-ltb (length index) (indexOctets * length (rowOf m)) i,
       )
       (ap (λ (n : ℕ). R.outcome (RA.Refused (IndexShort (indexOctets * n))) index report) k)

@@ -33,7 +33,7 @@ use Rattle.header.specs.declared.Header.{Header}
 use Rattle.header.specs.declared.Header.the-variants.{Codeword, Lost}
 use Rattle.cutting.specs.Cutting.{syncMet, lastMet, pieceBy, whole, Cutting, walk, cutting}
 use Rattle.settling.specs.Settling.{readings, firstAgreeing, settling, headerNote}
-use Rattle.settling.specs.Laws.{all-agree, note-lost}
+use Rattle.settling.specs.Laws.{all-agree, note-lost, Usable}
 use Rattle.settling.specs.declared.Settlement.the-variants as S
 use Rattle.consistency.specs.Consistency.{flagged, flags, inconsistent}
 use Rattle.carrier.specs.Carrier.{received, pairCount}
@@ -45,7 +45,7 @@ use Rattle.replacing.specs.Speech.{lastNonzero, speechOf, endOf}
 use Rattle.deciding.specs.Deciding.{receivedNotes}
 use Rattle.report.specs.Report.{reportPart}
 use Rattle.reader.specs.Reading.{answerNumber, answerValues, summary, indexPart, Outcome, outcome, finished, reading, receivedFrames}
-use Rattle.deciding.specs.Laws.{Usable, Fitting}
+use Rattle.deciding.specs.Laws.{Fitting}
 use Rattle.reader.specs.ReadingLaws.{Accepted, accepting}
 use Rattle.deciding.specs.declared.Verdict.{Verdict}
 use Rattle.reader.specs.declared.Answer.the-variants.{Read}

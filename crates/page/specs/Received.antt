@@ -5,7 +5,7 @@
 use mathlib.Core.Path.{_≡_, refl, sym, ap, ap₂, _∙_, subst}
 use mathlib.Core.Bool.{Bool, true, xor}
 use mathlib.Core.List.{List, [], _∷_, _++_}
-use mathlib.Core.Logic.{inr}
+use mathlib.Core.Logic.{inl, inr}
 use Prim.Native.Nat.{ℕ, zero, suc, _+_, _*_, _≤_, _<_}
 use native.Mathlib.Omega.{arith}
 use lib.Count.{ones, onesIn}
@@ -36,7 +36,7 @@ use Rattle.cutting.specs.Cutting.{syncMet, lastMet, pieceBy, pieceOf, Ending, w
 use Rattle.cutting.specs.declared.Piece.the-variants.{Multiframe}
 use Rattle.cutting.specs.Laws.{multiframe-met, at-place, every-length}
 use Rattle.settling.specs.Settling.{readings, firstAgreeing, onlyOne, settling}
-use Rattle.settling.specs.Laws.{length-readings, neither, one-default, only-clean, only-mended, all-agree}
+use Rattle.settling.specs.Laws.{length-readings, neither, one-default, only-clean, only-mended, all-agree, Usable, fit-is, unfit-is}
 use Rattle.carrier.specs.Carrier.{received, pairCount}
 use Rattle.settling.specs.declared.Settlement.{Settlement}
 use Rattle.settling.specs.declared.Settlement.the-variants as S
@@ -44,7 +44,6 @@ use Rattle.notes.specs.Notes.{pairFails, pairNotes, pairInconsistent}
 use Rattle.bad_pairs.specs.BadPairs.{noteBy, notes, badPairs}
 use Rattle.deciding.specs.Deciding.{roomVerdict, settledVerdict, wholeVerdict, receivedNotes}
 use Rattle.reader.specs.Reading.{answerNumber, answerValues, Outcome, outcome, finished, reading}
-use Rattle.deciding.specs.Laws.{Usable}
 use Rattle.reader.specs.Steps.{wrong-tables, not-cut, whole-reading}
 use Rattle.refusals.specs.Refusals.{readingNumber, readingPlace}
 use Rattle.refusals.specs.declared.Reading.{Reading as Refusal}
@@ -287,13 +286,13 @@ module _ (ch : Choices) (s ps : List ℕ) (cut : cutting s ≡ record { places =
       is-17-rate : rateOf c ≡ 2 → Always ch s 17 0
       unfolding settledVerdict
       is-17-rate h tables sc st index report =
-          refuses ch s tables index report Unfit (next some (S.Settled c) e tables sc st index report ∙ rw (eq-eqb (rateOf c) 2 h))
+          refuses ch s tables index report Unfit (next some (S.Settled c) e tables sc st index report ∙ rw (unfit-is c (inl h)))
 
       is-17-exp : (rateOf c ≡ 2 → ⊥) → (expOf c ≡ 0 → ⊥) → Always ch s 17 0
       unfolding settledVerdict
       is-17-exp r h tables sc st index report =
           refuses ch s tables index report Unfit
-          (next some (S.Settled c) e tables sc st index report ∙ rw (ne-eqb (rateOf c) 2 r, ne-eqb (expOf c) 0 h))
+          (next some (S.Settled c) e tables sc st index report ∙ rw (unfit-is c (inr h)))
 
       module _ (u : Usable c) (i r : ℕ) where
         is-18 : i < indexOctets * length ps → Sized ch s i r 18 (indexOctets * length ps)
@@ -301,7 +300,7 @@ module _ (ch : Choices) (s ps : List ℕ) (cut : cutting s ≡ record { places =
         is-18 h tables sc st index report li lr =
             refuses ch s tables index report (IndexShort (indexOctets * length ps))
             (next some (S.Settled c) e tables sc st index report
-            ∙ rw (ne-eqb (rateOf c) 2 (u .rate), eq-eqb (expOf c) 0 (u .exp), lt-ltb (length index) (indexOctets * length ps) (omega arith)))
+            ∙ rw (fit-is c u, lt-ltb (length index) (indexOctets * length ps) (omega arith)))
 
         is-19 : indexOctets * length ps ≤ i → r < reportOctets * length ps → Sized ch s i r 19 (reportOctets * length ps)
         unfolding settledVerdict roomVerdict
@@ -309,8 +308,7 @@ module _ (ch : Choices) (s ps : List ℕ) (cut : cutting s ≡ record { places =
             refuses ch s tables index report (ReportShort (reportOctets * length ps))
             (next some (S.Settled c) e tables sc st index report
             ∙ rw (
-              ne-eqb (rateOf c) 2 (u .rate),
-              eq-eqb (expOf c) 0 (u .exp),
+              fit-is c u,
               le-ltb (length index) (indexOctets * length ps) (omega arith),
               lt-ltb (length report) (reportOctets * length ps) (omega arith),
             ))
@@ -322,8 +320,7 @@ module _ (ch : Choices) (s ps : List ℕ) (cut : cutting s ≡ record { places =
             refuses ch s tables index report AllBad
             (next some (S.Settled c) e tables sc st index report
             ∙ rw (
-              ne-eqb (rateOf c) 2 (u .rate),
-              eq-eqb (expOf c) 0 (u .exp),
+              fit-is c u,
               le-ltb (length index) (indexOctets * length ps) (omega arith),
               le-ltb (length report) (reportOctets * length ps) (omega arith),
               eq-eqb (badPairs (receivedNotes s ps tables)) (pairCount ps) (bad tables),
@@ -334,42 +331,50 @@ one-one : ones 1 ≡ 1
 unfolding onesIn
 one-one = sym (ones-in 1 1 (lit< tt))
 
-read-1 : ReadsAs 0xEE0E0008 8 0
+pub read-1 : ReadsAs 0xEE0E0008 8 0
 read-1 = clean 8 0xEE0E0008 (lit< tt) (of-octets (codeword 8) 0x08 0x00 0x0E 0xEE count-1)
 
-read-2 : ReadsAs 0x0D1D0010 16 0
+pub read-2 : ReadsAs 0x0D1D0010 16 0
 read-2 = clean 16 0x0D1D0010 (lit< tt) (of-octets (codeword 16) 0x10 0x00 0x1D 0x0D count-2)
 
-read-exp : ReadsAs 0xE8808000 32768 0
+pub read-exp : ReadsAs 0xE8808000 32768 0
 read-exp = clean 32768 0xE8808000 (lit< tt) (of-octets (codeword 32768) 0x00 0x80 0x80 0xE8 exp-9)
 
-read-flipped : ReadsAs 0xEE0E0009 8 1
+pub read-flipped : ReadsAs 0xEE0E0009 8 1
 read-flipped = flips 8 0xEE0E0008 1 1 (lit< tt) (of-octets (codeword 8) 0x08 0x00 0x0E 0xEE count-1) one-one (lit< tt)
 
-read-rate-2 : ReadsAs 0x9D0D000A (message (settings 2 0) 1 0) 0
+two-ones : ones 3 ≡ 2
+unfolding onesIn
+two-ones = sym (ones-in 2 3 (lit< tt))
+
+-- count2 with its first two bits flipped
+pub read-flipped-2 : ReadsAs 0x0D1D0013 16 2
+read-flipped-2 = flips 16 0x0D1D0010 3 2 (lit< tt) (of-octets (codeword 16) 0x10 0x00 0x1D 0x0D count-2) two-ones (lit< tt)
+
+pub read-rate-2 : ReadsAs 0x9D0D000A (message (settings 2 0) 1 0) 0
 read-rate-2 = clean (message (settings 2 0) 1 0) 0x9D0D000A (message-lt (settings 2 0) 1 0) (word-of 2 0 1 0x0A 0x00 0x0D 0x9D (Headers.table .header-2-0))
 
-read-lost : H.reading 0x01010001 ≡ Lost
+pub read-lost : H.reading 0x01010001 ≡ Lost
 read-lost = lost-at-three 0x01010001 0 (lit< tt) three-from-zero
 
 -- their common bits
 usable : (m : ℕ) → rateOf m ≡ 0 → expOf m ≡ 0 → Usable (commonBits m)
 usable m r e = record { rate = λ z. (let y : _≡_ {A = ℕ} 0 2 = sym (common-rate m ∙ r) ∙ z in omega arith); exp = common-exp m ∙ e }
 
-usable-8 : Usable (commonBits 8)
+pub usable-8 : Usable (commonBits 8)
 usable-8 = usable 8 (sym (rate-masked 8)) (sym (exp-shifted 8 (lit< tt)))
 
-common-16 : commonBits 16 ≡ commonBits 8
+pub common-16 : commonBits 16 ≡ commonBits 8
 common-16 =
     ap commonBits (sym (message-counts .1)) ∙ common-message (settings 0 0) 2 0 ∙ sym (common-message (settings 0 0) 1 0) ∙ ap commonBits (message-counts .0)
 
 -- ---- one multiframe with a header, and two
 module _ (a b c d : ℕ) where
-  cut-one : cutting (headed (a ∷ b ∷ c ∷ d ∷ [])) ≡ record { places = 0 ∷ []; ending = whole }
+  pub cut-one : cutting (headed (a ∷ b ∷ c ∷ d ∷ [])) ≡ record { places = 0 ∷ []; ending = whole }
   unfolding walk pieceBy syncMet lastMet
   cut-one = refl
 
-  head-one : readings (headed (a ∷ b ∷ c ∷ d ∷ [])) (0 ∷ []) ≡ H.reading (value (bits (a ∷ b ∷ c ∷ d ∷ []))) ∷ []
+  pub head-one : readings (headed (a ∷ b ∷ c ∷ d ∷ [])) (0 ∷ []) ≡ H.reading (value (bits (a ∷ b ∷ c ∷ d ∷ []))) ∷ []
   unfolding readings
   head-one = refl
 
@@ -389,11 +394,11 @@ settles-exp : settling oneHeaderSettles (readings (headed exp9) (0 ∷ [])) ≡ 
 unfolding value fields field
 settles-exp = ap (settling oneHeaderSettles) (head-one 0x00 0x80 0x80 0xE8 ∙ ap (λ (h : Header). h ∷ []) (read-exp .0)) ∙ only-clean oneHeaderSettles (H.decodedAs 0xE8808000 32768) refl (read-exp .1)
 
-cut-two : cutting two ≡ record { places = 0 ∷ 144 ∷ []; ending = whole }
+pub cut-two : cutting two ≡ record { places = 0 ∷ 144 ∷ []; ending = whole }
 unfolding walk pieceBy syncMet lastMet
 cut-two = refl
 
-heads-two : readings two (0 ∷ 144 ∷ []) ≡ H.reading 0xEE0E0008 ∷ H.reading 0x0D1D0010 ∷ []
+pub heads-two : readings two (0 ∷ 144 ∷ []) ≡ H.reading 0xEE0E0008 ∷ H.reading 0x0D1D0010 ∷ []
 unfolding readings value fields field
 heads-two = refl
 
@@ -424,7 +429,7 @@ bad-bad tables = ap (λ (l : List Bool). badPairs (notes l (each (pairInconsiste
 
 -- ---- behind n multiframes alike
 module _ (f : List ℕ) (size : length f ≡ multiframeOctets) where
-  length-again : (n : ℕ) → length (again n f) ≡ multiframeOctets * n
+  pub length-again : (n : ℕ) → length (again n f) ≡ multiframeOctets * n
   unfolding again
   length-again n = length-joined (λ k. f) multiframeOctets n (λ k h. size)
 
@@ -432,11 +437,11 @@ module _ (f : List ℕ) (size : length f ≡ multiframeOctets) where
   unfolding again
   again-part n k h = joined-part (λ k. f) multiframeOctets n k (λ i l. size) h
 
-  part-again : (n k a v : ℕ) → k < n → a + v ≤ multiframeOctets → part (multiframeOctets * k + a) v (again n f) ≡ part a v f
+  pub part-again : (n k a v : ℕ) → k < n → a + v ≤ multiframeOctets → part (multiframeOctets * k + a) v (again n f) ≡ part a v f
   part-again n k a v h l =
       part-within (again n f) (multiframeOctets * k) multiframeOctets a v (omega (arith, length-again n)) l ∙ ap (part a v) (again-part n k h)
 
-  octet-again : (n k i : ℕ) (rest : List ℕ) → k < n → i < multiframeOctets → getD (again n f ++ rest) (multiframeOctets * k + i) 0 ≡ getD f i 0
+  pub octet-again : (n k i : ℕ) (rest : List ℕ) → k < n → i < multiframeOctets → getD (again n f ++ rest) (multiframeOctets * k + i) 0 ≡ getD f i 0
   octet-again n k i rest h l =
       List·getD-append (again n f) rest 0 (144 * k + i) (omega (arith, length-again n))
       ∙ sym (getD-take 144 (drop (144 * k) (again n f)) i 0 l ∙ getD-drop (144 * k) (again n f) i 0) ∙ ap (λ (x : List ℕ). getD x i 0) (again-part n k h)
@@ -484,7 +489,7 @@ module _ (header : List ℕ) (four : length (headed header) ≡ multiframeOctets
       ∙ ap₂ (λ (q k : ℕ). walk 0 (drop q s) q k .ending) x y ∙ ap (λ (r : List ℕ). walk 0 r (144 * n) n .ending) (drop-at (again n f) rest (144 * n) (length-again f four n))
 
 -- ---- n multiframes of which no header can be read
-all-lost : (hs : List Header) → ((k : ℕ) → k < length hs → getD hs k Lost ≡ Lost) → (seen : List ℕ) → firstAgreeing seen hs ≡ S.Unsettled
+pub all-lost : (hs : List Header) → ((k : ℕ) → k < length hs → getD hs k Lost ≡ Lost) → (seen : List ℕ) → firstAgreeing seen hs ≡ S.Unsettled
 unfolding firstAgreeing
 all-lost [] h seen = refl
 all-lost (x ∷ hs) h seen =
@@ -545,11 +550,11 @@ rate-17 =
     is-17-rate oneHeaderSettles (headed rate2) (0 ∷ []) (cut-one 0x0A 0x00 0x0D 0x9D) (λ e. omega arith) (commonBits m) settles-rate-2 (common-rate m ∙ rate-back (settings 2 0) 1 0)
 
 -- twice the same header settles, whatever the caller chose
-cut-twice : cutting (headed rate2 ++ headed rate2) ≡ record { places = 0 ∷ 144 ∷ []; ending = whole }
+pub cut-twice : cutting (headed rate2 ++ headed rate2) ≡ record { places = 0 ∷ 144 ∷ []; ending = whole }
 unfolding walk pieceBy syncMet lastMet
 cut-twice = refl
 
-heads-twice : readings (headed rate2 ++ headed rate2) (0 ∷ 144 ∷ []) ≡ H.reading 0x9D0D000A ∷ H.reading 0x9D0D000A ∷ []
+pub heads-twice : readings (headed rate2 ++ headed rate2) (0 ∷ 144 ∷ []) ≡ H.reading 0x9D0D000A ∷ H.reading 0x9D0D000A ∷ []
 unfolding readings value fields field
 heads-twice = refl
 
@@ -567,11 +572,11 @@ exp-17 =
     (λ e. let z : _≡_ {A = ℕ} 0 2 = rate-masked 32768 ∙ sym (common-rate 32768) ∙ e in omega arith)
     (λ e. let z : _≡_ {A = ℕ} 256 0 = exp-shifted 32768 (lit< tt) ∙ sym (common-exp 32768) ∙ e in omega arith)
 
-cut-exp-twice : cutting (headed exp9 ++ headed exp9) ≡ record { places = 0 ∷ 144 ∷ []; ending = whole }
+pub cut-exp-twice : cutting (headed exp9 ++ headed exp9) ≡ record { places = 0 ∷ 144 ∷ []; ending = whole }
 unfolding walk pieceBy syncMet lastMet
 cut-exp-twice = refl
 
-heads-exp-twice : readings (headed exp9 ++ headed exp9) (0 ∷ 144 ∷ []) ≡ H.reading 0xE8808000 ∷ H.reading 0xE8808000 ∷ []
+pub heads-exp-twice : readings (headed exp9 ++ headed exp9) (0 ∷ 144 ∷ []) ≡ H.reading 0xE8808000 ∷ H.reading 0xE8808000 ∷ []
 unfolding readings value fields field
 heads-exp-twice = refl
 

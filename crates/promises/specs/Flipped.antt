@@ -38,7 +38,7 @@ use Rattle.header.specs.Reading as H
 use Rattle.header.specs.declared.Header.{Header}
 use Rattle.header.specs.declared.Header.the-variants.{Codeword, Lost}
 use Rattle.settling.specs.Settling.{readings, settling, headerNote}
-use Rattle.settling.specs.Laws.{Has, read-has}
+use Rattle.settling.specs.Laws.{Has, read-has, Usable}
 use Rattle.settling.specs.declared.Settlement.the-variants.{Settled}
 use Rattle.cutting.specs.Laws.{every-length}
 use Rattle.carrier.specs.Carrier.{streamPacket, received, pairCount}
@@ -49,7 +49,6 @@ use Rattle.bad_pairs.specs.Laws.{Good, none-good, badBefore, note-at, consisten
 use Rattle.deciding.specs.Deciding.{receivedNotes}
 use Rattle.report.specs.Report.{reportPart}
 use Rattle.reader.specs.Reading.{indexPart, summary, Outcome, outcome, reading}
-use Rattle.deciding.specs.Laws.{Usable}
 use Rattle.reader.specs.declared.Answer.the-variants.{Read}
 use Rattle.image.specs.Made.{syncIn, wordIn, packetIn, made, framed, length-made, made-sync, made-word, made-packet}
 use Rattle.image.specs.Laws.{length-image, image-sync, image-packet}

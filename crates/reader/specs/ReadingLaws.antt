@@ -6,15 +6,15 @@ use mathlib.Core.Path.{_≡_, refl, ap, _∙_}
 use mathlib.Core.List.{List}
 use mathlib.Core.Bool.{Bool, true, false}
 use lib.ListN.{length}
-use borrow.Author.Tests.{eq-eqb, ne-eqb, le-ltb}
+use borrow.Author.Tests.{ne-eqb, le-ltb}
 use Rattle.lists.specs.Tests.{when, by-test}
 use Rattle.lists.specs.Parts.{over}
 use Rattle.layout.specs.Layout.{indexOctets, reportOctets, codebookNumbers, thresholdNumbers}
 use Rattle.choices.specs.declared.Choices.{Choices}
 use Rattle.consistency.specs.Tables.{Tables, tablesRight, RightTables, right-passes, passes-right}
 use Rattle.cutting.specs.Cutting.{Ending, whole, refused, cutting}
-use Rattle.message.specs.Message.{rateOf, expOf}
 use Rattle.settling.specs.Settling.{readings, settling}
+use Rattle.settling.specs.Laws.{fit-is}
 use Rattle.carrier.specs.Carrier.{pairCount}
 use Rattle.bad_pairs.specs.BadPairs.{badPairs}
 use Rattle.replacing.specs.Replacing.{pairsOctets}
@@ -74,8 +74,7 @@ module _ (ch : Choices) (octets : List ℕ) (tables : Tables) (index report : �
         a .uncut,
         ne-eqb (length places) 0 (a .some),
         f .settles,
-        ne-eqb (rateOf c) 2 (f .usable .rate),
-        eq-eqb (expOf c) 0 (f .usable .exp),
+        fit-is c (f .usable),
         le-ltb index (indexOctets * length places) (f .roomy .index-room),
         le-ltb report (reportOctets * length places) (f .roomy .report-room),
         ne-eqb (badPairs (receivedNotes octets places tables)) (pairCount places) (f .roomy .not-all),

@@ -5,7 +5,7 @@
 use Prim.Native.Nat.{ℕ, _*_, _≤_, _<_}
 use native.Mathlib.Omega.{arith}
 use mathlib.Core.Path.{_≡_, refl, ap, sym, _∙_, subst}
-use mathlib.Core.Logic.{_⊎_, inl, inr, _↔_}
+use mathlib.Core.Logic.{_↔_}
 use mathlib.Core.List.{List}
 use lib.ListN.{length}
 use lib.Dec.{ltb, eqb}
@@ -19,15 +19,14 @@ use Rattle.refusals.specs.declared.Reading.the-variants.{WrongTables, Unknown, 
 use Rattle.cutting.specs.Cutting.{Ending, whole, refused, cutting}
 use Rattle.cutting.specs.Reached.{Reached, Meets, Reason, ends-exactly, whole-exactly}
 use Rattle.cutting.specs.declared.Piece.the-variants as P
-use Rattle.message.specs.Message.{rateOf, expOf}
-use Rattle.settling.specs.Settling.{readings, settling}
+use Rattle.settling.specs.Settling.{readings, settling, unfit}
+use Rattle.settling.specs.Laws.{Usable, Unusable, fit-is, unfit-is, fit-says, unfit-says}
 use Rattle.settling.specs.declared.Settlement.{Settlement}
 use Rattle.settling.specs.declared.Settlement.the-variants as S
 use Rattle.carrier.specs.Carrier.{pairCount}
 use Rattle.bad_pairs.specs.BadPairs.{badPairs}
 use Rattle.deciding.specs.Deciding.{roomVerdict, settledVerdict, wholeVerdict, receivedNotes}
 use Rattle.reader.specs.Reading.{endVerdict, verdict, finished, reading}
-use Rattle.deciding.specs.Laws.{Usable}
 use Rattle.reader.specs.declared.Summary.{Summary}
 use Rattle.reader.specs.declared.Answer.the-variants.{Read, Refused}
 use Rattle.deciding.specs.declared.Verdict.{Verdict}
@@ -74,7 +73,7 @@ module _ (ch : Choices) (octets : List ℕ) (tables : Tables) (index report : �
   -- 16: settings not settled
   Given Unsettled = Some octets tables × (settling ch (readings octets places) ≡ S.Unsettled)
   -- 17: settled rate is 2 or any EXP is 1
-  Given Unfit = Some octets tables × ((c : ℕ) × ((settling ch (readings octets places) ≡ S.Settled c) × ((rateOf c ≡ 2) ⊎ (expOf c ≡ 0 → ⊥))))
+  Given Unfit = Some octets tables × ((c : ℕ) × ((settling ch (readings octets places) ≡ S.Settled c) × Unusable c))
   -- 18: index buffer under 168m
   Given (IndexShort n) = Fit × (index < indexOctets * length places) × (n ≡ indexOctets * length places)
   -- 19: report buffer under 13m
@@ -108,18 +107,15 @@ module _ (ch : Choices) (octets : List ℕ) (tables : Tables) (index report : �
   unfolding settledVerdict
   refuses-unsettled w e = settled w S.Unsettled e
 
-  pub refuses-unfit : Some octets tables → (c : ℕ) → settling ch (readings octets places) ≡ S.Settled c → (rateOf c ≡ 2) ⊎ (expOf c ≡ 0 → ⊥)
+  pub refuses-unfit : Some octets tables → (c : ℕ) → settling ch (readings octets places) ≡ S.Settled c → Unusable c
       → verdict ch octets tables index report ≡ Refuse Unfit
   unfolding settledVerdict
-  refuses-unfit w c e (inl h) = settled w (S.Settled c) e ∙ rw (eq-eqb (rateOf c) 2 h)
-  refuses-unfit w c e (inr h) =
-      settled w (S.Settled c) e ∙ by-test (λ (v : Verdict). v ≡ Refuse Unfit) (eqb (rateOf c) 2) (λ a. refl) (λ a. rw (ne-eqb (expOf c) 0 h))
+  refuses-unfit w c e h = settled w (S.Settled c) e ∙ rw (unfit-is c h)
 
   fits : (f : Fit) → verdict ch octets tables index report
       ≡ roomVerdict (length places) (badPairs (receivedNotes octets places tables)) (pairCount places) index report (f .1 .0)
   unfolding settledVerdict
-  fits f =
-      settled (f .0) (S.Settled (f .1 .0)) (f .1 .1 .0) ∙ rw (ne-eqb (rateOf (f .1 .0)) 2 (f .1 .1 .1 .rate), eq-eqb (expOf (f .1 .0)) 0 (f .1 .1 .1 .exp))
+  fits f = settled (f .0) (S.Settled (f .1 .0)) (f .1 .1 .0) ∙ rw (fit-is (f .1 .0) (f .1 .1 .1))
 
   pub refuses-index : Fit → index < indexOctets * length places → verdict ch octets tables index report ≡ Refuse (IndexShort (indexOctets * length places))
   unfolding roomVerdict
@@ -166,10 +162,7 @@ module _ (ch : Choices) (octets : List ℕ) (tables : Tables) (index report : �
   unfolding settledVerdict
   shows-settled w S.Unsettled e = (w, e)
   shows-settled w (S.Settled c) e =
-      by-test Shows (eqb (rateOf c) 2) (λ h. (w, (c, (e, inl (eqb-true (rateOf c) 2 h))))) (λ h.
-      by-test Shows (eqb (expOf c) 0)
-      (λ k. shows-room (w, (c, (e, record { rate = eqb-false (rateOf c) 2 h; exp = eqb-true (expOf c) 0 k }))))
-      (λ k. (w, (c, (e, inr (eqb-false (expOf c) 0 k))))))
+      by-test Shows (unfit c) (λ h. (w, (c, (e, unfit-says c h)))) (λ h. shows-room (w, (c, (e, fit-says c h))))
 
   shows-whole : CutUp octets tables → Shows (wholeVerdict ch octets tables index report places)
   unfolding wholeVerdict

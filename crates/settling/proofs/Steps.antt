@@ -13,7 +13,7 @@ use borrow.Author.Tests.{eq-eqb, ne-eqb}
 use Rattle.lists.specs.Tests.{when}
 use Rattle.lists.specs.Parts.{over}
 use Rattle.carrier.specs.Carrier.{wordAt, inPlaces}
-use Rattle.lists.specs.Rows.{length-each, each-at, each-more}
+use Rattle.lists.specs.Rows.{each-at, each-more}
 use Rattle.message.specs.Message.{countOf, commonBits}
 use Rattle.header.specs.Reading.{reading}
 use Rattle.header.specs.declared.Decoded.{Decoded}
@@ -24,13 +24,9 @@ use Rattle.choices.specs.declared.Choices.{Choices}
 use Rattle.settling.specs.Settling.{among, firstAgreeing, onlyOne, orElse, settling, headerNote}
 use Rattle.settling.specs.declared.Settlement.{Settlement}
 use Rattle.settling.specs.declared.Settlement.the-variants.{Settled, Unsettled}
-use Rattle.settling.specs.Stored.{packed, opened, openAll, packAll, withSeen, seenBefore, settledBy, hasCommon, stepNote, commonNote}
+use Rattle.settling.specs.Stored.{packed, opened, openAll, length-open, packAll, withSeen, seenBefore, settledBy, hasCommon, stepNote, commonNote}
 
 -- ---- the stored readings, opened
-pub length-open : (l : List ℕ) → length (openAll l) ≡ length l
-unfolding openAll
-length-open l = length-each (λ k. opened (getD l k 0)) (length l)
-
 pub open-at : (l : List ℕ) (k : ℕ) → k < length l → getD (openAll l) k Lost ≡ opened (getD l k 0)
 unfolding openAll
 open-at l k h = each-at (λ k. opened (getD l k 0)) (length l) k Lost h

@@ -9,11 +9,11 @@ use lib.ListN.{length, getD}
 use lib.Dec.{eqb}
 use native.Mathlib.Decide.{ℕ-discrete}
 use native.Mathlib.Omega.{arith}
-use borrow.Author.Tests.{eq-eqb, ne-eqb, eqb-true}
-use Rattle.lists.specs.Tests.{when, true-false}
+use borrow.Author.Tests.{eq-eqb, ne-eqb, eqb-true, eqb-false}
+use Rattle.lists.specs.Tests.{when, by-test, true-false}
 use Rattle.lists.specs.Rows.{length-each}
 use Rattle.carrier.specs.Carrier.{wordAt, inPlaces}
-use Rattle.message.specs.Message.{countOf, commonBits}
+use Rattle.message.specs.Message.{rateOf, countOf, expOf, commonBits}
 use Rattle.choices.specs.Choices.{oneSettles}
 use Rattle.choices.specs.declared.Choices.{Choices}
 use Rattle.header.specs.Reading as H
@@ -21,7 +21,7 @@ use Rattle.header.specs.Reading.Laws.{lost-not-read, same-message}
 use Rattle.header.specs.declared.Decoded.{Decoded}
 use Rattle.header.specs.declared.Header.{Header}
 use Rattle.header.specs.declared.Header.the-variants.{Codeword, Lost}
-use Rattle.settling.specs.Settling.{readings, among, firstAgreeing, onlyOne, orElse, settling, headerNote}
+use Rattle.settling.specs.Settling.{readings, among, firstAgreeing, onlyOne, orElse, settling, unfit, headerNote}
 use Rattle.settling.specs.declared.Settlement.{Settlement}
 use Rattle.settling.specs.declared.Settlement.the-variants.{Settled, Unsettled}
 
@@ -381,3 +381,42 @@ read-has (Lost ∷ hs) zero d e = absurd (lost-not-read d e)
 read-has (Codeword x ∷ hs) zero d e = ap commonBits (same-message x d e)
 read-has (Lost ∷ hs) (suc k) d e = read-has hs k d e
 read-has (Codeword x ∷ hs) (suc k) d e = read-has hs k d e
+
+-- ---- settled bits that can be used, and 17 of all others
+pub record Usable (c : ℕ) : Type 0 where
+  pub rate : rateOf c ≡ 2 → ⊥
+  pub exp : expOf c ≡ 0
+
+abbrev pub Unusable : ℕ → Type 0
+Unusable c = (rateOf c ≡ 2) ⊎ (expOf c ≡ 0 → ⊥)
+
+module _ (c : ℕ) where
+  pub fit-is : Usable c → unfit c ≡ false
+  unfolding unfit
+  fit-is u = rw (ne-eqb (rateOf c) 2 (u .rate), eq-eqb (expOf c) 0 (u .exp))
+
+  pub unfit-is : Unusable c → unfit c ≡ true
+  unfolding unfit
+  unfit-is (inl h) = rw (eq-eqb (rateOf c) 2 h)
+  unfit-is (inr h) = rw (ne-eqb (expOf c) 0 h) (by (eqb (rateOf c) 2))
+    where
+      by : (t : Bool) → when t true true ≡ true
+      by true = refl
+      by false = refl
+
+  -- one of both, and nothing else
+  abbrev FitSays : Bool → Type 0
+  FitSays true = Unusable c
+  FitSays false = Usable c
+
+  fit-by : FitSays (unfit c)
+  unfolding unfit
+  fit-by =
+      by-test FitSays (eqb (rateOf c) 2) (λ h. inl (eqb-true (rateOf c) 2 h)) (λ h.
+      by-test FitSays (eqb (expOf c) 0) (λ k. record { rate = eqb-false (rateOf c) 2 h; exp = eqb-true (expOf c) 0 k }) (λ k. inr (eqb-false (expOf c) 0 k)))
+
+  pub fit-says : unfit c ≡ false → Usable c
+  fit-says e = subst FitSays e fit-by
+
+  pub unfit-says : unfit c ≡ true → Unusable c
+  unfit-says e = subst FitSays e fit-by

@@ -8,7 +8,7 @@ use lib.ListN.{length}
 use Rattle.lists.specs.Tests.{when}
 use Rattle.lists.specs.Rows.{each}
 use Rattle.carrier.specs.Carrier.{wordAt, inPlaces}
-use Rattle.message.specs.Message.{countOf, commonBits}
+use Rattle.message.specs.Message.{rateOf, countOf, expOf, commonBits}
 use Rattle.choices.specs.Choices.{oneSettles}
 use Rattle.choices.specs.declared.Choices.{Choices}
 use Rattle.header.specs.Reading.{reading}
@@ -52,6 +52,10 @@ orElse Unsettled other = other
 -- one header alone settles only where the caller asks for it: by default an only multiframe settles nothing (02, C-20)
 unfoldable pub settling : Choices → List Header → Settlement
 settling ch hs = orElse (firstAgreeing [] hs) (when (oneSettles ch) (onlyOne hs) Unsettled)
+
+-- 17: "settled rate is 2 or any EXP is 1". c are the settled common bits
+unfoldable pub unfit : ℕ → Bool
+unfit c = when (eqb (rateOf c) 2) true (when (eqb (expOf c) 0) false true)
 
 -- ---- header notes: 0 clean, 1 or 2 flips mended, 3 lost; a readable one adds 4 if its counter is not (position from 1) mod 16, and 8 if
 -- its common bits differ from the settled, c. k counts from 0

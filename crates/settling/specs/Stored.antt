@@ -55,6 +55,10 @@ opened-packed (Codeword d) h =
 unfoldable pub openAll : List ℕ → List Header
 openAll l = each (λ k. opened (getD l k 0)) (length l)
 
+pub length-open : (l : List ℕ) → length (openAll l) ≡ length l
+unfolding openAll
+length-open l = length-each (λ k. opened (getD l k 0)) (length l)
+
 abbrev pub packAll : List ℕ → List ℕ → ℕ → List ℕ
 packAll octets places n = each (λ k. packed (reading (wordAt octets (inPlaces places) k))) n
 

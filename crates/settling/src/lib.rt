@@ -10,8 +10,11 @@ ghost use lib.ListN.{length, getD};
 ghost use Rattle.lists.specs.Parts.{over};
 ghost use Rattle.lists.specs.Lent.{came, left};
 ghost use Rattle.cutting.specs.Laws.{Placed};
+ghost use Rattle.layout.specs.Layout.{multiframeOctets};
+ghost use Rattle.carrier.specs.Carrier.{headerWord};
+ghost use Rattle.header.specs.Reading.{reading};
 ghost use Rattle.header.specs.declared.Header.the-variants.{Lost};
-ghost use Rattle.settling.specs.Settling.{among, firstAgreeing, onlyOne, settling, headerNote};
+ghost use Rattle.settling.specs.Settling.{among, firstAgreeing, onlyOne, settling, unfit, headerNote};
 ghost use Rattle.settling.specs.Stored.{packed, opened, Mended, openAll, packAll, seenBefore, settledBy, hasCommon, stepNote, commonNote};
 
 // What the headers settle: common bits, SampRate, feType and EXP, as a message with its counter 0; or nothing.
@@ -24,6 +27,9 @@ pub enum Settlement {
 const ABOVE: u32 = 0x10000;
 
 const LOST_FLIPS: u32 = 3;
+
+// A sample rate code that is not defined.
+const UNDEFINED_RATE: u8 = 2;
 
 // The counter of a header counts modulo 16.
 const COUNTS: usize = 16;
@@ -58,6 +64,14 @@ fn open_reading(x: u32) -> Header
     })
 }
 
+// reading_at gives the reading of the header of the multiframe at a place, as one number. It asks for a whole multiframe there.
+pub fn reading_at(octets: &[u8], place: usize) -> u32
+    requires { ⌜ place + multiframeOctets ≤ length (now octets) ⌝ }
+    ensures { λ r. ⌜ r ≡ packed (reading (headerWord (came octets) place)) ⌝ }
+{
+    pack_reading(header::read(carrier::header_word(octets, place)))
+}
+
 // read_headers puts the reading of every header to the front of headers; the rest of headers stays.
 // It asks for places of whole multiframes, and for room.
 pub fn read_headers(octets: &[u8], places: &[usize], headers: &mut [u32])
@@ -68,7 +82,7 @@ pub fn read_headers(octets: &[u8], places: &[usize], headers: &mut [u32])
     let mut k = 0;
     while k < places.len() {
         let place = places[k];
-        headers[k] = pack_reading(header::read(carrier::header_word(octets, place)));
+        headers[k] = reading_at(octets, place);
         k += 1;
     }
 }
@@ -98,8 +112,8 @@ fn was_seen(headers: &[u32], k: Multiframe, common: u16) -> bool
     false
 }
 
-// What the header of multiframe k settles: its common bits, if an earlier readable one has the same.
-fn agreed(headers: &[u32], k: Multiframe) -> Settlement
+// agreed gives what the header of multiframe k settles: its common bits, if an earlier readable one has the same.
+pub fn agreed(headers: &[u32], k: Multiframe) -> Settlement
     requires { ⌜ k .0 < length (now headers) ⌝ }
     ensures { λ r. ⌜ r ≡ settledBy (getD (openAll (came headers)) (k .0) Lost) (seenBefore (openAll (came headers)) (k .0)) ⌝ }
 {
@@ -156,6 +170,20 @@ pub fn settle(headers: &[u32], choices: Choices) -> Settlement
         return only_one(headers);
     }
     Settlement::Unsettled
+}
+
+// is_unfit says whether settled common bits cannot be used, which is 17: their rate is 2, or any EXP is 1.
+pub fn is_unfit(common: u16) -> bool
+    ensures { λ r. ⌜ r ≡ unfit common ⌝ }
+{
+    let fields = message::fields_of(common);
+    if fields.settings.rate == UNDEFINED_RATE {
+        return true;
+    }
+    if fields.exp != 0 {
+        return true;
+    }
+    false
 }
 
 // What the note of a readable header adds if its counter is out of step in multiframe k.

@@ -9,7 +9,8 @@ use lib.ListN.{length}
 use Rattle.cutting.specs.declared.Piece.{Piece}
 use Rattle.cutting.specs.declared.Piece.the-variants.{End, Multiframe, Inverse, Unknown, CutShort, TooMany}
 use Rattle.cutting.specs.Cutting.{pieceOf}
-use Rattle.cutting.proofs.Steps.{Going, Next, begun, next, rest-of}
+use Rattle.cutting.specs.Laws.{rest-of}
+use Rattle.cutting.proofs.Steps.{Going, Next, begun, next}
 use Rattle.cutting.proofs.cut_into.Statement.{statement}
 use Rattle.cutting.proofs.cut_into.Tie as tie
 

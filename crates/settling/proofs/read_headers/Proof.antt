@@ -4,8 +4,7 @@ use mathlib.Core.Path.{_≡_, refl, sym, ap, _∙_, subst}
 use native.Mathlib.Omega.{arith}
 use lib.ListN.{length, length-set}
 use Rattle.lists.specs.Parts.{over, over-none}
-use Rattle.header.specs.Reading.{reading}
-use Rattle.settling.specs.Stored.{packed, packAll, Mended, mended}
+use Rattle.settling.specs.Stored.{packAll}
 use Rattle.settling.proofs.Steps.{stored-on}
 use borrow.Author.Needs.{needs}
 use Rattle.settling.proofs.read_headers.Statement.{statement}
@@ -27,17 +26,10 @@ mul-place c = search needs
 shared-slice-read-place : tie.Need-shared-slice-read-place Inv-loop μ-loop
 shared-slice-read-place c = search needs
 
-header-word-requires : tie.Need-header-word-requires Inv-loop μ-loop
-header-word-requires c κs =
+reading-at-requires : tie.Need-reading-at-requires Inv-loop μ-loop
+reading-at-requires c κs =
     let a = c .before .before in
     a .before .before .before .before .pre .0 (a .loop .k) (omega arith)
-
-read-requires : tie.Need-read-requires Inv-loop μ-loop
-read-requires c κs = search needs
-
-pack-reading-requires : tie.Need-pack-reading-requires Inv-loop μ-loop
-pack-reading-requires c κs =
-    subst Mended (sym (c .read .ensures)) (mended (c .before .header-word .result))
 
 mul-headers : tie.Need-mul-headers Inv-loop μ-loop
 mul-headers c = search needs
@@ -53,16 +45,14 @@ loop-less c = search needs
 
 loop-again : tie.Need-loop-again Inv-loop μ-loop
 loop-again c =
-    let r = c .before in
-    let w = r .before in
-    let a = w .before .before .before in
+    let a = c .before .before .before in
     let st = a .before .before .before .before in
     let size = a .loop .inv .1 in
     let room = st .pre .1 in (
       omega arith,
       rw length-set size,
-      stored-on (st .args .octets .now) (st .args .places .now) (st .args .headers .now) (a .loop .headers) (a .loop .k) (c .pack-reading .result)
-          (omega arith) (c .pack-reading .ensures ∙ ap packed (r .read .ensures) ∙ ap (λ (n : ℕ). packed (reading n)) (w .header-word .ensures)) (a .loop .inv .2) size,
+      stored-on (st .args .octets .now) (st .args .places .now) (st .args .headers .now) (a .loop .headers) (a .loop .k) (c .reading-at .result)
+          (omega arith) (c .reading-at .ensures) (a .loop .inv .2) size,
     )
 
 same-length : tie.Need-same-length Inv-loop μ-loop
@@ -85,9 +75,7 @@ read-headers-spec =
     loop-holds
     mul-place
     shared-slice-read-place
-    header-word-requires
-    read-requires
-    pack-reading-requires
+    reading-at-requires
     mul-headers
     slice-write-headers
     add-k
