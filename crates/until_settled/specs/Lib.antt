@@ -1,0 +1,5 @@
+pub mod UntilSettled
+pub mod Agreeing
+pub mod Front
+pub mod Laws
+pub mod Lasting
