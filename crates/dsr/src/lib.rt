@@ -11,18 +11,22 @@ use refusals::Writing;
 use settings::Settings;
 use writer::Found;
 ghost use mathlib.Core.Path.{_≡_};
+ghost use mathlib.Core.List.{[]};
 ghost use Rattle.lists.specs.Lent.{came, left};
 ghost use Rattle.choices.specs.Choices.{asked};
 ghost use Rattle.consistency.specs.Lent.{tablesIn};
 ghost use Rattle.header_code.specs.Code.{codeword};
 ghost use Rattle.header.specs.Reading.{reading};
 ghost use Rattle.entries.specs.Bits.{huntReturned, dsrHunt, dsrReadBits};
+ghost use Rattle.entries.specs.Settle.{dsrSettle};
 ghost use Rattle.entries.specs.Entries.{headerRead, packed, packing, unpacked, unpacking, writeReturned, dsrWrite, returned, dsrRead};
 
-// The numbers of a reading's answer, and those of a hunting reading's.
+// The numbers of a reading's answer, those of a hunting reading's, and those of settings before the end.
 const ANSWER: usize = 6;
 
 const COUNTED: usize = 8;
+
+const SETTLED: usize = 3;
 
 // dsr_header_encode gives the codeword of a 16-bit message.
 #[no_mangle]
@@ -146,6 +150,36 @@ pub extern "C" fn dsr_read(
         Answer::Refused(r) => {
             *place = refusals::reading_place(r) as u64;
             refusals::reading_number(r)
+        }
+    }
+}
+
+// dsr_settle reads multiframes only until the settings are settled (02, C-11): it answers 0 and puts three numbers (rate, type, multiframes
+// read) into answer, and place stays; or 01's number, 12 to 17, and puts the refusal's place into place, and answer stays. Choices are those
+// of dsr_read. Room for fewer than three numbers is refused with 99 and then a number that names no choice with 96, and all lent memory stays.
+#[no_mangle]
+pub extern "C" fn dsr_settle(
+    octets: &[u8],
+    choices: u64,
+    answer: &mut [u64],
+    place: &mut u64,
+) -> u32
+    ensures { λ r. ⌜ returned r [] [] (left answer) (left place) ≡ dsrSettle (came octets) (asked choices) (came answer) (came place) ⌝ }
+{
+    if answer.len() < SETTLED {
+        return refusals::NO_ROOM;
+    }
+    let Asked::For(chosen) = choices::asked_by(choices) else {
+        return refusals::NO_SUCH_CHOICE;
+    };
+    match until_settled::read(octets, chosen) {
+        until_settled::Answer::Read(b) => {
+            entries::put_beginning(b, answer);
+            refusals::SUCCESS
+        }
+        until_settled::Answer::Refused(refusal) => {
+            *place = refusals::reading_place(refusal) as u64;
+            refusals::reading_number(refusal)
         }
     }
 }

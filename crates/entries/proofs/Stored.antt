@@ -9,6 +9,14 @@ use Rattle.lists.specs.Parts.{over, behind, set-over, length-over}
 use Rattle.hunting.specs.declared.Counted.{Counted}
 use Rattle.entries.specs.Entries.{answerNumbers, summaryNumbers}
 use Rattle.entries.specs.Bits.{countedNumbers, numbersOf}
+use Rattle.entries.specs.Settle.{settleNumbers}
+
+-- three numbers
+pub three-stored : (a : List ℕ) (u v w : ℕ) → settleNumbers ≤ length a → set (set (set a 0 u) 1 v) 2 w ≡ over a 0 settleNumbers (u ∷ v ∷ w ∷ [])
+three-stored [] u v w h = absurd (omega arith)
+three-stored (a ∷ []) u v w h = absurd (omega arith)
+three-stored (a ∷ b ∷ []) u v w h = absurd (omega arith)
+three-stored (a ∷ b ∷ c ∷ l) u v w h = refl
 
 -- six numbers
 pub six-stored : (a : List ℕ) (u v w x y z : ℕ) → answerNumbers ≤ length a

@@ -1,4 +1,5 @@
 pub mod Entries
 pub mod Laws
 pub mod Bits
+pub mod Settle
 pub mod Examples

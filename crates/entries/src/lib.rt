@@ -2,6 +2,7 @@
 // What each entry gives is defined here too (specs/); the entries themselves are the crate dsr, since only its own functions are exported.
 use hunting::Counted;
 use reader::Summary;
+use until_settled::Beginning;
 ghost use mathlib.Core.Path.{_≡_};
 ghost use Prim.Native.Nat.{_≤_};
 ghost use lib.ListN.{length};
@@ -10,6 +11,7 @@ ghost use Rattle.lists.specs.Lent.{came, left};
 ghost use Rattle.entries.specs.Bits.{countedNumbers, numbersOf};
 ghost use Rattle.entries.specs.Entries.{answerNumbers, summaryNumbers};
 ghost use Rattle.entries.specs.Laws.{settingsFit};
+ghost use Rattle.entries.specs.Settle.{settleNumbers, beginningNumbers};
 
 // The largest number of eight bits.
 const OCTET: u64 = 255;
@@ -50,4 +52,15 @@ pub fn put_counted(c: Counted, answer: &mut [u64])
     put_summary(s, answer);
     answer[6] = c.outside as u64;
     answer[7] = c.tested as u64;
+}
+
+// put_beginning puts the three numbers of settings before the end: rate, type and multiframes read. It asks for their room, which dsr_settle
+// has tested.
+pub fn put_beginning(b: Beginning, answer: &mut [u64])
+    requires { ⌜ settleNumbers ≤ length (now answer) ⌝ }
+    ensures { λ _. ⌜ left answer ≡ over (came answer) 0 settleNumbers (beginningNumbers b) ⌝ }
+{
+    answer[0] = b.settings.rate as u64;
+    answer[1] = b.settings.kind as u64;
+    answer[2] = b.multiframes as u64;
 }
