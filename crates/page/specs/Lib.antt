@@ -5,3 +5,4 @@ pub mod Written
 pub mod Received
 pub mod Rules
 pub mod Listed
+pub mod Settled
