@@ -65,7 +65,7 @@ module _ (rate kind : ℕ) (indices out : List ℕ) where
 -- ---- both readings, of w numbers
 module _ (w : ℕ) (a : List ℕ) (p : ℕ) (i r : List ℕ) (g : Given) where
   -- a success, with room for its numbers, is 0, both buffers and its numbers; numbers beyond them and the place stay
-  told-success : w ≤ length a → (l : List ℕ) → g .told ≡ numbers l → returning w a p i r g ≡ returned 0 (g .index) (g .report) (over a 0 w l) p
+  pub told-success : w ≤ length a → (l : List ℕ) → g .told ≡ numbers l → returning w a p i r g ≡ returned 0 (g .index) (g .report) (over a 0 w l) p
   unfolding returning
   told-success h l e = rw (le-ltb (length a) w h) (ap (answered w a p (g .index) (g .report)) e)
 
@@ -75,12 +75,12 @@ module _ (w : ℕ) (a : List ℕ) (p : ℕ) (i r : List ℕ) (g : Given) where
   told-refused h n q e = rw (le-ltb (length a) w h) (ap (λ (x : Given). answered w a p (x .index) (x .report) (x .told)) e)
 
   -- no room is 99, and all stays
-  told-no-room : length a < w → returning w a p i r g ≡ returned noRoom i r a p
+  pub told-no-room : length a < w → returning w a p i r g ≡ returned noRoom i r a p
   unfolding returning
   told-no-room h = rw (lt-ltb (length a) w h)
 
   -- 0 is told with room only
-  told-zero : returning w a p i r g .number ≡ 0 → (w ≤ length a) × (answered w a p (g .index) (g .report) (g .told) .number ≡ 0)
+  pub told-zero : returning w a p i r g .number ≡ 0 → (w ≤ length a) × (answered w a p (g .index) (g .report) (g .told) .number ≡ 0)
   unfolding returning
   told-zero e = by (ltb (length a) w) refl e
     where
@@ -90,7 +90,7 @@ module _ (w : ℕ) (a : List ℕ) (p : ℕ) (i r : List ℕ) (g : Given) where
       by false s e = (ltb-false (length a) w s, e)
 
   -- where a refusal leaves both buffers, any other number than 0 does, and the answer stays
-  told-keeps : ((n q : ℕ) → g .told ≡ refusal n q → (g .index ≡ i) × (g .report ≡ r)) → (returning w a p i r g .number ≡ 0 → ⊥)
+  pub told-keeps : ((n q : ℕ) → g .told ≡ refusal n q → (g .index ≡ i) × (g .report ≡ r)) → (returning w a p i r g .number ≡ 0 → ⊥)
       → (returning w a p i r g .index ≡ i) × ((returning w a p i r g .report ≡ r) × (returning w a p i r g .answer ≡ a))
   unfolding returning
   told-keeps stays n = by (ltb (length a) w) (g .told) refl n

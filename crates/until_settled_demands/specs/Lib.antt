@@ -1,0 +1,5 @@
+pub mod Full
+pub mod Written
+pub mod Met
+pub mod Entry
+pub mod Literally
