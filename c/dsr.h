@@ -4,6 +4,7 @@
  * functions for daily use, which give a struct. Start with those:
  *   dsr_write_utterance   frames to the octets that are sent
  *   dsr_read_utterance    received octets to frames
+ *   dsr_settle_utterance  the first octets of a recording to its sample rate and front end
  *   dsr_hunt_utterance    received bits with no octet boundary to frames
  *   dsr_hunt_multiframe   the first place of a multiframe in such bits
  *   dsr_status_text       what a status says
@@ -28,9 +29,9 @@ extern "C" {
  * number; while that is 0, the minor one. */
 #define DSR_VERSION_MAJOR 0
 #define DSR_VERSION_MINOR 3
-#define DSR_VERSION_PATCH 0
+#define DSR_VERSION_PATCH 1
 #define DSR_VERSION (DSR_VERSION_MAJOR * 10000 + DSR_VERSION_MINOR * 100 + DSR_VERSION_PATCH)
-#define DSR_VERSION_TEXT "0.3.0"
+#define DSR_VERSION_TEXT "0.3.1"
 
 /* DSR_MULTIFRAME_OCTETS is the size of a multiframe: sync 2, header 4, feature stream 138. */
 #define DSR_MULTIFRAME_OCTETS 144
@@ -56,7 +57,9 @@ extern "C" {
 #define DSR_THRESHOLD_NUMBERS 14
 /* DSR_ANSWER_NUMBERS is the length of a reading's answer. */
 #define DSR_ANSWER_NUMBERS 6
-/* DSR_BITS_ANSWER_NUMBERS is the length of the answer of a reading that hunts: those six, then two of its own. */
+/* DSR_SETTLE_ANSWER_NUMBERS is the length of a settling's answer: the first three of those. */
+#define DSR_SETTLE_ANSWER_NUMBERS 3
+/* DSR_BITS_ANSWER_NUMBERS is the length of the answer of a reading that hunts: the six of a reading, then two of its own. */
 #define DSR_BITS_ANSWER_NUMBERS 8
 /* DSR_MULTIFRAME_BITS is the size of a multiframe in bits, and how many have to be left at the place found. */
 #define DSR_MULTIFRAME_BITS 1152
@@ -95,9 +98,9 @@ enum dsr_status {
      * one is none. Place: its bit. */
     DSR_READ_TOO_MANY = 15,
     /* DSR_READ_UNSETTLED: settings not settled, as no two readable headers agree in them. An only multiframe is refused so too, unless
-     * DSR_ONE_HEADER_SETTLES is asked for and its header is a codeword. Place: 0. */
+     * DSR_ONE_HEADER_SETTLES is asked for and its header is a codeword. In dsr_settle the octets end before anything settles. Place: 0. */
     DSR_READ_UNSETTLED = 16,
-    /* DSR_READ_SETTINGS: settled rate is 2 or any EXP is 1. Place: 0. */
+    /* DSR_READ_SETTINGS: settled rate is 2 or any EXP is 1. In dsr_settle it is given at once, whatever stands behind. Place: 0. */
     DSR_READ_SETTINGS = 17,
     /* DSR_READ_INDEX_SHORT: index buffer under 168m. Place: octets needed. */
     DSR_READ_INDEX_SHORT = 18,
@@ -118,8 +121,8 @@ enum dsr_status {
     /* DSR_WRONG_LENGTH (dsr_pack, dsr_unpack): a slice has another length than the multiframe's. (The functions that give a struct): a
      * null pointer has a length other than 0, or a length is above SIZE_MAX / 2. */
     DSR_WRONG_LENGTH = 98,
-    /* DSR_READ_ANSWER_SHORT: answer shorter than DSR_ANSWER_NUMBERS, in dsr_read_bits than DSR_BITS_ANSWER_NUMBERS. All lent memory
-     * stays. */
+    /* DSR_READ_ANSWER_SHORT: answer shorter than DSR_ANSWER_NUMBERS, in dsr_read_bits than DSR_BITS_ANSWER_NUMBERS, in dsr_settle than
+     * DSR_SETTLE_ANSWER_NUMBERS. All lent memory stays. */
     DSR_READ_ANSWER_SHORT = 99
 };
 
@@ -139,9 +142,9 @@ enum dsr_front_end {
     DSR_NOISE_ROBUST = 1
 };
 
-/* dsr_choices is what a caller chooses of a reading: the rule for an only multiframe, in dsr_read_bits one that alone was found. For two
- * multiframes or more the choice changes nothing. Every other number is refused, so that a choice of a later library is never passed
- * over. */
+/* dsr_choices is what a caller chooses of a reading or a settling: the rule for an only multiframe, in dsr_read_bits one that alone was
+ * found. For two multiframes or more the choice changes nothing. Every other number is refused, so that a choice of a later library is
+ * never passed over. */
 enum dsr_choices {
     /* DSR_DEFAULT_CHOICES: an only multiframe is refused with DSR_READ_UNSETTLED, however clean it is: its codeword can be the wrong one,
      * and no second header is there to show it. */
@@ -151,13 +154,13 @@ enum dsr_choices {
     DSR_ONE_HEADER_SETTLES = 1
 };
 
-/* dsr_answer is the place of each number in a successful reading's answer. */
+/* dsr_answer is the place of each number in a successful reading's answer; a settling's has the first three. */
 enum dsr_answer {
     /* DSR_ANSWER_RATE: the settled sample rate code, 0 = 8 kHz, 1 = 11 kHz, 3 = 16 kHz. */
     DSR_ANSWER_RATE = 0,
     /* DSR_ANSWER_TYPE: the settled front-end type, 0 standard, 1 noise robust. */
     DSR_ANSWER_TYPE = 1,
-    /* DSR_ANSWER_MULTIFRAMES: the number of multiframes, m. */
+    /* DSR_ANSWER_MULTIFRAMES: the number of multiframes, m; in dsr_settle of those read. */
     DSR_ANSWER_MULTIFRAMES = 2,
     /* DSR_ANSWER_SPEECH: 24(m-1) plus the place (1 to 24, 0 if none) of the last nonzero frame of the last multiframe, after replacing. */
     DSR_ANSWER_SPEECH = 3,
@@ -261,6 +264,20 @@ DSR_MUST_USE uint32_t dsr_read(const uint8_t *octets, size_t octets_len, uint64_
                                const int32_t *thresholds, size_t thresholds_len, uint8_t *index, size_t index_len, uint8_t *report,
                                size_t report_len, uint64_t *answer, size_t answer_len, uint64_t *place);
 
+/* dsr_settle reads multiframes only until their settings are settled, and stops there: for whoever has to choose by rate and type while the
+ * rest is still being recorded. The octets behind the settling multiframe are not looked at, and no CRC is tried.
+ *   DSR_DONE   answer holds the first three numbers of enum dsr_answer, rate, type and the multiframes read (numbers beyond them stay), and
+ *              *place stays. Rate and type are those of dsr_read, whenever it succeeds on these octets, or on more that begin with them
+ *              if at least two multiframes were read.
+ *   a refusal  12 to 17, and *place is its place and answer stays as it came. 17 comes as soon as its settings are settled, the others are
+ *              those of dsr_read, met before anything settled. After 13, 14 or 16 more octets can settle: call again with all of them.
+ * Lend an answer of DSR_SETTLE_ANSWER_NUMBERS numbers; fewer are refused before all else with DSR_READ_ANSWER_SHORT, and wrong choices
+ * next, as in dsr_read; then *place stays too.
+ * That a multiframe is the only one is known at the end of the octets alone. So DSR_ONE_HEADER_SETTLES is for octets that are the whole
+ * utterance: while the rest is still to come it takes the first multiframe for the only one. */
+DSR_MUST_USE uint32_t dsr_settle(const uint8_t *octets, size_t octets_len, uint64_t choices, uint64_t *answer, size_t answer_len,
+                                 uint64_t *place);
+
 /* dsr_hunt looks for a multiframe at any bit. Bit t is in octet t / 8, with value 2^(t % 8). A place passes if 1,152 bits are left there,
  * at least `least` of its first 16 bits match the sync, and the header behind them is readable. Octets from the 2^61st on are not
  * searched: the number of bits has to fit 64 bits.
@@ -334,6 +351,18 @@ struct dsr_reading {
     /* Of a hunt: the number of bits outside the multiframes found, and of places tested. A reading of octets has 0 here. */
     uint64_t outside;
     uint64_t tested;
+};
+
+/* struct dsr_settled is what a settling says. On a refusal rate is DSR_RATE_NONE and every number behind it is 0. */
+struct dsr_settled {
+    enum dsr_status status;
+    /* The place of a refusal; 0 on success, and if the status has none. */
+    uint64_t place;
+    /* The settled sample rate, a number of enum dsr_rate, and the settled front end, one of enum dsr_front_end. */
+    unsigned rate;
+    unsigned type;
+    /* The number of multiframes read. */
+    unsigned multiframes;
 };
 
 /* struct dsr_hunted is what a hunt for one multiframe says. */
@@ -453,6 +482,22 @@ DSR_MUST_USE static inline enum dsr_status dsr_read_utterance(const uint8_t *oct
                           index ? index : &no_index, index_len, report ? report : &no_report, report_len, answer, DSR_ANSWER_NUMBERS,
                           &place);
     return dsr_fill_(number, place, answer, reading);
+}
+
+/* dsr_settle_utterance gives the settings of received octets as dsr_settle does. Choices are a number of enum dsr_choices. */
+DSR_MUST_USE static inline enum dsr_status dsr_settle_utterance(const uint8_t *octets, size_t octets_len, uint64_t choices,
+                                                                struct dsr_settled *settled) {
+    uint8_t no_octet = 0;
+    uint64_t answer[DSR_SETTLE_ANSWER_NUMBERS] = {DSR_RATE_NONE}, place = 0;
+    uint32_t number = DSR_WRONG_LENGTH;
+    if (dsr_lent_(octets, octets_len))
+        number = dsr_settle(octets ? octets : &no_octet, octets_len, choices, answer, DSR_SETTLE_ANSWER_NUMBERS, &place);
+    settled->status = DSR_AS_(enum dsr_status, number);
+    settled->place = place;
+    settled->rate = DSR_AS_(unsigned, answer[DSR_ANSWER_RATE]);
+    settled->type = DSR_AS_(unsigned, answer[DSR_ANSWER_TYPE]);
+    settled->multiframes = DSR_AS_(unsigned, answer[DSR_ANSWER_MULTIFRAMES]);
+    return settled->status;
 }
 
 /* dsr_hunt_utterance reads bits with no octet boundary as dsr_read_bits does: from bit `from` on, at least `least` (12 to 16) of the sync's
