@@ -38,7 +38,7 @@ MADE := target/lib/$(ARCH)
 ARCHIVE := $(MADE)/libdsr.a
 SHARED := $(MADE)/libdsr.so.$(VERSION)
 DSRLIST := target/bin/$(ARCH)/dsrlist
-LITERAL := $(addprefix checks/literal/,header.c stream.c write.c read.c hunt.c)
+LITERAL := $(addprefix checks/literal/,header.c stream.c write.c read.c settle.c hunt.c)
 HEADERS := c/dsr.h checks/literal/literal.h checks/drive/drive.h checks/bench/bench.h
 WARN := -std=gnu11 -Wall -Wextra -Werror -Ic
 PYTHON := /usr/bin/python3

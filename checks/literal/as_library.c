@@ -39,6 +39,12 @@ uint32_t dsr_read(const uint8_t *octets, size_t octets_len, uint64_t choices, co
                         index_len, report, report_len, answer, place);
 }
 
+uint32_t dsr_settle(const uint8_t *octets, size_t octets_len, uint64_t choices, uint64_t *answer, size_t answer_len, uint64_t *place) {
+    if (answer_len < DSR_SETTLE_ANSWER_NUMBERS) return DSR_READ_ANSWER_SHORT;
+    if (!known(choices)) return DSR_NO_SUCH_CHOICE;
+    return literal_settle(octets, octets_len, choices == DSR_ONE_HEADER_SETTLES, answer, place);
+}
+
 uint32_t dsr_hunt(const uint8_t *octets, size_t octets_len, uint64_t from, uint64_t least, uint64_t *found, uint64_t *tested,
                   uint64_t *place) {
     return literal_hunt(octets, octets_len, from, least, found, tested, place);

@@ -51,6 +51,9 @@ uint32_t literal_read(const uint8_t *octets, size_t octets_len, int one_header_s
                        const int32_t *thresholds, size_t thresholds_len, uint8_t *index, size_t index_len, uint8_t *report,
                        size_t report_len, uint64_t *answer, uint64_t *place);
 
+/* The first three numbers of a reading's answer: rate, type, and here the multiframes read. */
+uint32_t literal_settle(const uint8_t *octets, size_t octets_len, int one_header_settles, uint64_t *answer, uint64_t *place);
+
 uint32_t literal_hunt(const uint8_t *octets, size_t octets_len, uint64_t from, uint64_t least, uint64_t *found, uint64_t *tested,
                        uint64_t *place);
 
