@@ -354,7 +354,7 @@ twin: target/staticlib/libdsr.a target/compiled/aarch64/libdsr.a
 FACE := $(BUILD)/$(LIB)/face
 comma := ,
 FACE_WARN := -Wall -Wextra -Wpedantic -Wconversion -Wsign-conversion -Werror -O2
-FACE_WRAP := $(patsubst %,-Wl$(comma)--wrap=dsr_%,write read hunt read_bits)
+FACE_WRAP := $(patsubst %,-Wl$(comma)--wrap=dsr_%,write read settle hunt read_bits)
 
 .PHONY: c-face
 c-face: $(README_WITH)
@@ -362,7 +362,7 @@ c-face: $(README_WITH)
 	for cc in gcc clang; do command -v $$cc >/dev/null || continue; \
 	    $$cc -x c++ -std=c++11 -Wold-style-cast -Werror -fsyntax-only c/dsr.h || exit 1; \
 	    $$cc -std=c99 -Wall -Werror -Wno-unused-result -c checks/c/dropped.c -o /dev/null || exit 1; \
-	    [ "$$($$cc -std=c99 -c checks/c/dropped.c -o /dev/null 2>&1 | grep -c 'warning:.*unused.result')" = 11 ] || exit 1; \
+	    [ "$$($$cc -std=c99 -c checks/c/dropped.c -o /dev/null 2>&1 | grep -c 'warning:.*unused.result')" = 13 ] || exit 1; \
 	    for std in 'c -std=c99' 'c++ -std=c++11' 'c++ -std=c++20'; do \
 	        $$cc -x $$std $(FACE_WARN) checks/c/face.c checks/c/not_null.c -x none $(README_WITH) $(FACE_WRAP) -o $(FACE) && \
 	        $(FACE) && $$cc -x $$std $(FACE_WARN) checks/c/pass.c -o $(FACE)-pass && $(FACE)-pass || exit 1; done; done

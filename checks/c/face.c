@@ -1,7 +1,7 @@
 /* Tests every inline function of dsr.h, as C99, C++11 and C++20: the values on success, what a refusal leaves in the struct, null pointers,
- * and numbers that are too wide; and of the proved functions what they say of an only multiframe and of a choice that there is not. Two
- * multiframes are read alike by either rule, so all that is expected of them is tried with both. Prints how many expectations were met, or
- * the first that was not. */
+ * and numbers that are too wide; and of the proved functions what they say of an only multiframe and of a choice that there is not, and
+ * all that dsr_settle says. Two multiframes are read alike by either rule, so all that is expected of them is tried with both. Prints how
+ * many expectations were met, or the first that was not. */
 #include <stdio.h>
 #include <stdlib.h>
 #include <string.h>
@@ -13,6 +13,7 @@ enum { FRAMES = 30, MULTIFRAMES = 2, IDLE_BITS = 19, MARK = 0xA5 };
 static uint8_t said[FRAMES * DSR_FRAME_INDICES];
 static uint8_t image[MULTIFRAMES * DSR_MULTIFRAME_OCTETS];
 static uint8_t modem[sizeof image + 4];
+static uint8_t recorded[sizeof image + 4], crowd[(DSR_MOST_MULTIFRAMES + 1) * DSR_MULTIFRAME_OCTETS];
 static uint8_t heard[MULTIFRAMES * DSR_MULTIFRAME_INDICES];
 static uint8_t report[MULTIFRAMES * DSR_MULTIFRAME_REPORT];
 static uint64_t answer[DSR_BITS_ANSWER_NUMBERS], place;
@@ -53,7 +54,7 @@ static void expect_version(void) {
     char text[32];
     snprintf(text, sizeof text, "%d.%d.%d", DSR_VERSION_MAJOR, DSR_VERSION_MINOR, DSR_VERSION_PATCH);
     EXPECT(strcmp(text, DSR_VERSION_TEXT) == 0);
-    EXPECT(DSR_VERSION == 300);
+    EXPECT(DSR_VERSION == 301);
 }
 
 static void expect_sizes(void) {
@@ -331,6 +332,147 @@ static void expect_no_such_choice(void) {
     }
 }
 
+/* --- settings without the whole utterance */
+
+static uint32_t plain_settle(const uint8_t *octets, size_t len, uint64_t choices, size_t answer_len) {
+    mark();
+    return dsr_settle(octets, len, choices, answer, answer_len, &place);
+}
+
+/* The proved function and the inline one alike; a struct that was used before shows the answer all the same. */
+static void expect_settled(const uint8_t *octets, size_t len, uint64_t rule, unsigned multiframes) {
+    struct dsr_settled s;
+    memset(&s, MARK, sizeof s);
+    EXPECT(plain_settle(octets, len, rule, DSR_BITS_ANSWER_NUMBERS) == DSR_DONE && marked(&place, sizeof place));
+    EXPECT(answer[DSR_ANSWER_RATE] == DSR_RATE_11_KHZ && answer[DSR_ANSWER_TYPE] == DSR_STANDARD);
+    EXPECT(answer[DSR_ANSWER_MULTIFRAMES] == multiframes);
+    EXPECT(marked(answer + DSR_SETTLE_ANSWER_NUMBERS, sizeof answer - DSR_SETTLE_ANSWER_NUMBERS * sizeof *answer));
+    EXPECT(plain_settle(octets, len, rule, DSR_SETTLE_ANSWER_NUMBERS) == DSR_DONE && answer[DSR_ANSWER_MULTIFRAMES] == multiframes);
+    EXPECT(dsr_settle_utterance(octets, len, rule, &s) == DSR_DONE && s.status == DSR_DONE && s.place == 0);
+    EXPECT(s.rate == DSR_RATE_11_KHZ && s.type == DSR_STANDARD && s.multiframes == multiframes);
+}
+
+static void expect_refused_struct(const uint8_t *octets, size_t len, uint64_t rule, enum dsr_status status, uint64_t at) {
+    struct dsr_settled s;
+    memset(&s, MARK, sizeof s);
+    EXPECT(dsr_settle_utterance(octets, len, rule, &s) == status && s.status == status && s.place == at);
+    EXPECT(s.rate == DSR_RATE_NONE && s.rate == 255 && s.type == 0 && s.multiframes == 0);
+}
+
+static void expect_not_settled(const uint8_t *octets, size_t len, uint64_t rule, enum dsr_status status, uint64_t at) {
+    EXPECT(plain_settle(octets, len, rule, DSR_SETTLE_ANSWER_NUMBERS) == (uint32_t)status && place == at && buffers_stay());
+    expect_refused_struct(octets, len, rule, status, at);
+}
+
+static void set_header(uint8_t *multiframe, unsigned message) {
+    uint32_t word = dsr_header_encode((uint16_t)message);
+    for (unsigned i = 0; i < 4; i++) multiframe[2 + i] = (uint8_t)(word >> 8 * i);
+}
+
+/* The image with four octets behind it. */
+static void record(uint8_t a, uint8_t b, uint8_t c, uint8_t d) {
+    const uint8_t behind[4] = {a, b, c, d};
+    memcpy(recorded, image, sizeof image);
+    memcpy(recorded + sizeof image, behind, sizeof behind);
+}
+
+/* Two headers agree, and nothing behind them matters. */
+static void expect_settling(uint64_t rule) {
+    static const uint8_t behind[][4] = {{0, 0, 0, 0}, {0x87, 0xB2, 0, 0}, {0x78, 0x4D, 0x87, 0xB2}, {0x87, 0xB2, 0x78, 0x4D}};
+    for (size_t i = 0; i < sizeof behind / sizeof *behind; i++) {
+        record(behind[i][0], behind[i][1], behind[i][2], behind[i][3]);
+        for (size_t more = 0; more <= 4; more++) expect_settled(recorded, sizeof image + more, rule, 2);
+    }
+    recorded[2] ^= 0x81; /* two flips: mended */
+    expect_settled(recorded, sizeof recorded, rule, 2);
+    memmove(recorded + 2, image, sizeof image);
+    recorded[0] = 0x78, recorded[1] = 0x4D;
+    expect_settled(recorded, sizeof image + 2, rule, 2);
+    recorded[sizeof image + 1] ^= 1; /* the last octet of a pair: no CRC is tried */
+    expect_settled(recorded, sizeof image + 2, rule, 2);
+}
+
+static void expect_settling_refusals(uint64_t rule) {
+    static const uint8_t inverse[] = {0x78, 0x4D, 0x78, 0x4D, 0x78};
+    record(0, 0, 0, 0);
+    expect_not_settled(said, sizeof said, rule, DSR_READ_UNKNOWN, 0);
+    expect_not_settled(image, sizeof image - 1, rule, DSR_READ_CUT, DSR_MULTIFRAME_OCTETS);
+    expect_not_settled(inverse, 5, rule, DSR_READ_CUT, 4);
+    expect_not_settled(inverse, 4, rule, DSR_READ_NO_MULTIFRAME, 4);
+    recorded[2] ^= 0x83; /* three flips: lost */
+    expect_not_settled(recorded, sizeof image, rule, DSR_READ_UNSETTLED, 0);
+    expect_not_settled(recorded, sizeof recorded, rule, DSR_READ_UNKNOWN, sizeof image);
+    for (unsigned bit = 7; bit <= 16; bit++) { /* every expansion bit, and rate 2 */
+        unsigned message = bit < 16 ? 1u << bit | 8 : 2 | 8;
+        set_header(recorded, message);
+        set_header(recorded + DSR_MULTIFRAME_OCTETS, message);
+        expect_not_settled(recorded, sizeof image, rule, DSR_READ_SETTINGS, 0);
+        expect_not_settled(recorded, sizeof recorded, rule, DSR_READ_SETTINGS, 0);
+    }
+}
+
+/* No two of 255 headers agree; the 256th comes too late, even cut. */
+static void expect_crowd_refused(uint64_t rule) {
+    const size_t most = DSR_MOST_MULTIFRAMES * DSR_MULTIFRAME_OCTETS;
+    for (unsigned k = 0; k <= DSR_MOST_MULTIFRAMES; k++) {
+        memcpy(crowd + DSR_MULTIFRAME_OCTETS * k, image, DSR_MULTIFRAME_OCTETS);
+        set_header(crowd + DSR_MULTIFRAME_OCTETS * k, k == DSR_MOST_MULTIFRAMES ? 1 : (k + 1) << 7);
+    }
+    expect_not_settled(crowd, most, rule, DSR_READ_UNSETTLED, 0);
+    expect_not_settled(crowd, most + 1, rule, DSR_READ_CUT, most);
+    expect_not_settled(crowd, most + 2, rule, DSR_READ_TOO_MANY, most);
+    expect_not_settled(crowd, sizeof crowd, rule, DSR_READ_TOO_MANY, most);
+    set_header(crowd, 1);
+    set_header(crowd + most - DSR_MULTIFRAME_OCTETS, 1);
+    expect_settled(crowd, sizeof crowd, rule, DSR_MOST_MULTIFRAMES);
+}
+
+static void expect_settling_null(uint64_t rule) {
+    expect_refused_struct(NULL, 0, rule, DSR_READ_NO_MULTIFRAME, 0);
+    expect_refused_struct(NULL, 1, rule, DSR_WRONG_LENGTH, 0);
+    expect_refused_struct(NULL, sizeof image, rule, DSR_WRONG_LENGTH, 0);
+    expect_refused_struct(image, SIZE_MAX, rule, DSR_WRONG_LENGTH, 0);
+    expect_refused_struct(image, SIZE_MAX / 2 + 1, rule, DSR_WRONG_LENGTH, 0);
+}
+
+/* An only multiframe settles if that is asked for, it is a codeword, and the octets end with it or with inverse syncs behind it. */
+static void expect_only_settles_by_name(void) {
+    static const uint8_t behind[] = {0x78, 0x4D, 0x78, 0x4D, 0x00};
+    const size_t one = DSR_MULTIFRAME_OCTETS;
+    record(0, 0, 0, 0);
+    memcpy(recorded + one, behind, sizeof behind);
+    for (size_t more = 0; more <= 4; more += 2) {
+        expect_not_settled(recorded, one + more, DSR_DEFAULT_CHOICES, DSR_READ_UNSETTLED, 0);
+        expect_settled(recorded, one + more, DSR_ONE_HEADER_SETTLES, 1);
+    }
+    for (uint64_t rule = DSR_DEFAULT_CHOICES; rule <= DSR_ONE_HEADER_SETTLES; rule++) {
+        expect_not_settled(recorded, one + 3, rule, DSR_READ_CUT, one + 2);
+        expect_not_settled(recorded, one + 5, rule, DSR_READ_UNKNOWN, one + 4);
+        recorded[2] ^= 0x01;
+        expect_not_settled(recorded, one, rule, DSR_READ_UNSETTLED, 0);
+        recorded[2] ^= 0x01;
+    }
+    set_header(recorded, 2 | 8);
+    expect_not_settled(recorded, one, DSR_DEFAULT_CHOICES, DSR_READ_UNSETTLED, 0);
+    expect_not_settled(recorded, one, DSR_ONE_HEADER_SETTLES, DSR_READ_SETTINGS, 0);
+}
+
+/* A short answer comes before all else, then a choice that there is not; all lent memory stays, the place too. */
+static void expect_settling_not_begun(void) {
+    static const uint64_t choices[] = {0, 1, 2, 3, 255, 256, 257, 65536, 0x100000000, 0x100000001, 0x8000000000000001, UINT64_MAX};
+    static const size_t lengths[] = {0, 143, 144, sizeof image};
+    for (size_t i = 0; i < sizeof choices / sizeof *choices; i++) {
+        for (size_t k = 0; k < sizeof lengths / sizeof *lengths; k++) {
+            for (size_t numbers = 0; numbers < DSR_SETTLE_ANSWER_NUMBERS; numbers++)
+                EXPECT(plain_settle(image, lengths[k], choices[i], numbers) == DSR_READ_ANSWER_SHORT && marks_stay());
+            if (choices[i] <= DSR_ONE_HEADER_SETTLES) continue;
+            EXPECT(plain_settle(image, lengths[k], choices[i], DSR_SETTLE_ANSWER_NUMBERS) == DSR_NO_SUCH_CHOICE && marks_stay());
+            expect_refused_struct(image, lengths[k], choices[i], DSR_NO_SUCH_CHOICE, 0);
+        }
+        expect_refused_struct(NULL, 1, choices[i], DSR_WRONG_LENGTH, 0);
+    }
+}
+
 int main(void) {
     for (size_t i = 0; i < sizeof said; i++) said[i] = (uint8_t)(i % 63 + 1);
     expect_version();
@@ -350,10 +492,16 @@ int main(void) {
         expect_hunt_reads(rule);
         expect_hunt_refusals(rule);
         expect_touched_header_refused(rule);
+        expect_settling(rule);
+        expect_settling_refusals(rule);
+        expect_crowd_refused(rule);
+        expect_settling_null(rule);
     }
     expect_only_refused();
     expect_only_read_by_name();
     expect_no_such_choice();
+    expect_only_settles_by_name();
+    expect_settling_not_begun();
     printf("%u expectations met\n", met);
     return 0;
 }

@@ -14,6 +14,8 @@ uint32_t __real_dsr_read(const uint8_t *, size_t, uint64_t, const int32_t *, siz
                          size_t, uint64_t *, size_t, uint64_t *);
 uint32_t __wrap_dsr_read(const uint8_t *, size_t, uint64_t, const int32_t *, size_t, const int32_t *, size_t, uint8_t *, size_t, uint8_t *,
                          size_t, uint64_t *, size_t, uint64_t *);
+uint32_t __real_dsr_settle(const uint8_t *, size_t, uint64_t, uint64_t *, size_t, uint64_t *);
+uint32_t __wrap_dsr_settle(const uint8_t *, size_t, uint64_t, uint64_t *, size_t, uint64_t *);
 uint32_t __real_dsr_hunt(const uint8_t *, size_t, uint64_t, uint64_t, uint64_t *, uint64_t *, uint64_t *);
 uint32_t __wrap_dsr_hunt(const uint8_t *, size_t, uint64_t, uint64_t, uint64_t *, uint64_t *, uint64_t *);
 uint32_t __real_dsr_read_bits(const uint8_t *, size_t, uint64_t, uint64_t, uint64_t, const int32_t *, size_t, const int32_t *, size_t,
@@ -39,6 +41,12 @@ uint32_t __wrap_dsr_read(const uint8_t *octets, size_t octets_len, uint64_t choi
     expect_lent(octets && codebook && thresholds && index && report && answer && place);
     return __real_dsr_read(octets, octets_len, choices, codebook, codebook_len, thresholds, thresholds_len, index, index_len, report,
                            report_len, answer, answer_len, place);
+}
+
+uint32_t __wrap_dsr_settle(const uint8_t *octets, size_t octets_len, uint64_t choices, uint64_t *answer, size_t answer_len,
+                           uint64_t *place) {
+    expect_lent(octets && answer && place);
+    return __real_dsr_settle(octets, octets_len, choices, answer, answer_len, place);
 }
 
 uint32_t __wrap_dsr_hunt(const uint8_t *octets, size_t octets_len, uint64_t from, uint64_t least, uint64_t *found, uint64_t *tested,

@@ -48,6 +48,15 @@ uint32_t dsr_read_bits(const uint8_t *o, size_t ol, uint64_t from, uint64_t leas
     return played(o, ol, from, least, choices, c, cl, t, tl, i, il, r, rl, a, al, p);
 }
 
+uint32_t dsr_settle(const uint8_t *octets, size_t octets_len, uint64_t choices, uint64_t *answer, size_t answer_len, uint64_t *place) {
+    memset(&got, 0, sizeof got);
+    got.lent[0] = octets;
+    got.number[0] = octets_len, got.number[1] = choices, got.number[2] = answer_len;
+    if (play_status == DSR_DONE) memcpy(answer, play, answer_len * sizeof *answer);
+    if (play_status != DSR_DONE) *place = play_place;
+    return play_status;
+}
+
 uint32_t dsr_hunt(const uint8_t *octets, size_t octets_len, uint64_t from, uint64_t least, uint64_t *found, uint64_t *tested, uint64_t *place) {
     memset(&got, 0, sizeof got);
     got.lent[0] = octets;
@@ -119,6 +128,19 @@ static void reads_pass(uint32_t status) {
     expect_said(&r, status, 1);
 }
 
+static void settle_passes(uint32_t status) {
+    struct dsr_settled s;
+    memset(&s, 0xA5, sizeof s);
+    play_status = status, play_place = wide(7);
+    EXPECT(dsr_settle_utterance(a, length(1), wide(6), &s) == (enum dsr_status)status);
+    memset(&want, 0, sizeof want);
+    want.lent[0] = a;
+    want.number[0] = length(1), want.number[1] = wide(6), want.number[2] = 3;
+    EXPECT(memcmp(&got, &want, sizeof want) == 0);
+    EXPECT(s.status == (enum dsr_status)status && s.place == (status ? play_place : 0));
+    EXPECT(s.rate == (status ? 255 : play[0]) && s.type == (status ? 0 : play[1]) && s.multiframes == (status ? 0 : play[2]));
+}
+
 static void hunt_passes(uint32_t status) {
     struct dsr_hunted h;
     memset(&h, 0xA5, sizeof h);
@@ -138,6 +160,7 @@ int main(void) {
         for (uint32_t status = 0; status < 100; status++) {
             write_passes(status);
             reads_pass(status);
+            settle_passes(status);
             hunt_passes(status);
         }
     }
@@ -146,6 +169,7 @@ int main(void) {
     EXPECT(dsr_hunt_multiframe(NULL, 1, 0, 14, &h) == DSR_WRONG_LENGTH && h.status == DSR_WRONG_LENGTH);
     EXPECT(DSR_HEADER_LOST == 3 && DSR_HEADER_COUNTER == 4 && DSR_HEADER_DIFFERS == 8);
     EXPECT(DSR_RATE_8_KHZ == 0 && DSR_RATE_11_KHZ == 1 && DSR_RATE_16_KHZ == 3 && DSR_STANDARD == 0 && DSR_NOISE_ROBUST == 1);
+    EXPECT(DSR_ANSWER_NUMBERS == 6 && DSR_SETTLE_ANSWER_NUMBERS == 3 && DSR_BITS_ANSWER_NUMBERS == 8);
     EXPECT(DSR_DEFAULT_CHOICES == 0 && DSR_ONE_HEADER_SETTLES == 1 && DSR_NO_SUCH_CHOICE == 96);
     printf("%u expectations met\n", met);
     return 0;
