@@ -39,7 +39,7 @@ ARCHIVE := $(MADE)/libdsr.a
 SHARED := $(MADE)/libdsr.so.$(VERSION)
 DSRLIST := target/bin/$(ARCH)/dsrlist
 LITERAL := $(addprefix checks/literal/,header.c stream.c write.c read.c settle.c hunt.c)
-HEADERS := c/dsr.h checks/literal/literal.h checks/drive/drive.h checks/bench/bench.h
+HEADERS := c/dsr.h checks/literal/literal.h checks/drive/drive.h checks/drive/wide.h checks/bench/bench.h
 WARN := -std=gnu11 -Wall -Wextra -Werror -Ic
 PYTHON := /usr/bin/python3
 CARGO := cargo

@@ -6,7 +6,7 @@
  * 32 bits can be tried.
  * A slice is a length of 32 bits and its elements; answer is a slice of numbers of 64 bits; choices and place are one such number
  * each. */
-#include "drive.h"
+#include "wide.h"
 
 #include "../../c/dsr.h"
 
@@ -40,25 +40,6 @@ static void read_lent(void) {
     give(lend.answer.data, lend.answer.len);
     give(lend.index.data, lend.index.len);
     give(lend.report.data, lend.report.len);
-}
-
-/* `before` octets of inverse syncs, then the given ones. The inverse syncs are one short file that is mapped again and again. */
-static uint8_t *behind_inverse_syncs(uint64_t before, const struct lent *octets) {
-    enum { UNIT = 1 << 21 };
-    uint8_t *all = wide_slice(before + octets->len + 1, PROT_READ | PROT_WRITE);
-    int file = memfd_create("inverse syncs", 0);
-    if (file < 0 || ftruncate(file, UNIT) != 0) fail("no file in memory");
-    uint8_t *unit = mmap(NULL, UNIT, PROT_READ | PROT_WRITE, MAP_SHARED, file, 0);
-    if (unit == MAP_FAILED) fail("no memory");
-    for (size_t i = 0; i < UNIT; i++) unit[i] = i % 2 == 0 ? 0x78 : 0x4D;
-    uint64_t at = 0;
-    for (; at + UNIT <= before; at += UNIT)
-        if (mmap(all + at, UNIT, PROT_READ, MAP_SHARED | MAP_FIXED | MAP_POPULATE, file, 0) == MAP_FAILED) fail("no room for inverse syncs");
-    memcpy(all + at, unit, before - at);
-    memcpy(all + before, octets->data, octets->len);
-    munmap(unit, UNIT);
-    close(file);
-    return all;
 }
 
 static void read_wide(void) {
