@@ -24,22 +24,22 @@ pub struct Reading {
     pub report: Vec<u8>,
 }
 
-fn refusal<T>(number: u32, place: usize) -> Result<T, Refusal> {
+pub(crate) fn refusal<T>(number: u32, place: usize) -> Result<T, Refusal> {
     Err(Refusal { number, place: place as u64 })
 }
 
-/// The multiframes of the octets.
-fn cut(octets: &[u8]) -> Result<Vec<&[u8]>, Refusal> {
+/// The multiframes of the octets as far as cutting goes, and what stops it before their end.
+pub(crate) fn cut_as_far_as_it_goes(octets: &[u8]) -> (Vec<&[u8]>, Result<(), Refusal>) {
     let mut parts = vec![];
     let mut rest = octets;
     while !rest.is_empty() {
         let place = octets.len() - rest.len();
         if rest.starts_with(&SYNC) {
             if parts.len() == MOST {
-                return refusal(15, place);
+                return (parts, refusal(15, place));
             }
             if rest.len() < MULTIFRAME {
-                return refusal(13, place);
+                return (parts, refusal(13, place));
             }
             let (part, more) = rest.split_at(MULTIFRAME);
             parts.push(part);
@@ -47,23 +47,33 @@ fn cut(octets: &[u8]) -> Result<Vec<&[u8]>, Refusal> {
         } else if let Some(more) = rest.strip_prefix(&INVERSE) {
             rest = more;
         } else if rest.len() == 1 && (rest[0] == SYNC[0] || rest[0] == INVERSE[0]) {
-            return refusal(13, place);
+            return (parts, refusal(13, place));
         } else {
-            return refusal(12, place);
+            return (parts, refusal(12, place));
         }
     }
-    Ok(parts)
+    (parts, Ok(()))
+}
+
+/// The multiframes of the octets.
+fn cut(octets: &[u8]) -> Result<Vec<&[u8]>, Refusal> {
+    let (parts, stopped) = cut_as_far_as_it_goes(octets);
+    stopped.map(|()| parts)
+}
+
+pub(crate) fn header_of(code: &Code, multiframe: &[u8]) -> Read {
+    code.read(u32::from_le_bytes(multiframe[2..6].try_into().unwrap()))
 }
 
 /// A message's common bits: everything but the counter.
 #[derive(Clone, Copy, PartialEq)]
-struct Common {
-    rate: u16,
-    kind: u16,
-    exp: u16,
+pub(crate) struct Common {
+    pub(crate) rate: u16,
+    pub(crate) kind: u16,
+    pub(crate) exp: u16,
 }
 
-fn common(message: u16) -> Common {
+pub(crate) fn common(message: u16) -> Common {
     Common { rate: message % 4, kind: message / 4 % 2, exp: message / 128 }
 }
 
@@ -159,7 +169,7 @@ pub fn read(code: &Code, octets: &[u8], rule: Rule, tables: (&[i32], &[i32]), ro
     if m == 0 {
         return refusal(14, octets.len());
     }
-    let headers: Vec<Read> = parts.iter().map(|part| code.read(u32::from_le_bytes(part[2..6].try_into().unwrap()))).collect();
+    let headers: Vec<Read> = parts.iter().map(|part| header_of(code, part)).collect();
     let Some(settings) = settled(&headers, rule) else { return refusal(16, 0) };
     if settings.rate == 2 || settings.exp != 0 {
         return refusal(17, 0);
