@@ -10,7 +10,7 @@ SONAME := libdsr.so.$(shell echo $(VERSION) | sed 's/^\(0\.[0-9]*\)\..*/\1/; s/^
 MACHINE := $(shell uname -m)
 ARCH := $(MACHINE)
 LIB := library
-ENTRIES := header stream write read hunt
+ENTRIES := header stream write read settle hunt
 
 ifeq ($(filter $(ARCH),x86_64 aarch64),)
 $(error ARCH is x86_64 or aarch64, not $(ARCH))
