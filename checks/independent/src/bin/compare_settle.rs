@@ -5,7 +5,7 @@ use independent::driver::{over, rule_of, unknown_choices, Call, Driver, ANSWER_S
 use independent::header::{encode, Code};
 use independent::reading::{read, CODEBOOK, THRESHOLDS};
 use independent::settling::{octets_looked_at, settle};
-use independent::utterance::{damage_anywhere, estrange, forbid, image, only_headers, set_header, unsettle, utterance, Part};
+use independent::utterance::{damage_anywhere, estrange, forbid, image, only_headers, set_header, spoil, unsettle, utterance, Part};
 use independent::writing::{write, INVERSE, MULTIFRAME, SYNC};
 
 const ANSWER: usize = 3;
@@ -42,14 +42,13 @@ fn part_with(header: u32) -> Part {
     Part { header, packets: [0; 12] }
 }
 
-/// What may stand behind: nothing, inverse syncs, what begins nothing known, what is cut, a multiframe.
+/// What may stand behind: nothing, what is cut, what begins nothing known, a multiframe; and each of these behind inverse syncs.
 fn tails(chance: &mut Chance) -> Vec<Vec<u8>> {
     let multiframe = part_with(encode(chance.word() as u16)).octets();
     let cut = 2 + chance.below(MULTIFRAME - 2);
-    let mut tails: Vec<Vec<u8>> = [&[][..], &[0x87], &[0x78], &[0x00], &[0x4D], &[0x87, 0x4D], &[0x78, 0xB2], &SYNC].map(|t| t.to_vec()).into();
-    tails.push(chance.octets(7));
-    tails.push(multiframe[..cut].to_vec());
-    tails.push(multiframe);
+    let few = [&[][..], &[0x87], &[0x78], &[0x00], &[0x4D], &[0x87, 0x4D], &[0x78, 0xB2], &SYNC];
+    let mut tails: Vec<Vec<u8>> = few.iter().map(|octets| octets.to_vec()).collect();
+    tails.extend([chance.octets(7), multiframe[..cut].to_vec(), multiframe]);
     let behind_inverse: Vec<Vec<u8>> = tails.iter().map(|tail| [&INVERSE.repeat(1 + chance.below(80))[..], tail].concat()).collect();
     [tails, behind_inverse].concat()
 }
@@ -65,8 +64,10 @@ impl Check {
         if let Some(seen) = octets_looked_at(&self.code, octets) {
             if self.chance.once_in(4) {
                 let choices = self.chance.pick(&KNOWN_CHOICES);
-                let unseen = self.chance.pick(&[1, 2, 143, 144, 145, 4096, 36720, 1 << 32, (1 << 32) + 7, 1 << 40]);
-                self.compare_asked("no octet to be seen behind the settling multiframe", &octets[..seen], Asked { numbers: ANSWER, choices, unseen });
+                // the last is a length that would fall short, if it were cut to 32 bits
+                let unseen = self.chance.pick(&[1, 2, 143, 144, 145, 4096, 36720, 1 << 40, (1 << 32) - 1]);
+                let asked = Asked { numbers: ANSWER, choices, unseen };
+                self.compare_asked("no octet to be seen behind the settling multiframe", &octets[..seen], asked);
             }
         }
     }
@@ -75,9 +76,11 @@ impl Check {
         let Asked { numbers, choices, unseen } = asked;
         let answer: Vec<u64> = (0..numbers).map(|_| self.chance.word()).collect();
         let came = Outcome { number: DONE, kept: 1, place: self.chance.word(), answer };
-        let call = Call::kind(b'S').octet(self.driver.mode()).long(choices).long(unseen).octets(octets).longs(&came.answer).long(came.place);
+        let call = Call::kind(b'S').octet(self.driver.mode()).long(choices).long(unseen);
+        let call = call.octets(octets).longs(&came.answer).long(came.place);
         let mut back = self.driver.call(call, 16 + 8 * numbers);
-        let got = Outcome { number: back.word(), kept: back.word(), place: back.long(), answer: (0..numbers).map(|_| back.long()).collect() };
+        let (number, kept, place) = (back.word(), back.word(), back.long());
+        let got = Outcome { number, kept, place, answer: (0..numbers).map(|_| back.long()).collect() };
         let want = self.expected(octets, choices, came.clone());
         if got != want {
             println!("{name}: {} octets {:02x?}.. {asked:?}", octets.len(), &octets[..octets.len().min(600)]);
@@ -189,7 +192,10 @@ impl Check {
                 }
                 part.header_damage(&mut self.chance, most);
             }
-            self.compare("headers with other messages and 0 to 6 flips", &image(&parts));
+            if self.chance.once_in(3) {
+                spoil(&mut self.chance, &mut parts);
+            }
+            self.compare("headers with other messages and 0 to 6 flips, any CRCs", &image(&parts));
         }
         let parts = utterance(&mut self.chance, 2);
         for (a, b) in (0..32).flat_map(|a| (a..32).map(move |b| (a, b))) {
@@ -201,7 +207,7 @@ impl Check {
         }
     }
 
-    /// Two and three multiframes whose headers agree, are mended, have other settings or are lost, in every way; and all that may stand behind.
+    /// Two and three multiframes whose headers agree, are mended, have other settings or are lost, in every way, and anything behind.
     fn behind(&mut self) {
         for m in [2, 3] {
             for kinds in 0..4usize.pow(m) {
@@ -238,7 +244,7 @@ impl Check {
     /// anything behind.
     fn late(&mut self) {
         let near: Vec<[usize; 2]> = (0..12).flat_map(|b| (0..b).map(move |a| [a, b])).collect();
-        let far = [[0, 254], [253, 254], [127, 254], [0, 253], [252, 253], [0, 199], [198, 199], [0, 200], [199, 200], [0, 1], [127, 128], [250, 251]];
+        let far = [[0, 254], [253, 254], [127, 254], [0, 253], [252, 253], [0, 199], [198, 199], [0, 200], [199, 200], [127, 128]];
         let any: Vec<[usize; 2]> = (0..80).map(|_| [self.chance.below(100), 100 + self.chance.below(155)]).collect();
         for [a, b] in near.into_iter().chain(far).chain(any) {
             let mut parts = utterance(&mut self.chance, b + 1);
@@ -264,6 +270,22 @@ impl Check {
                 self.compare("no two headers agree, anything behind", &[&image(&parts)[..], &tail].concat());
             }
         }
+        for lost in [0..255, 0..1, 254..255, 0..2, 1..255, 0..254] {
+            let mut parts = utterance(&mut self.chance, 255);
+            unsettle(&mut self.chance, &mut parts);
+            for (k, part) in parts.iter_mut().enumerate() {
+                part.header = encode(part.header as u16);
+                if lost.contains(&k) {
+                    part.lose_header(&mut self.chance);
+                }
+            }
+            for tail in tails(&mut self.chance) {
+                self.compare("255 multiframes, chosen headers lost, anything behind", &[&image(&parts)[..], &tail].concat());
+            }
+        }
+    }
+
+    fn agreement_with_the_last(&mut self) {
         let mut parts = utterance(&mut self.chance, 257);
         estrange(&mut self.chance, &mut parts, &[0, 255]);
         for length in [0, 1, 2, 3, 143, 144, 145, 288] {
@@ -405,14 +427,15 @@ fn main() {
     check.orders();
     check.single_bits();
     check.not_begun();
+    check.few_octets();
     check.only_multiframe();
     check.behind();
     check.late();
     check.never();
-    check.far_places();
-    check.few_octets();
-    check.cuts();
+    check.agreement_with_the_last();
     check.flips();
+    check.cuts();
+    check.far_places();
     check.anywhere();
     check.wide_place();
     check.driver.end(80_000);
