@@ -194,9 +194,9 @@ $(BUILD)/literal/example: c/example.c $(LITERAL_NEEDS)
 $(BUILD)/literal/sample-%: checks/samples/%.c $(LITERAL_NEEDS)
 	$(call compile,-O2)
 
-# Under the emulator there are no sanitizers.
-$(BUILD)/library/fuzz: checks/fuzz/fuzz.c $(LIBRARY_NEEDS)
-	$(call compile,-O2 $(SANITIZE))
+# Under the emulator there are no sanitizers. The library's settling is held to the literal version's.
+$(BUILD)/library/fuzz: checks/fuzz/fuzz.c $(LIBRARY_NEEDS) $(LITERAL)
+	$(call compile,-O2 $(SANITIZE),$(LITERAL))
 
 $(BUILD)/literal/fuzz: checks/fuzz/fuzz.c $(LITERAL_NEEDS)
 	$(call compile,-O1 $(SANITIZE))

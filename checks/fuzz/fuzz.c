@@ -1,7 +1,8 @@
 /* Makes random calls of the library until the time is up, and after each checks what a caller may rely on: a refusal leaves every buffer
  * as it came, octets beyond the answer stay, answers are in their range and agree with the buffers, what was written reads back,
  * damage of the kinds that the reader is proved to see is named, a hunt ends at the first place that passes, a reading that hunts is
- * the reading of what the hunts find, and the choice of a rule changes nothing but for an only multiframe.
+ * the reading of what the hunts find, the choice of a rule changes nothing but for an only multiframe, and settings are settled as the
+ * literal version settles them, as the full reading has them, and whatever stands behind.
  *
  *   fuzz SECONDS [SEED]            runs for that time and prints how often each answer was given; the environment can give SEED too
  *   fuzz 0 SEED ROUND              makes the calls of one round again
@@ -26,7 +27,7 @@ enum {
     SEED = 201108
 };
 
-static uint64_t state, seed = SEED, round_number, given[STATUSES], read_back, named, hunted, only_ones;
+static uint64_t state, seed = SEED, round_number, given[STATUSES], read_back, named, hunted, only_ones, settled_early;
 
 static uint32_t chance(uint32_t below) {
     state = state * 6364136223846793005u + 1442695040888963407u;
@@ -271,6 +272,8 @@ static uint8_t octets[(DSR_MOST_MULTIFRAMES + 4) * DSR_MULTIFRAME_OCTETS];
 static uint8_t spoken[DSR_FRAME_INDICES * DSR_MOST_FRAMES];
 static size_t octets_len, spoken_frames;
 
+static const uint8_t whole_sync[SYNC] = {0x87, 0xB2}, inverse_sync[SYNC] = {0x78, 0x4D};
+
 static void flip(uint8_t *at, size_t bit) { at[bit / 8] ^= (uint8_t)(1u << bit % 8); }
 
 /* A written utterance in `octets`. */
@@ -304,13 +307,12 @@ static void change_settings(size_t m) {
 }
 
 static void mutate(void) {
-    static const uint8_t inverse[2] = {0x78, 0x4D}, sync[2] = {0x87, 0xB2};
     uint32_t n = (uint32_t)octets_len, m = n / DSR_MULTIFRAME_OCTETS;
     switch (chance(9)) {
     case 0: if (n > 0) flip(octets, chance(8 * n)); break;
     case 1: if (m > 0) add_to_header(octets + DSR_MULTIFRAME_OCTETS * chance(m) + SYNC, places(chance(5))); break;
-    case 2: insert_often(m > 0 ? DSR_MULTIFRAME_OCTETS * chance(m + 1) : 0, inverse, chance(8) ? 1 : chance(150)); break;
-    case 3: insert(chance(4) ? n : chance(n + 1), sync, 1 + chance(2)); break;
+    case 2: insert_often(m > 0 ? DSR_MULTIFRAME_OCTETS * chance(m + 1) : 0, inverse_sync, chance(8) ? 1 : chance(150)); break;
+    case 3: insert(chance(4) ? n : chance(n + 1), whole_sync, 1 + chance(2)); break;
     case 4: octets_len = chance(3) ? n : chance(n + 1); break;
     case 5: if (n > 0) octets[chance(n)] = (uint8_t)chance(256); break;
     case 6: if (m > 0) insert(n, octets + DSR_MULTIFRAME_OCTETS * chance(m), DSR_MULTIFRAME_OCTETS); break;
@@ -536,14 +538,30 @@ static void check_other_rule(const struct lent *in, uint64_t choices, const stru
     give_back_written(&again);
 }
 
-static void try_read(void) {
+/* Settings of its own in about one header of `one_in`, and one in four of these is lost: then two agree late or never. */
+static void estrange_headers(size_t m, uint32_t one_in) {
+    for (size_t k = 0; k < m; k++) {
+        uint8_t *header = octets + DSR_MULTIFRAME_OCTETS * k + SYNC;
+        if (chance(one_in) != 0) continue;
+        memset(header, 0, HEADER);
+        add_to_header(header, dsr_header_encode((uint16_t)chance(65536)) ^ (chance(4) == 0 ? places(3) : 0));
+    }
+}
+
+/* Random octets, or an utterance with its mutations; the headers of some are estranged before. */
+static void fill_octets(int estranged) {
     if (chance(20) == 0) {
         octets_len = chance(400);
         for (size_t i = 0; i < octets_len; i++) octets[i] = (uint8_t)chance(256);
     } else {
         write_octets(chance(200) == 0 ? DSR_MOST_FRAMES - chance(30) : few_frames());
+        if (estranged) estrange_headers(octets_len / DSR_MULTIFRAME_OCTETS, 1 + chance(3));
     }
     for (uint32_t times = chance(chance(4) == 0 ? 40 : 5); times > 0; times--) mutate();
+}
+
+static void try_read(void) {
+    fill_octets(0);
     struct lent in = lend_copy(octets, octets_len);
     struct rooms r = lend_rooms(octets_len / DSR_MULTIFRAME_OCTETS, DSR_ANSWER_NUMBERS);
     uint64_t choices = some_choices();
@@ -551,6 +569,100 @@ static void try_read(void) {
     if (number <= DSR_READ_ALL_BAD) check_other_rule(&in, choices, &r, number);
     give_back_rooms(&r);
     give_back_kept(&in, "reading touched the octets");
+}
+
+/* --- settings without the whole utterance */
+
+/* The literal version, which literal.h has under names that are others' here. */
+uint32_t literal_settle(const uint8_t *octets, size_t octets_len, int one_header_settles, uint64_t *answer, uint64_t *place);
+
+struct settling {
+    uint32_t number;
+    uint64_t place, answer[DSR_SETTLE_ANSWER_NUMBERS];
+};
+
+static int same_settling(const struct settling *a, const struct settling *b) {
+    return a->number == b->number && a->place == b->place && memcmp(a->answer, b->answer, sizeof a->answer) == 0;
+}
+
+static struct settling settle(const uint8_t *data, size_t len, uint64_t choices) {
+    struct settling s = {0, UNTOUCHED, {UNTOUCHED, UNTOUCHED, UNTOUCHED}};
+    s.number = dsr_settle(data, len, choices, s.answer, DSR_SETTLE_ANSWER_NUMBERS, &s.place);
+    return s;
+}
+
+/* Numbers, and memory that has to stay. */
+static void check_lent_settling(const struct lent *in, uint64_t choices) {
+    struct lent answer = lend_answer(DSR_SETTLE_ANSWER_NUMBERS), place = lend_place();
+    size_t numbers = answer.len / sizeof(uint64_t);
+    uint32_t number = dsr_settle(in->data, in->len, choices, (uint64_t *)answer.data, numbers, (uint64_t *)place.data);
+    int short_answer = numbers < DSR_SETTLE_ANSWER_NUMBERS, asked = !short_answer && is_known(choices), done = number == DSR_DONE;
+    expect((number == DSR_READ_ANSWER_SHORT) == short_answer, "refusal 99 against the answer's length in a settling");
+    expect((number == DSR_NO_SUCH_CHOICE) == (!short_answer && !is_known(choices)), "refusal 96 against the choices in a settling");
+    if (asked) expect(done || (number >= DSR_READ_UNKNOWN && number <= DSR_READ_SETTINGS), "a settling's answer is no number of 02");
+    if (!asked || done) expect(stays_from(&place, 0), "a settling touched a place that has to stay");
+    expect(stays_from(&answer, done ? sizeof(uint64_t) * DSR_SETTLE_ANSWER_NUMBERS : 0), "a settling touched numbers that have to stay");
+    if (asked) expect(number == settle(in->data, in->len, choices).number, "a settling answers otherwise the second time");
+    given[number]++;
+    give_back(&answer), give_back(&place);
+}
+
+static void check_against_literal(const struct lent *in, uint64_t choices, const struct settling *s) {
+    struct settling right = {0, UNTOUCHED, {UNTOUCHED, UNTOUCHED, UNTOUCHED}};
+    right.number = literal_settle(in->data, in->len, choices == DSR_ONE_HEADER_SETTLES, right.answer, &right.place);
+    expect(same_settling(s, &right), "a settling is not the literal version's");
+}
+
+/* The full reading's settings if it succeeds; its refusal, or what was settled before it. */
+static void check_against_reading(const struct lent *in, uint64_t choices, const struct settling *s) {
+    static const int32_t codebook[DSR_CODEBOOK_NUMBERS], thresholds[DSR_THRESHOLD_NUMBERS];
+    static uint8_t index[DSR_MULTIFRAME_INDICES * DSR_MOST_MULTIFRAMES], report[DSR_MULTIFRAME_REPORT * DSR_MOST_MULTIFRAMES];
+    uint64_t a[DSR_ANSWER_NUMBERS] = {0}, place = UNTOUCHED;
+    uint32_t number = dsr_read(in->data, in->len, choices, codebook, DSR_CODEBOOK_NUMBERS, thresholds, DSR_THRESHOLD_NUMBERS, index,
+                               sizeof index, report, sizeof report, a, DSR_ANSWER_NUMBERS, &place);
+    int done = s->number == DSR_DONE, refused_alike = s->number == number && s->place == place;
+    if (number == DSR_DONE)
+        expect(done && s->answer[0] == a[DSR_ANSWER_RATE] && s->answer[1] == a[DSR_ANSWER_TYPE], "settings are not the full reading's");
+    else if (number == DSR_READ_ALL_BAD) expect(done, "bad pairs keep settings from being settled");
+    else if (number == DSR_READ_UNKNOWN || number == DSR_READ_CUT || number == DSR_READ_TOO_MANY)
+        expect(refused_alike || done || s->number == DSR_READ_SETTINGS, "a settling refuses otherwise than the full reading");
+    else expect(refused_alike, "a settling refuses otherwise than the full reading");
+}
+
+/* Where that many multiframes of the octets end. */
+static size_t end_of(const struct lent *in, uint64_t multiframes) {
+    size_t p = 0;
+    while (multiframes > 0 && p < in->len) {
+        int sync = in->data[p] == whole_sync[0];
+        multiframes -= (uint64_t)sync;
+        p += sync ? DSR_MULTIFRAME_OCTETS : SYNC;
+    }
+    expect(multiframes == 0 && p <= in->len, "more multiframes are told as read than there are");
+    return p;
+}
+
+/* Neither the end of the octets nor anything else behind the settling multiframe changes what is answered. */
+static void check_behind(const struct lent *in, uint64_t choices, const struct settling *s) {
+    if (s->number != DSR_DONE || s->answer[DSR_ANSWER_MULTIFRAMES] < 2) return;
+    size_t end = end_of(in, s->answer[DSR_ANSWER_MULTIFRAMES]);
+    struct lent other = lend_buffer(end + chance(300));
+    memcpy(other.data, in->data, end), memcpy(other.copy, in->data, end);
+    struct settling alone = settle(other.data, end, choices), followed = settle(other.data, other.len, choices);
+    expect(same_settling(s, &alone) && same_settling(s, &followed), "what stands behind the settling multiframe changes its answer");
+    give_back_kept(&other, "settling touched the octets");
+    settled_early++;
+}
+
+static void try_settle(void) {
+    fill_octets((int)chance(2));
+    struct lent in = lend_copy(octets, octets_len);
+    uint64_t choices = known_choice();
+    struct settling s = settle(in.data, in.len, choices);
+    check_lent_settling(&in, some_choices());
+    check_against_literal(&in, choices, &s);
+    check_against_reading(&in, choices, &s);
+    check_behind(&in, choices, &s);
+    give_back_kept(&in, "settling touched the octets");
 }
 
 /* --- damage that the reader is proved to see */
@@ -619,8 +731,6 @@ static void try_damage(void) {
 /* --- hunting */
 
 enum { SYNC_BITS = 8 * SYNC, FRONT_BITS = 8 * (SYNC + HEADER), FEW_PLACES = 20000 };
-
-static const uint8_t whole_sync[SYNC] = {0x87, 0xB2}, inverse_sync[SYNC] = {0x78, 0x4D};
 
 /* What a modem gives: an utterance at any bit, and idle bits. There is room for the longest and for idle bits beside each multiframe. */
 static uint8_t modem[2 * sizeof octets];
@@ -866,6 +976,7 @@ static void play_round(void) {
     try_read();
     try_damage();
     try_bits();
+    try_settle();
 }
 
 int main(int argc, char **argv) {
@@ -882,8 +993,8 @@ int main(int argc, char **argv) {
     for (; time(NULL) < end; round_number++) play_round();
     printf("%llu rounds, %llu utterances read back, %llu damaged images with every damaged pair named, ",
            (unsigned long long)round_number, (unsigned long long)read_back, (unsigned long long)named);
-    printf("%llu read at any bit, %llu of one multiframe by both rules\nanswers:", (unsigned long long)hunted,
-           (unsigned long long)only_ones);
+    printf("%llu read at any bit, %llu of one multiframe by both rules, %llu settled whatever stands behind\nanswers:",
+           (unsigned long long)hunted, (unsigned long long)only_ones, (unsigned long long)settled_early);
     for (unsigned i = 0; i < STATUSES; i++)
         if (given[i] > 0) printf(" %u:%llu", i, (unsigned long long)given[i]);
     printf("\n");
