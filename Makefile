@@ -321,7 +321,7 @@ writer-alone: $(MADE)/dsr_write.o writer-size
 	$(TOOLS)gcc $(WARN) -O2 -ffreestanding -nostdlib -static checks/terminal/freestanding.c $< -o $(BUILD)/library/freestanding
 	$(RUN) $(BUILD)/library/freestanding
 
-stack: $(BUILD)/library/stack ## octets of stack that a writing, a reading and a hunt used, on a painted stack
+stack: $(BUILD)/library/stack ## octets of stack that a writing, a reading, a settling and a hunt used, on a painted stack
 	@$(RUN) $<
 
 # docs/DEVELOPING.md has a row for every crate.

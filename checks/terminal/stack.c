@@ -1,6 +1,6 @@
 /* How much stack the library's functions use: each runs on a stack of its own that was painted before, and the lowest octet that lost
- * its paint counts, from the caller's frame on. The longest utterance is written, damaged and read. A function that uses more than it is
- * allowed ends this with 1. */
+ * its paint counts, from the caller's frame on. The longest utterance is written, damaged, read, and settled by its last header. A function
+ * that uses more than it is allowed ends this with 1. */
 #include <stdio.h>
 #include <stdlib.h>
 #include <string.h>
@@ -11,7 +11,7 @@
 enum { STACK_OCTETS = 1 << 18, FRAMES = DSR_MOST_FRAMES, IMAGE = DSR_MOST_MULTIFRAMES * DSR_MULTIFRAME_OCTETS };
 
 static uint8_t stack[STACK_OCTETS] __attribute__((aligned(64)));
-static uint8_t indices[FRAMES * DSR_FRAME_INDICES], image[IMAGE], sent[IMAGE];
+static uint8_t indices[FRAMES * DSR_FRAME_INDICES], image[IMAGE], sent[IMAGE], late[IMAGE];
 static uint8_t index_octets[DSR_MOST_MULTIFRAMES * DSR_MULTIFRAME_INDICES], report[DSR_MOST_MULTIFRAMES * DSR_MULTIFRAME_REPORT];
 static int32_t codebook[DSR_CODEBOOK_NUMBERS], thresholds[DSR_THRESHOLD_NUMBERS];
 static uint64_t answer[DSR_BITS_ANSWER_NUMBERS], place, found, tested;
@@ -26,6 +26,8 @@ static void read_all(void) {
     status = dsr_read(image, sizeof image, DSR_DEFAULT_CHOICES, codebook, DSR_CODEBOOK_NUMBERS, thresholds, DSR_THRESHOLD_NUMBERS,
                       index_octets, sizeof index_octets, report, sizeof report, answer, DSR_ANSWER_NUMBERS, &place);
 }
+
+static void settle(void) { status = dsr_settle(late, sizeof late, DSR_DEFAULT_CHOICES, answer, DSR_SETTLE_ANSWER_NUMBERS, &place); }
 
 static void read_bits(void) {
     status = dsr_read_bits(image, sizeof image, 0, DSR_LEAST_MATCH, DSR_DEFAULT_CHOICES, codebook, DSR_CODEBOOK_NUMBERS, thresholds,
@@ -76,12 +78,24 @@ static void damage(void) {
     for (size_t at = 6; at < sizeof image; at += 7 * DSR_MULTIFRAME_OCTETS + 5) image[at % DSR_MULTIFRAME_OCTETS > 5 ? at : at + 6] ^= 1;
 }
 
+/* Settings of its own in each header but the first and the last. */
+static void estrange(void) {
+    memcpy(late, sent, sizeof late);
+    for (uint32_t k = 1; k + 1 < DSR_MOST_MULTIFRAMES; k++) {
+        uint32_t word = dsr_header_encode((uint16_t)(k << 7));
+        for (unsigned i = 0; i < 4; i++) late[DSR_MULTIFRAME_OCTETS * k + 2 + i] = (uint8_t)(word >> 8 * i);
+    }
+}
+
 int main(void) {
     int wrong = 0;
     for (size_t i = 0; i < sizeof indices; i++) indices[i] = (uint8_t)(i % 63 + 1);
     wrong |= judge("dsr_write", write_all, 512);
     damage();
     wrong |= judge("dsr_read", read_all, 8192);
+    estrange();
+    wrong |= judge("dsr_settle", settle, 2048);
+    wrong |= answer[DSR_ANSWER_MULTIFRAMES] != DSR_MOST_MULTIFRAMES;
     wrong |= judge("dsr_hunt", hunt, 512);
     wrong |= judge("dsr_read_bits", read_bits, 36720 + 8192);
     return wrong;
