@@ -1,5 +1,6 @@
-/* Writes an utterance of 30 frames, reads it back and its first multiframe alone, damages its image as a radio link would, and reads it
- * again: by octets, and then as a modem gives it that knows no octet boundary. */
+/* Writes an utterance of 30 frames, settles its rate and front end while it is still being recorded, reads it back and its first multiframe
+ * alone, damages its image as a radio link would, and reads it again: by octets, and then as a modem gives it that knows no octet
+ * boundary. */
 #include <inttypes.h>
 #include <stdio.h>
 
@@ -34,6 +35,13 @@ static void read_and_print(size_t octets, uint64_t choices) {
     printf("rate %u type %u: speech %u bad %u end %u\n", r.rate, r.type, r.speech, r.bad, r.end);
 }
 
+/* What a dispatcher does with the octets that are recorded so far; refused, it waits for more. */
+static void settle_and_print(size_t octets) {
+    struct dsr_settled s;
+    if (dsr_settle_utterance(image, octets, DSR_DEFAULT_CHOICES, &s) != DSR_DONE) print_refusal(s.status, s.place);
+    else printf("rate %u type %u settled by %u multiframes\n", s.rate, s.type, s.multiframes);
+}
+
 /* The image behind idle bits, all zero, that end in the middle of an octet. */
 static void send_through_modem(size_t octets) {
     for (size_t t = 0; t < 8 * octets; t++)
@@ -65,6 +73,9 @@ int main(void) {
     if (dsr_write_utterance(2, DSR_STANDARD, indices, sizeof indices, image, sizeof image, &w) != DSR_DONE)
         print_refusal(w.status, w.place); /* there is no rate 2 */
     if (dsr_write_utterance(DSR_RATE_11_KHZ, DSR_STANDARD, indices, sizeof indices, image, sizeof image, &w) != DSR_DONE) return 1;
+    settle_and_print(DSR_MULTIFRAME_OCTETS); /* one header alone does not settle */
+    settle_and_print(200); /* the second multiframe is still being recorded */
+    settle_and_print(288); /* two headers agree: whatever is recorded behind them changes nothing */
     read_and_print(w.octets, DSR_DEFAULT_CHOICES);
     read_and_print(DSR_MULTIFRAME_OCTETS, DSR_DEFAULT_CHOICES); /* the first multiframe alone: no second header agrees with its own */
     read_and_print(DSR_MULTIFRAME_OCTETS, DSR_ONE_HEADER_SETTLES); /* asked for by name it is read: this line is known to be good */
