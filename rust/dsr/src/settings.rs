@@ -112,6 +112,13 @@ impl Settings {
             _ => Err(Error::WriteSettings { place: 0 }),
         }
     }
+
+    /// The settings that a reading settled. The library is proved to give a rate and a type that exist.
+    pub(crate) fn settled(rate: u64, kind: u64) -> Settings {
+        let rate = Rate::from_code(rate).expect("a settled rate is 0, 1 or 3");
+        let front_end = FrontEnd::from_code(kind).expect("a settled type is 0 or 1");
+        Settings { rate, front_end }
+    }
 }
 
 impl fmt::Display for Settings {

@@ -1,7 +1,5 @@
 //! What a reading gives: numbers on the whole, frames and notes.
-use crate::{
-    Frame, FrontEnd, HeaderNote, PairNote, Rate, Settings, FRAME_INDICES, MULTIFRAME_INDICES, MULTIFRAME_PAIRS, MULTIFRAME_REPORT,
-};
+use crate::{Frame, HeaderNote, PairNote, Settings, FRAME_INDICES, MULTIFRAME_INDICES, MULTIFRAME_PAIRS, MULTIFRAME_REPORT};
 
 const PAIR_INDICES: usize = 2 * FRAME_INDICES;
 
@@ -23,12 +21,10 @@ pub struct Reading {
 }
 
 impl Reading {
-    /// The six numbers of a success, in dsr.h's order. The library is proved to give a rate and a type that exist.
+    /// The six numbers of a success, in dsr.h's order.
     pub(crate) fn of([rate, kind, multiframes, speech, bad, end]: [u64; 6]) -> Reading {
-        let rate = Rate::from_code(rate).expect("a settled rate is 0, 1 or 3");
-        let front_end = FrontEnd::from_code(kind).expect("a settled type is 0 or 1");
         Reading {
-            settings: Settings::new(rate, front_end),
+            settings: Settings::settled(rate, kind),
             multiframes: multiframes as usize,
             speech: speech as usize,
             bad: bad as usize,
