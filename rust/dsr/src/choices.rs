@@ -1,7 +1,7 @@
 //! What a caller chooses of a reading.
 
-/// What a caller chooses of a reading: the rule for an only multiframe; in a hunting reading, for one that alone was found. For two
-/// multiframes or more the choice changes nothing.
+/// What a caller chooses of a reading or of [`settle`](crate::settle): the rule for an only multiframe; in a hunting reading, for one that
+/// alone was found. For two multiframes or more the choice changes nothing.
 ///
 /// Settings are settled by two headers that agree. An only multiframe has one header, and a codeword can be the wrong codeword: so by
 /// default it is refused with [`Error::ReadUnsettled`](crate::Error::ReadUnsettled) (16), however clean it is.

@@ -2,8 +2,9 @@
 //!
 //! A terminal turns speech into frames of seven indices. [`write`](crate::write_into) packs the frames of an utterance into protected
 //! multiframes; [`read`](crate::read_into) takes received octets apart again, mends headers with up to two flipped bits, and finds, names
-//! and replaces damaged pairs of frames. [`read_bits`](crate::read_bits_into) does so for bits with no octet boundary. Each reading says by
-//! [`Choices`] what is to become of an only multiframe.
+//! and replaces damaged pairs of frames. [`read_bits`](crate::read_bits_into) does so for bits with no octet boundary. [`settle`] gives the
+//! rate and front end alone, while the recording is still being written. Each reading, and `settle`, says by [`Choices`] what is to become
+//! of an only multiframe.
 //!
 #![cfg_attr(feature = "alloc", doc = "```")]
 #![cfg_attr(not(feature = "alloc"), doc = "```ignore")]
@@ -45,6 +46,7 @@ mod library;
 mod notes;
 mod reading;
 mod settings;
+mod settling;
 mod stream;
 mod tables;
 mod utterance;
@@ -62,6 +64,7 @@ pub use notes::{HeaderNote, PairNote};
 pub use reading::read;
 pub use reading::read_into;
 pub use settings::{FrontEnd, Rate, Settings};
+pub use settling::{settle, Settled};
 pub use stream::{pack, unpack};
 pub use tables::Tables;
 pub use utterance::{Multiframe, Pair, Reading, Utterance};

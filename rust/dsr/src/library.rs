@@ -42,6 +42,14 @@ mod declared {
             answer_len: usize,
             place: *mut u64,
         ) -> u32;
+        pub fn dsr_settle(
+            octets: *const u8,
+            octets_len: usize,
+            choices: u64,
+            answer: *mut u64,
+            answer_len: usize,
+            place: *mut u64,
+        ) -> u32;
         pub fn dsr_hunt(
             octets: *const u8,
             octets_len: usize,
@@ -133,6 +141,11 @@ pub fn read(octets: &[u8], choices: u64, lent: Lent<'_>, answer: &mut [u64; 6], 
             place,
         )
     }
+}
+
+pub fn settle(octets: &[u8], choices: u64, answer: &mut [u64; 3], place: &mut u64) -> Status {
+    // Sound: each pointer goes with its slice's or array's own length, and what is written is lent by `&mut`.
+    unsafe { declared::dsr_settle(octets.as_ptr(), octets.len(), choices, answer.as_mut_ptr(), answer.len(), place) }
 }
 
 pub fn hunt(octets: &[u8], from: u64, least: u64, found: &mut u64, tested: &mut u64, place: &mut u64) -> Status {
