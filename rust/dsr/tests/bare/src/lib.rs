@@ -1,4 +1,4 @@
-//! What a terminal without an operating system would call: every function that fills lent buffers.
+//! What a terminal without an operating system would call: every function that needs no allocator.
 #![no_std]
 
 use core::panic::PanicInfo;
@@ -23,6 +23,8 @@ fn round_trip(frame: &[u8; 7]) -> Result<u64, Error> {
     assert!(unsettled == Err(Error::ReadUnsettled { place: 0 }));
     let heard = dsr::read_into(&image, &Tables::ZEROS, ONE_SETTLES, &mut index, &mut report)?;
     assert!(heard.frames().next() == Some(frame) && heard.pairs().all(|pair| !pair.note.is_bad()));
+    assert!(dsr::settle(&image, Choices::DEFAULT) == Err(Error::ReadUnsettled { place: 0 }));
+    assert!(dsr::settle(&image, ONE_SETTLES)?.multiframes == 1);
     assert!(dsr::hunt(&image, 0, 14)?.place == 0);
     assert!(matches!(dsr::header_read(dsr::header_encode(8)), Header::Read { message: 8, flips: 0, .. }));
     let (frames, _) = dsr::unpack(&dsr::pack(&[9; 168])?);
