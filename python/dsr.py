@@ -2,6 +2,7 @@
 
     write         frames to the octets that are sent
     read          received octets to frames
+    settle        the first octets of a recording to its sample rate and front end
     read_bits     received bits with no octet boundary to frames
     hunt          the first place of a multiframe in such bits
     header_encode, header_read, pack, unpack    the parts of a multiframe, for tests
@@ -23,9 +24,9 @@ import pathlib
 import platform
 import typing
 
-__version__ = "0.3.0"
-__all__ = ["BitsReading", "FrontEnd", "Header", "HeaderNote", "Hunted", "PairNote", "Rate", "Reading", "Refused", "Status", "Tables",
-           "header_encode", "header_read", "hunt", "pack", "read", "read_bits", "unpack", "write"]
+__version__ = "0.3.1"
+__all__ = ["BitsReading", "FrontEnd", "Header", "HeaderNote", "Hunted", "PairNote", "Rate", "Reading", "Refused", "Settled", "Status",
+           "Tables", "header_encode", "header_read", "hunt", "pack", "read", "read_bits", "settle", "unpack", "write"]
 
 FRAME_INDICES = 7
 MULTIFRAME_FRAMES = 24
@@ -178,6 +179,15 @@ class BitsReading(Reading):
 
 
 @dataclasses.dataclass(frozen=True)
+class Settled:
+    """What was settled, and how far that took."""
+
+    rate: Rate
+    front_end: FrontEnd
+    multiframes: int  # multiframes read: the last of them settled
+
+
+@dataclasses.dataclass(frozen=True)
 class Hunted:
     """Where a hunt ended."""
 
@@ -235,6 +245,22 @@ def read(octets, tables, *, one_header_settles=False):
     choices = _choices(one_header_settles)
     _check(_library.dsr_read(received, len(received), choices, *_lend(tables), *lent.arguments()), lent.place)
     return Reading(*lent.reading())
+
+
+def settle(octets, *, one_header_settles=False):
+    """Reads multiframes only until the first two headers agree, and gives a Settled: for a recording that is still being written.
+
+    No CRC is tried, and the octets behind the settling multiframe are not looked at. Rate and front end are those of `read`, whenever that
+    succeeds; where it refuses further on, they are given all the same.
+
+    Refused: 12 to 17. An answer stays whatever octets follow, and so do 12, 15 and 17; after 13, 14 or 16 more octets can settle, so ask
+    again with all of them. `one_header_settles` is as in `read`, for octets that are the whole utterance: while the rest is still to come,
+    it takes the first multiframe for the only one, and its answer can change."""
+    received = _octets(octets)
+    answer, place = (ctypes.c_uint64 * 3)(), ctypes.c_uint64()
+    _check(_library.dsr_settle(received, len(received), _choices(one_header_settles), answer, len(answer), place), place)
+    rate, front_end, multiframes = answer
+    return Settled(Rate(rate), FrontEnd(front_end), multiframes)
 
 
 def read_bits(octets, tables, *, least, start=0, one_header_settles=False):
@@ -382,6 +408,7 @@ def _declare(library):
         "unpack": [octets, size, octets, size, octets, size],
         "write": [wide, wide, octets, size, octets, size, answer],
         "read": [octets, size, wide, *tables, *lent],
+        "settle": [octets, size, wide, answer, size, answer],
         "hunt": [octets, size, wide, wide, answer, answer, answer],
         "read_bits": [octets, size, wide, wide, wide, *tables, *lent],
     }
