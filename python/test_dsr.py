@@ -1,6 +1,8 @@
 """Tests of dsr.py: python3 test_dsr.py, with the library that dsr.py finds. Those that need numpy are skipped without it."""
 import array
 import concurrent.futures
+import dataclasses
+import itertools
 import os
 import pathlib
 import pickle
@@ -35,6 +37,11 @@ def flipped(octets, *bits):
     for bit in bits:
         changed[bit // 8] ^= 1 << bit % 8
     return bytes(changed)
+
+
+def multiframe(message):
+    """The example's multiframe with that message in its header: rate in bits 0 and 1, type in 2, counter in 3 to 6, EXP from 7 on."""
+    return EXAMPLE[:2] + dsr.header_encode(message).to_bytes(4, "little") + EXAMPLE[6:]
 
 
 def delayed(octets, idle, tail=0):
@@ -270,6 +277,121 @@ class Choosing(Case):
             for function, given, named in self.readers(EXAMPLE):
                 self.assertRaises(TypeError, function, *given, **named, one_header_settles=word)
         self.assertRaises(TypeError, dsr.read, EXAMPLE, ZERO, True)  # by name only
+
+
+class Settling(Case):
+    """The settings without the whole utterance."""
+
+    LOST = flipped(EXAMPLE, 16, 17, 18)
+    ALL_DIFFERENT = b"".join(multiframe(exp << 7) for exp in range(1, 256))
+
+    def settles(self, octets, *want):
+        """Either rule gives that rate, front end and number of multiframes."""
+        for choice in (False, True):
+            self.assertEqual(dsr.settle(octets, one_header_settles=choice), dsr.Settled(*want))
+
+    def refuses(self, number, place, octets):
+        """Either rule refuses so."""
+        for choice in (False, True):
+            self.refused(number, place, dsr.settle, octets, one_header_settles=choice)
+
+    def test_the_second_multiframe_settles(self):
+        for count in (24, 47, 48, 60, 6119):
+            for rate in dsr.Rate:
+                for front_end in dsr.FrontEnd:
+                    image = dsr.write(rate, front_end, frames(count))
+                    self.settles(image, rate, front_end, 2)
+                    self.settles(flipped(image, 16, 17, 1152 + 18, 1152 + 47), rate, front_end, 2)
+        settled = dsr.settle(bytearray(image))
+        self.assertIs(settled.rate, dsr.Rate.KHZ_16)
+        self.assertIs(settled.front_end, dsr.FrontEnd.NOISE_ROBUST)
+
+    def test_a_growing_recording_waits_and_then_stays(self):
+        recorded = dsr.write(1, 1, frames(60))
+        self.refuses(14, 0, b"")
+        for octets in range(1, 144):
+            self.refuses(13, 0, recorded[:octets])
+        self.refused(16, 0, dsr.settle, recorded[:144])
+        # by the old rule the first multiframe is taken for the only one where the recording ends with it
+        self.assertEqual(dsr.settle(recorded[:144], one_header_settles=True), dsr.Settled(1, 1, 1))
+        for octets in range(145, 288):
+            self.refuses(13, 144, recorded[:octets])
+        for octets in range(288, len(recorded) + 1):
+            self.settles(recorded[:octets], 1, 1, 2)
+
+    def test_what_stands_behind_is_not_looked_at(self):
+        for tail in (b"\0", b"\x87", b"\x78", b"\x87\xb2", b"\xff" * 1000, multiframe(2), self.LOST, self.ALL_DIFFERENT):
+            self.settles(dsr.write(3, 0, frames(60))[:288] + tail, 3, 0, 2)
+            self.refuses(17, 0, 2 * multiframe(2) + tail)
+        self.settles(256 * EXAMPLE, 0, 0, 2)
+        self.settles(2 * flipped(EXAMPLE, *(48 + 92 * p for p in range(12))), 0, 0, 2)  # nor are the pairs
+
+    def test_refusals(self):
+        self.refuses(12, 0, b"\0")
+        self.refuses(12, 2, b"\x78\x4d\x4d")
+        self.refuses(13, 0, EXAMPLE[:143])
+        self.refuses(13, 146, EXAMPLE + b"\x78\x4d\x78")
+        self.refuses(14, 0, b"")
+        self.refuses(14, 2**17, b"\x78\x4d" * 2**16)
+        for unsettled in (255 * self.LOST, self.ALL_DIFFERENT):
+            self.refuses(16, 0, unsettled)
+            self.refuses(15, 36722, unsettled + b"\x78\x4d\x87\xb2")
+            self.refuses(15, 36720, unsettled + EXAMPLE)
+            self.refuses(13, 36720, unsettled + b"\x87")
+        for unfit in (2, 6, 1 << 7, 1 << 15):
+            self.refuses(17, 0, 2 * multiframe(unfit))
+
+    def test_an_only_multiframe_follows_the_choice(self):
+        for octets in (EXAMPLE, b"\x78\x4d" + EXAMPLE + b"\x78\x4d"):
+            self.refused(16, 0, dsr.settle, octets)
+            self.assertEqual(dsr.settle(octets, one_header_settles=True), dsr.Settled(0, 0, 1))
+        for unfit in (2, 1 << 15):
+            self.refused(16, 0, dsr.settle, multiframe(unfit))
+            self.refused(17, 0, dsr.settle, multiframe(unfit), one_header_settles=True)
+        for touched in (flipped(EXAMPLE, 16), flipped(EXAMPLE, 16, 47), self.LOST):
+            self.refuses(16, 0, touched)
+
+    def test_garbage_behind_an_only_multiframe(self):
+        for only in (EXAMPLE, multiframe(2)):
+            self.refuses(12, 144, only + b"\0")
+            self.refuses(13, 144, only + b"\x78")
+            self.refuses(13, 144, only + b"\x87\xb2\x08")
+            self.refuses(12, 146, only + b"\x78\x4d\x01")
+
+    def test_the_first_two_that_agree_settle(self):
+        khz_8, khz_11 = multiframe(0), multiframe(1)
+        for unsettled in (khz_8 + khz_11, khz_8 + self.LOST, self.LOST + khz_8):
+            self.refuses(16, 0, unsettled)
+        self.settles(khz_8 + khz_11 + khz_8 + khz_11, 0, 0, 3)
+        self.settles(khz_8 + multiframe(7) + khz_11 + multiframe(7) + khz_8, 3, 1, 4)
+        self.refuses(17, 0, khz_8 + multiframe(2) + multiframe(2) + khz_8)
+        self.settles(253 * self.LOST + 2 * khz_11, 1, 0, 255)
+
+    def test_a_full_reading_gives_the_same(self):
+        messages, tried = (0, 1, 7, 2, 1 << 7), 0
+        for kinds in itertools.product(range(len(messages) + 1), repeat=4):
+            octets = b"".join(multiframe(messages[kind]) if kind < len(messages) else self.LOST for kind in kinds)
+            try:
+                reading = dsr.read(octets, ZERO)
+            except dsr.Refused as refusal:
+                self.refuses(refusal.status, refusal.place, octets)
+            else:
+                settled = dsr.settle(octets)
+                self.assertEqual((settled.rate, settled.front_end), (reading.rate, reading.front_end))
+                self.settles(octets[:144 * settled.multiframes] + b"\0", *dataclasses.astuple(settled))
+                tried += 1
+        self.assertGreater(tried, 400)
+
+    def test_only_true_and_false_will_do(self):
+        for word in (1, 0, None, "no", "yes", 2**64):
+            self.assertRaises(TypeError, dsr.settle, 2 * EXAMPLE, one_header_settles=word)
+        self.assertRaises(TypeError, dsr.settle, 2 * EXAMPLE, True)  # by name only
+
+    def test_octets(self):
+        for kind in (bytes, bytearray, memoryview, list, tuple, lambda octets: array.array("B", octets)):
+            self.assertEqual(dsr.settle(kind(2 * EXAMPLE)).multiframes, 2)
+        for data in (7, "abcdefg", None, array.array("i", [1] * 7)):
+            self.assertRaises(TypeError, dsr.settle, data)
 
 
 class Parts(Case):
