@@ -413,7 +413,9 @@ def _declare(library):
         "read_bits": [octets, size, wide, wide, wide, *tables, *lent],
     }
     for name, types in arguments.items():
-        function = getattr(library, "dsr_" + name)
+        function = getattr(library, "dsr_" + name, None)
+        if function is None:  # a library of 0.3.0 has the same soname
+            raise ImportError(f"this is dsr.py {__version__}, and the library has no dsr_{name}: install the same version of both")
         function.argtypes, function.restype = types, ctypes.c_uint32
     return library
 

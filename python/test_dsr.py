@@ -501,6 +501,10 @@ class Module(unittest.TestCase):
         if done.returncode != 0:  # else one is installed
             self.assertIn("ImportError: run make lib", done.stderr)
 
+    def test_library_without_a_function_is_said(self):
+        done = self.run_alone("import dsr", DSR_LIBRARY="libc.so.6")
+        self.assertIn(f"ImportError: this is dsr.py {dsr.__version__}, and the library has no dsr_", done.stderr)
+
     def test_numpy_is_not_imported(self):
         done = self.run_alone("import sys, dsr; dsr.read(2 * dsr.write(0, 0, b''), dsr.Tables.zero()); print('numpy' in sys.modules)")
         self.assertEqual(done.stdout, "False\n")
