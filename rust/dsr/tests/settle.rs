@@ -214,6 +214,24 @@ fn a_full_reading_gives_the_same() {
     assert!(tried.iter().all(|times| *times > 100), "{tried:?}");
 }
 
+/// By default: after 13, 14 and 16 more octets can settle, all else stays.
+#[test]
+fn what_more_octets_can_change() {
+    let (mut numbers, mut stayed, mut settled_later) = (Numbers(11), 0, 0);
+    for _ in 0..5_000 {
+        let octets = numbers.octets();
+        let before = settled(&octets, Choices::DEFAULT);
+        let behind = settled(&[octets, numbers.octets()].concat(), Choices::DEFAULT);
+        if before.is_err_and(|refusal| matches!(refusal.number(), 13 | 14 | 16)) {
+            settled_later += usize::from(behind.is_ok());
+        } else {
+            assert_eq!(before, behind);
+            stayed += 1;
+        }
+    }
+    assert!(stayed > 500 && settled_later > 500, "{stayed}, {settled_later}");
+}
+
 /// Once two headers agreed, neither what follows nor what is left away behind them changes anything.
 #[test]
 fn the_answer_is_of_the_settling_multiframes_alone() {
