@@ -275,7 +275,7 @@ endif
 
 readme-c: $(README_WITH)
 	@mkdir -p $(README)/c
-	for n in 1 2; do \
+	for n in 1 2 3; do \
 	    .ci/readme README.md c $$n >$(README)/c/talk$$n.c && \
 	    .ci/readme README.md c $$n next >$(README)/c/output$$n && \
 	    $(TOOLS)gcc $(STATIC) $(WARN) $(README)/c/talk$$n.c $(README_WITH) -o $(README)/c/talk$$n && \
