@@ -167,6 +167,16 @@ impl Check {
         part.octets()
     }
 
+    /// Every value of the nine expansion bits but 0 is refused.
+    fn expansions(&mut self) {
+        for expansion in 1..512u16 {
+            let message = self.chance.pick(&FIT) | expansion << 7;
+            let octets = image(&[part_with(encode(message)), part_with(encode(message | 1 << 3))]);
+            self.compare("every value of the expansion bits", &octets);
+            self.compare("every value of the expansion bits", &octets[..MULTIFRAME]);
+        }
+    }
+
     /// Two headers that differ in one bit of the message, whichever, agree exactly if it is the counter's; a third agrees with the first.
     fn single_bits(&mut self) {
         for bit in 0..16 {
@@ -258,6 +268,35 @@ impl Check {
             }
             self.compare("the octets before the settling multiframe alone", &octets[..MULTIFRAME * b]);
             self.compare("the settling multiframe cut by an octet", &octets[..octets.len() - 1]);
+        }
+    }
+
+    /// Every multiframe settles once, whatever the counters of the two headers that agree, mended or not, with any expansion bits, and with
+    /// inverse syncs anywhere; and of those before it no two agree, or all are lost.
+    fn every_multiframe(&mut self) {
+        for b in (1..255).chain([255; 12]) {
+            let mut parts = utterance(&mut self.chance, b + 1);
+            let expansion = if self.chance.once_in(3) { self.chance.word() as u16 & 0xFF80 } else { 0 };
+            for part in &mut parts {
+                part.header = encode(part.header as u16 & 7 | expansion | (self.chance.below(16) as u16) << 3);
+            }
+            let a = self.chance.below(b);
+            estrange(&mut self.chance, &mut parts, &[a, b]);
+            parts[a].header_damage(&mut self.chance, 2);
+            parts[b].header_damage(&mut self.chance, 2);
+            let tails = tails(&mut self.chance);
+            for round in 0..2 {
+                let octets = if round == 0 { image(&parts) } else { self.spread(&parts) };
+                let tail = &tails[self.chance.below(tails.len())];
+                self.compare("every multiframe settles, mended or not, inverse syncs anywhere", &[&octets[..], tail].concat());
+            }
+            parts.pop();
+            for name in ["no two of those before it agree", "all before it are lost"] {
+                let octets = self.spread(&parts);
+                let tail = &tails[self.chance.below(tails.len())];
+                self.compare(name, &[&octets[..], tail].concat());
+                parts.iter_mut().for_each(|part| part.lose_header(&mut self.chance));
+            }
         }
     }
 
@@ -425,12 +464,14 @@ fn main() {
     let mut check = Check { driver: Driver::start(), chance: Chance::new(seed()), code: Code::new() };
     check.written();
     check.orders();
+    check.expansions();
     check.single_bits();
     check.not_begun();
     check.few_octets();
     check.only_multiframe();
     check.behind();
     check.late();
+    check.every_multiframe();
     check.never();
     check.agreement_with_the_last();
     check.flips();
