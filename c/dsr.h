@@ -100,7 +100,8 @@ enum dsr_status {
     /* DSR_READ_UNSETTLED: settings not settled, as no two readable headers agree in them. An only multiframe is refused so too, unless
      * DSR_ONE_HEADER_SETTLES is asked for and its header is a codeword. In dsr_settle the octets end before anything settles. Place: 0. */
     DSR_READ_UNSETTLED = 16,
-    /* DSR_READ_SETTINGS: settled rate is 2 or any EXP is 1. In dsr_settle it is given at once, whatever stands behind. Place: 0. */
+    /* DSR_READ_SETTINGS: settled rate is 2 or any EXP is 1. In dsr_settle two headers that agree in it give it at once, whatever stands
+     * behind them. Place: 0. */
     DSR_READ_SETTINGS = 17,
     /* DSR_READ_INDEX_SHORT: index buffer under 168m. Place: octets needed. */
     DSR_READ_INDEX_SHORT = 18,
@@ -269,8 +270,9 @@ DSR_MUST_USE uint32_t dsr_read(const uint8_t *octets, size_t octets_len, uint64_
  *   DSR_DONE   answer holds the first three numbers of enum dsr_answer, rate, type and the multiframes read (numbers beyond them stay), and
  *              *place stays. Rate and type are those of dsr_read, whenever it succeeds on these octets, or on more that begin with them
  *              if at least two multiframes were read.
- *   a refusal  12 to 17, and *place is its place and answer stays as it came. 17 comes as soon as its settings are settled, the others are
- *              those of dsr_read, met before anything settled. After 13, 14 or 16 more octets can settle: call again with all of them.
+ *   a refusal  12 to 17, and *place is its place and answer stays as it came. 17 comes as soon as two headers agree in its settings, the
+ *              others are those of dsr_read, met before anything settled. After 13, 14 or 16 more octets can settle, up to 255
+ *              multiframes: call again with all of them. 12 and 15 stay however many follow, and so does 17 by DSR_DEFAULT_CHOICES.
  * Lend an answer of DSR_SETTLE_ANSWER_NUMBERS numbers; fewer are refused before all else with DSR_READ_ANSWER_SHORT, and wrong choices
  * next, as in dsr_read; then *place stays too.
  * That a multiframe is the only one is known at the end of the octets alone. So DSR_ONE_HEADER_SETTLES is for octets that are the whole

@@ -248,13 +248,13 @@ def read(octets, tables, *, one_header_settles=False):
 
 
 def settle(octets, *, one_header_settles=False):
-    """Reads multiframes only until the first two headers agree, and gives a Settled: for a recording that is still being written.
+    """Reads multiframes only until two headers agree, and gives a Settled: for a recording that is still being written.
 
     No CRC is tried, and the octets behind the settling multiframe are not looked at. Rate and front end are those of `read`, whenever that
     succeeds; where it refuses further on, they are given all the same.
 
-    Refused: 12 to 17. An answer stays whatever octets follow, and so do 12, 15 and 17; after 13, 14 or 16 more octets can settle, so ask
-    again with all of them. `one_header_settles` is as in `read`, for octets that are the whole utterance: while the rest is still to come,
+    Refused: 12 to 17. By default an answer stays whatever octets follow, and so do 12, 15 and 17; after 13, 14 or 16 more octets can
+    settle, so ask again with all of them. `one_header_settles` is as in `read`, for octets that are the whole utterance: while the rest is still to come,
     it takes the first multiframe for the only one, and its answer can change."""
     received = _octets(octets)
     answer, place = (ctypes.c_uint64 * 3)(), ctypes.c_uint64()

@@ -8,7 +8,7 @@ use crate::{Choices, Error, Settings};
 pub struct Settled {
     /// The settled rate and front end.
     pub settings: Settings,
-    /// The number of multiframes read, 1 to 255: the last of them settled, and what stands behind it was not looked at.
+    /// The number of multiframes read, 1 to 255. If two or more, the last of them settled, and what stands behind it was not looked at.
     pub multiframes: usize,
 }
 
