@@ -49,7 +49,7 @@ module _ (octets answer : List ℕ) (place : ℕ) where
     c-settle-refused r e = told-refused settleNumbers answer place [] [] (settleGiven (untilSettled ch octets)) room (readingNumber r) (readingPlace r) (ap settleGiven e)
 
   -- 0 is of settings, with room for them
-  settle-zero : (ch : Choices) → dsrSettle octets (For ch) answer place .number ≡ 0 → (settleNumbers ≤ length answer) × ((b : Beginning) × (untilSettled ch octets ≡ Read b))
+  pub settle-zero : (ch : Choices) → dsrSettle octets (For ch) answer place .number ≡ 0 → (settleNumbers ≤ length answer) × ((b : Beginning) × (untilSettled ch octets ≡ Read b))
   settle-zero ch e = let z = told-zero settleNumbers answer place [] [] (settleGiven (untilSettled ch octets)) e in (z .0, by (untilSettled ch octets) refl (z .1))
     where
       by : (x : Answer) → untilSettled ch octets ≡ x → answered settleNumbers answer place [] [] (settleTold x) .number ≡ 0 → (b : Beginning) × (untilSettled ch octets ≡ Read b)

@@ -3,3 +3,4 @@ pub mod Written
 pub mod Met
 pub mod Entry
 pub mod Literally
+pub mod Edges
