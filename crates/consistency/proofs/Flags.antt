@@ -14,22 +14,22 @@ use native.Mathlib.Omega.{arith}
 use Rattle.lists.specs.Tests.{when}
 use Rattle.lists.specs.Parts.{part}
 use Rattle.layout.specs.Layout.{frameIndices, codebookNumbers}
-use Rattle.consistency.specs.Tables.{Tables}
-use Rattle.consistency.specs.Consistency.{at, exceeding, entryPlace, risen, flagged, flags, inconsistent, InRange}
+use Rattle.consistency.specs.Tables.{Tables, at}
+use Rattle.consistency.specs.Consistency.{exceeding, entryPlace, elementExceeds, flagged, flags, inconsistent, InRange}
 
 module _ (t : Tables) (c i j : ℕ) where
   -- the code adds nothing for the first element
-  first-element : risen t c i j 0 ≡ exceeding (at (t .thresholds) (2 * c)) (at (t .codebook) (128 * c + 2 * i)) (at (t .codebook) (128 * c + 2 * j))
+  first-element : elementExceeds t c i j 0 ≡ exceeding (at (t .thresholds) (2 * c)) (at (t .codebook) (128 * c + 2 * i)) (at (t .codebook) (128 * c + 2 * j))
   first-element = simp add-zero
 
   pub flagged-first : {p : Bool} → p ≡ exceeding (at (t .thresholds) (2 * c)) (at (t .codebook) (128 * c + 2 * i)) (at (t .codebook) (128 * c + 2 * j)) → p ≡ true → true ≡ flagged t c i j
   unfolding flagged
-  flagged-first e h = ap (λ (q : Bool). when q true (risen t c i j 1)) (sym h ∙ e ∙ sym first-element)
+  flagged-first e h = ap (λ (q : Bool). when q true (elementExceeds t c i j 1)) (sym h ∙ e ∙ sym first-element)
 
   pub flagged-second : {p r : Bool} → p ≡ exceeding (at (t .thresholds) (2 * c)) (at (t .codebook) (128 * c + 2 * i)) (at (t .codebook) (128 * c + 2 * j)) → p ≡ false
-      → r ≡ risen t c i j 1 → r ≡ flagged t c i j
+      → r ≡ elementExceeds t c i j 1 → r ≡ flagged t c i j
   unfolding flagged
-  flagged-second e h k = k ∙ ap (λ (q : Bool). when q true (risen t c i j 1)) (sym h ∙ e ∙ sym first-element)
+  flagged-second e h k = k ∙ ap (λ (q : Bool). when q true (elementExceeds t c i j 1)) (sym h ∙ e ∙ sym first-element)
 
 -- an index of a frame lies in its codebook
 module _ (index : List ℕ) (first c x : ℕ) (here : x ≡ getD index (first + c) 0) (small : c < frameIndices) where

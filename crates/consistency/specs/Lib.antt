@@ -1,4 +1,5 @@
 pub mod Tables
+pub mod Admitted
 pub mod Lent
 pub mod Consistency
 pub mod Laws

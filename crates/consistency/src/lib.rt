@@ -1,15 +1,17 @@
-// Whether a pair of frames is consistent: how far the quantised values rise from its first frame to its second, against the thresholds.
+// Whether a pair of frames is consistent: how far the quantised values of its two frames are apart, against the thresholds. And which tables
+// are turned away before.
 use layout::FrameLayout;
 use layout::ReadingLayout;
+use refusals::Reading;
 ghost use mathlib.Core.Path.{_≡_};
 ghost use Prim.Native.Nat.{_+_, _*_, _<_, _≤_};
 ghost use lib.ListN.{length};
 ghost use Rattle.lists.specs.Parts.{part};
 ghost use Rattle.lists.specs.Lent.{came};
 ghost use Rattle.layout.specs.Layout.{frameIndices, codebookNumbers};
-ghost use Rattle.consistency.specs.Tables.{tablesOf, RightTables, tablesRight};
+ghost use Rattle.consistency.specs.Tables.{at, tablesOf, RightSizes, sizesRight, negative, admission};
 ghost use Rattle.consistency.specs.Lent.{tablesIn};
-ghost use Rattle.consistency.specs.Consistency.{exceeding, at, entryPlace, flagged, inconsistent, InRange};
+ghost use Rattle.consistency.specs.Consistency.{distance, exceeding, entryPlace, flagged, inconsistent, InRange};
 
 // Each codebook has room for 64 entries of two numbers; the seventh comes last and goes on.
 const CODEBOOK_ROOM: usize = 128;
@@ -19,14 +21,51 @@ const ELEMENTS: usize = 2;
 // An inconsistent pair has at least so many flagged index pairs.
 const FLAGS: usize = 2;
 
-// are_right says whether the tables have 01's sizes, 1,280 and 14 numbers: both readers' first test.
-pub fn are_right(codebook: &[i32], thresholds: &[i32]) -> bool
-    ensures { λ r. ⌜ r ≡ tablesRight (tablesIn codebook thresholds) ⌝ }
+// What becomes of the tables: both readers' first test.
+pub enum Admission {
+    Admitted,
+    Refused(Reading),
+}
+
+// Have the tables 01's sizes, 1,280 and 14 numbers?
+fn are_sized(codebook: &[i32], thresholds: &[i32]) -> bool
+    ensures { λ r. ⌜ r ≡ sizesRight (tablesIn codebook thresholds) ⌝ }
 {
     if codebook.len() != ReadingLayout::CODEBOOK {
         return false;
     }
     thresholds.len() == ReadingLayout::THRESHOLDS
+}
+
+fn is_negative(threshold: i32) -> bool
+    ensures { λ r. ⌜ r ≡ negative threshold ⌝ }
+{
+    threshold < 0
+}
+
+// The same of the threshold at a place.
+fn is_negative_at(thresholds: &[i32], k: usize) -> bool
+    requires { ⌜ k < length (now thresholds) ⌝ }
+    ensures { λ r. ⌜ r ≡ negative (at (came thresholds) k) ⌝ }
+{
+    let t = thresholds[k];
+    is_negative(t)
+}
+
+// admit says whether a reading may use the tables: refusal 11 for wrong sizes, then 10 for the first negative threshold, which every pair would
+// exceed (02, C-12).
+pub fn admit(codebook: &[i32], thresholds: &[i32]) -> Admission
+    ensures { λ r. ⌜ r ≡ admission (tablesIn codebook thresholds) ⌝ }
+{
+    if !are_sized(codebook, thresholds) {
+        return Admission::Refused(Reading::WrongTables);
+    }
+    for k in 0..ReadingLayout::THRESHOLDS {
+        if is_negative_at(thresholds, k) {
+            return Admission::Refused(Reading::NegativeThreshold { threshold: k });
+        }
+    }
+    Admission::Admitted
 }
 
 fn widened(x: i32) -> i64
@@ -35,11 +74,22 @@ fn widened(x: i32) -> i64
     x as i64
 }
 
-// exceeds says whether the exact difference, second less first, is above the threshold. It may need 33 bits.
+// How far two numbers are apart, exactly: it may need 33 bits.
+fn distance(first: i32, second: i32) -> i64
+    ensures { λ r. ⌜ r ≡ distance first second ⌝ }
+{
+    let difference = widened(second) - widened(first);
+    if difference < 0 {
+        return -difference;
+    }
+    difference
+}
+
+// exceeds says whether the two numbers are further apart than the threshold, whichever is the larger.
 pub fn exceeds(threshold: i32, first: i32, second: i32) -> bool
     ensures { λ r. ⌜ r ≡ exceeding threshold first second ⌝ }
 {
-    widened(threshold) < widened(second) - widened(first)
+    widened(threshold) < distance(first, second)
 }
 
 // The same of the numbers at places of the tables.
@@ -53,10 +103,10 @@ fn exceeds_at(codebook: &[i32], i: usize, j: usize, thresholds: &[i32], k: usize
     exceeds(t, a, b)
 }
 
-// Whether index pair c, entry i and then entry j, is flagged: either of its elements rises too far.
+// Whether index pair c, entry i and then entry j, is flagged: either of its elements moves too far, up or down.
 // It asks that both entries lie in the codebook, which a frame's indices do.
 fn is_flagged(codebook: &[i32], thresholds: &[i32], c: usize, i: usize, j: usize) -> bool
-    requires { ⌜ RightTables (tablesOf (now codebook) (now thresholds)) × (c < frameIndices) ⌝ }
+    requires { ⌜ RightSizes (tablesOf (now codebook) (now thresholds)) × (c < frameIndices) ⌝ }
     requires { ⌜ (entryPlace c i 1 < codebookNumbers) × (entryPlace c j 1 < codebookNumbers) ⌝ }
     ensures { λ r. ⌜ r ≡ flagged (tablesIn codebook thresholds) c i j ⌝ }
 {
@@ -85,7 +135,7 @@ pub fn is_inconsistent(
     first: usize,
     second: usize,
 ) -> bool
-    requires { ⌜ RightTables (tablesOf (now codebook) (now thresholds)) ⌝ }
+    requires { ⌜ RightSizes (tablesOf (now codebook) (now thresholds)) ⌝ }
     requires { ⌜ (first + frameIndices ≤ length (now index)) × (second + frameIndices ≤ length (now index)) ⌝ }
     requires { ⌜ InRange (part first frameIndices (now index)) × InRange (part second frameIndices (now index)) ⌝ }
     ensures { λ r. ⌜ r ≡ inconsistent (tablesIn codebook thresholds)

@@ -48,6 +48,7 @@ Meets s p q = (m : ℕ) × (Reached s p m × Here s p m q)
 -- why cutting refuses: 12, 13 or 15, and nothing else
 abbrev pub Reason : List ℕ → Reading → Type 0
 Reason s R.WrongTables = ⊥
+Reason s (R.NegativeThreshold k) = ⊥
 Reason s (R.Unknown p) = Meets s p Unknown
 Reason s (R.CutShort p) = Meets s p CutShort
 Reason s (R.Empty n) = ⊥
@@ -168,6 +169,7 @@ reached-all s {p} r TooMany u h = behind-all s r TooMany h (refused (R.TooMany p
 told-ends : (s : List ℕ) (e : Ending) → Told s e → cutting s .ending ≡ e
 told-ends s whole (m, r) = ends-so s r End (omega arith) whole (λ v w. refl)
 told-ends s (refused R.WrongTables) t = absurd t
+told-ends s (refused (R.NegativeThreshold k)) t = absurd t
 told-ends s (refused (R.Unknown p)) (m, (r, h)) = ends-so s r Unknown h (refused (R.Unknown p)) (λ v w. refl)
 told-ends s (refused (R.CutShort p)) (m, (r, h)) = ends-so s r CutShort h (refused (R.CutShort p)) (λ v w. refl)
 told-ends s (refused (R.Empty n)) t = absurd t

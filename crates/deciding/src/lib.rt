@@ -8,7 +8,7 @@ ghost use Prim.Native.Nat.{_≤_};
 ghost use lib.ListN.{length};
 ghost use Rattle.lists.specs.Lent.{came, left};
 ghost use Rattle.layout.specs.Layout.{mostMultiframes};
-ghost use Rattle.consistency.specs.Tables.{tablesOf, RightTables};
+ghost use Rattle.consistency.specs.Tables.{tablesOf, RightSizes};
 ghost use Rattle.consistency.specs.Lent.{tablesIn};
 ghost use Rattle.cutting.specs.Laws.{Placed};
 ghost use Rattle.settling.specs.Stored.{packAll};
@@ -58,7 +58,7 @@ pub fn decide(
 ) -> Verdict
     requires { ⌜ Placed (now octets) (now places) × (length (now notes) ≡ pairCount (now places)) × (length (now places) ≤ mostMultiframes)
         × (length (now headers) ≡ length (now places)) ⌝ }
-    requires { ⌜ RightTables (tablesOf (now codebook) (now thresholds)) ⌝ }
+    requires { ⌜ RightSizes (tablesOf (now codebook) (now thresholds)) ⌝ }
     ensures answer { λ r. ⌜ r ≡ wholeVerdict choices (came octets) (tablesIn codebook thresholds) index report (came places) ⌝ }
     ensures headers { λ r. ⌜ Kept (packAll (came octets) (came places) (length (came places))) (left headers) r ⌝ }
     ensures notes { λ r. ⌜ Kept (receivedNotes (came octets) (came places) (tablesIn codebook thresholds)) (left notes) r ⌝ }

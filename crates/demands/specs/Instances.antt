@@ -14,6 +14,7 @@ use lib.ListN.{length, take, drop, getD, replicate, length-append}
 use lib.Seq.{take-at, drop-append-add}
 use Rattle.polynomials.specs.Light.{ones-in}
 use Rattle.lists.specs.Parts.{part}
+use Rattle.lists.specs.Search.{firstFrom}
 use Rattle.layout.specs.Layout.{widths, frameIndices, multiframePairs, firstFrame, packetBits, streamOctets}
 use Rattle.settings.specs.Settings.{settings}
 use Rattle.frames.specs.Frames.{zeroFrame}
@@ -28,7 +29,7 @@ use Rattle.header_code.specs.Code.Distance.{codeword-lt}
 use Rattle.message.specs.Message.Laws.{message-lt}
 use Rattle.header.specs.Reading.Laws.{flips-of}
 use Rattle.image.specs.Made.{Small, made}
-use Rattle.writer.specs.Writing.{verdict, roomAnswer, firstFrom, needed}
+use Rattle.writer.specs.Writing.{verdict, roomAnswer, needed}
 use Rattle.writer.specs.Utterance.{Utterance, multiframesOf, pairsOf, imageOf}
 use Rattle.writer.specs.declared.Answer.the-variants.{Written}
 use Rattle.demands.specs.Damage.{Damage, sentMessage}

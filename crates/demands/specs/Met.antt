@@ -16,9 +16,11 @@ use lib.Seq.{take-at, drop-at, drop-append-add}
 use Rattle.polynomials.specs.Light.{ones-in}
 use Rattle.lists.specs.Tests.{true-false}
 use Rattle.lists.specs.Parts.{part, over}
+use Rattle.lists.specs.Search.{firstFrom}
 use Rattle.layout.specs.Layout.{frameIndices, packetBits, multiframePairs, streamOctets, indexOctets, reportOctets, codebookNumbers, thresholdNumbers, firstPair}
 use Rattle.choices.specs.declared.Choices.{Choices}
-use Rattle.consistency.specs.Tables.{zeroTables}
+use Rattle.consistency.specs.Tables.{at, zeroTables}
+use Rattle.consistency.specs.Admitted.{zero-right}
 use Rattle.settings.specs.Settings.{settings}
 use Rattle.frames.specs.Frames.{zeroFrame}
 use Rattle.carrier.specs.Carrier.{streamPacket}
@@ -26,7 +28,7 @@ use Rattle.crc.specs.Crc.{flip, Damaged}
 use Rattle.crc.specs.Damage.{length-flip, flips-burst, flips-double}
 use Rattle.packet.specs.Packet.{frameAt, packetOf, stream}
 use Rattle.packet.specs.Laws.{length-packetOf, length-stream, stream-part}
-use Rattle.consistency.specs.Consistency.{at, risen, flagged, flags, inconsistent}
+use Rattle.consistency.specs.Consistency.{elementExceeds, flagged, flags, inconsistent}
 use Rattle.header_code.specs.Code.{codeword, flipsTo}
 use Rattle.header_code.specs.Code.Distance.{codeword-lt}
 use Rattle.message.specs.Message.Laws.{message-lt}
@@ -35,7 +37,7 @@ use Rattle.reader.specs.Reading.{Outcome, reading}
 use Rattle.image.specs.Made.{Small, made, made-packet}
 use Rattle.image.specs.Laws.{length-image, image-small, image-packet}
 use Rattle.settling.specs.Laws.{Enough}
-use Rattle.writer.specs.Writing.{verdict, roomAnswer, firstFrom, frameCount, needed, writing}
+use Rattle.writer.specs.Writing.{verdict, roomAnswer, frameCount, needed, writing}
 use Rattle.writer.specs.Writing as W
 use Rattle.writer.specs.Utterance.{Utterance, multiframesOf, imageOf, whole-frames, writes}
 use Rattle.writer.specs.declared.Answer.the-variants.{Written}
@@ -57,8 +59,7 @@ reportFor m = replicate (reportOctets * m) 0
 
 pub lent-zeros : (m : ℕ) → Lent m zeroTables (indexFor m) (reportFor m)
 lent-zeros m = record {
-  codebook-size = length-replicate codebookNumbers (pos 0);
-  thresholds-size = length-replicate thresholdNumbers (pos 0);
+  right-tables = zero-right;
   index-room = le-of-eq (sym (length-replicate (indexOctets * m) 0));
   report-room = le-of-eq (sym (length-replicate (reportOctets * m) 0));
 }
@@ -70,12 +71,12 @@ zero-at (suc n) zero = refl
 zero-at (suc n) (suc i) = zero-at n i
 
 module _ (f g : List ℕ) where
-  not-risen : (c i j e : ℕ) → risen zeroTables c i j e ≡ false
-  not-risen c i j e = rw (zero-at thresholdNumbers (2 * c + e), zero-at 1280 (128 * c + 2 * i + e), zero-at 1280 (128 * c + 2 * j + e))
+  not-exceeded : (c i j e : ℕ) → elementExceeds zeroTables c i j e ≡ false
+  not-exceeded c i j e = rw (zero-at thresholdNumbers (2 * c + e), zero-at 1280 (128 * c + 2 * i + e), zero-at 1280 (128 * c + 2 * j + e))
 
   not-flagged : (c i j : ℕ) → flagged zeroTables c i j ≡ false
   unfolding flagged
-  not-flagged c i j = rw (not-risen c i j 0, not-risen c i j 1)
+  not-flagged c i j = rw (not-exceeded c i j 0, not-exceeded c i j 1)
 
   no-flags : (c : ℕ) → flags zeroTables f g c ≡ 0
   unfolding flags

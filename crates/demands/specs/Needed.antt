@@ -29,6 +29,7 @@ use Rattle.polynomials.specs.Light.{ones-in}
 use Rattle.polynomials.specs.Xor.{xor-swap}
 use Rattle.lists.specs.Tests.{true-false}
 use Rattle.lists.specs.Rows.{each, joined, length-joined, joined-part}
+use Rattle.lists.specs.Search.{firstFrom}
 use Rattle.layout.specs.Layout.{frameIndices, multiframeFrames, indexOctets, packetBits, multiframePairs, multiframeOctets, mostMultiframes, streamOctets, firstPair, multiframeOf, sync}
 use Rattle.choices.specs.Choices.{oneSettles, byDefault, oneHeaderSettles}
 use Rattle.choices.specs.declared.Choices.{Choices}
@@ -55,7 +56,7 @@ use Rattle.bad_pairs.specs.BadPairs.{bad, badPairs}
 use Rattle.reader.specs.Reading.{outcome, reading}
 use Rattle.refusals.specs.declared.Reading.the-variants.{Unsettled, AllBad}
 use Rattle.reader.specs.declared.Answer.the-variants.{Read, Refused}
-use Rattle.writer.specs.Writing.{verdict, roomAnswer, firstFrom, needed, writing}
+use Rattle.writer.specs.Writing.{verdict, roomAnswer, needed, writing}
 use Rattle.writer.specs.Laws.{few-multiframes}
 use Rattle.writer.specs.Utterance.{Utterance, multiframesOf, pairsOf, imageOf, is-accepted, rate-not-2}
 use Rattle.writer.specs.declared.Answer.the-variants.{Written}

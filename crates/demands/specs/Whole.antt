@@ -14,7 +14,8 @@ use Rattle.lists.specs.Parts.{part, over, part-left}
 use Rattle.lists.specs.Rows.{each, same-each}
 use Rattle.layout.specs.Layout.{frameIndices, multiframePairs, multiframeOctets, mostMultiframes, indexOctets, reportOctets, codebookNumbers, thresholdNumbers, pairOf, multiframeOf, firstPair, sync}
 use Rattle.choices.specs.declared.Choices.{Choices}
-use Rattle.consistency.specs.Tables.{Tables, right-passes}
+use Rattle.consistency.specs.Tables.{Tables, RightTables}
+use Rattle.consistency.specs.Admitted.{right-passes}
 use Rattle.bits.specs.Bits.{bits}
 use Rattle.cutting.specs.Cutting.{Cutting, whole, cutting}
 use Rattle.cutting.specs.Laws.{every, every-length, every-at, whole-image}
@@ -39,10 +40,10 @@ use Rattle.image.specs.Made.{syncIn, wordIn, packetIn, streamIn}
 abbrev pub rowOf : ℕ → List ℕ
 rowOf m = every 0 m
 
--- what 01's tables and room are: any codebook of 1,280 numbers and any 14 thresholds; 168m index octets and 13m report octets
+-- what 01's tables and room are: any codebook of 1,280 numbers and any 14 thresholds, none of them negative (02, C-12); 168m index octets and 13m
+-- report octets
 pub record Lent (m : ℕ) (tables : Tables) (index report : List ℕ) : Type 0 where
-  pub codebook-size : length (tables .codebook) ≡ codebookNumbers
-  pub thresholds-size : length (tables .thresholds) ≡ thresholdNumbers
+  pub right-tables : RightTables tables
   pub index-room : indexOctets * m ≤ length index
   pub report-room : reportOctets * m ≤ length report
 
@@ -90,8 +91,7 @@ module _ (s : List ℕ) (m : ℕ) (few : m ≤ mostMultiframes) (size : length s
       let pl : cutting s .places ≡ rowOf m = ap (λ (w : Cutting). w .places) cut-is in
       let a : Accepted ch s tables (length index) (length report) c =
       record {
-        codebook-size = lent .codebook-size;
-        thresholds-size = lent .thresholds-size;
+        right-tables = lent .right-tables;
         uncut = ap (λ (w : Cutting). w .ending) cut-is;
         some = λ e. omega (arith, ap length pl, every-length 0 m);
         fitting = subst
@@ -149,12 +149,12 @@ nothing-replaced ns l good size =
 -- ---- refusals that damage can bring: 16 and 20
 module _ (ch : Choices) (s : List ℕ) (m : ℕ) (few : m ≤ mostMultiframes) (size : length s ≡ multiframeOctets * m) (syncs : (k : ℕ) → k < m → syncIn s k ≡ sync)
     (tables : Tables) (index report : List ℕ) (some : 0 < m) (lent : Lent m tables index report) where
-  -- past 11 to 15 the settings decide
+  -- past 10 to 15 the settings decide
   settled-next : verdict ch s tables (length index) (length report)
       ≡ settledVerdict (length (rowOf m)) (badPairs (receivedNotes s (rowOf m) tables)) (pairCount (rowOf m)) (length index) (length report) (settling ch (readings s (rowOf m)))
   unfolding verdict wholeVerdict
   settled-next =
-      rw (right-passes tables (lent .codebook-size, lent .thresholds-size))
+      rw (right-passes tables (lent .right-tables))
       (subst
       (λ (w : Cutting). endVerdict ch s tables (length index) (length report) (w .places) (w .ending)
       ≡ settledVerdict (length (rowOf m)) (badPairs (receivedNotes s (rowOf m) tables)) (pairCount (rowOf m)) (length index) (length report) (settling ch (readings s (rowOf m))))

@@ -5,6 +5,7 @@ use mathlib.Core.Path.{_≡_, refl}
 use mathlib.Core.List.{List, [], _∷_}
 use Prim.Native.Nat.{ℕ}
 use lib.ListN.{replicate}
+use Rattle.lists.specs.Search.{firstFrom}
 use Rattle.choices.specs.declared.Choices.{Choices}
 use Rattle.choices.specs.declared.Asked.the-variants.{For}
 use Rattle.settings.specs.Settings.{settings}
@@ -13,9 +14,9 @@ use Rattle.reader.specs.Reading.{Outcome, outcome, reading, verdict}
 use Rattle.refusals.specs.declared.Reading.the-variants.{CutShort, IndexShort, AllBad}
 use Rattle.reader.specs.declared.Answer.the-variants.{Read, Refused}
 use Rattle.writer.specs.Writing as W
-use Rattle.writer.specs.Writing.{firstFrom, roomAnswer, writing}
+use Rattle.writer.specs.Writing.{roomAnswer, writing}
 use Rattle.entries.specs.Entries.{returning, givenOf, dsrWrite, dsrRead}
-use Rattle.consistency.specs.Tables.{tablesOf, tablesRight}
+use Rattle.consistency.specs.Tables.{tablesOf, sizesRight, admission}
 
 -- 16 kHz, noise robust, 2 multiframes, 30 frames of speech, 4 bad pairs, end
 abbrev pub talk : Outcome
@@ -49,7 +50,7 @@ pub record Table (ch : Choices) : Type 0 where
   pub wide-index : dsrWrite 0 0 (64 ∷ 0 ∷ 0 ∷ 0 ∷ 0 ∷ 0 ∷ 0 ∷ []) (7 ∷ []) ≡ record { number = 4; output = 7 ∷ []; place = 1 }
 
 pub table : (ch : Choices) → Table ch
-unfolding returning reading verdict tablesRight writing W.verdict roomAnswer firstFrom zeroFrame
+unfolding returning reading verdict admission sizesRight writing W.verdict roomAnswer firstFrom zeroFrame
 table ch = record {
   six-numbers = refl;
   refused-13 = refl;

@@ -193,6 +193,7 @@ module _ (ch : Choices) (s : List ℕ) (from least : ℕ) (tables : Tables) (ind
 
       by : F.Fate ch s from least tables index report → (found .index ≡ index) × (found .report ≡ report)
       by (F.wrongTables w q) = kept _ q
+      by (F.negativeThreshold k h n q) = kept _ q
       by (F.range t w q) = kept _ q
       by (F.nowhere t r n q) = kept _ q
       by (F.many p t r x b q) = kept _ q

@@ -35,7 +35,7 @@ module _ (u : Utterance) where
   count = ap (λ (w : Cutting). length (w .places)) cut ∙ every-length 0 (multiframesOf u)
 
   up : CutUp (imageOf u) zeroTables
-  up = ((lent-zeros 1 .codebook-size, lent-zeros 1 .thresholds-size), whole-exactly (imageOf u) .0 (ap (λ (w : Cutting). w .ending) cut))
+  up = ((lent-zeros 1 .right-tables), whole-exactly (imageOf u) .0 (ap (λ (w : Cutting). w .ending) cut))
 
 pub record Edges : Type 0 where
   pub number-2 : dsrRead [] (asked 2) zeroTables [] [] six 5 ≡ record { number = 96; index = []; report = []; answer = six; place = 5 }

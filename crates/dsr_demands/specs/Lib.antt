@@ -12,3 +12,4 @@ pub mod Told
 pub mod Answers
 pub mod Chosen
 pub mod Edges
+pub mod Tabled

@@ -6,6 +6,7 @@ use lib.Dec.{eqb, ltb}
 use lib.ListN.{length}
 use Rattle.lists.specs.Tests.{when}
 use Rattle.lists.specs.Parts.{over}
+use Rattle.lists.specs.Search.{Search, at, nowhere}
 use Rattle.layout.specs.Layout.{streamOctets, indexOctets, multiframePairs}
 use Rattle.choices.specs.declared.Choices.{Choices}
 use Rattle.choices.specs.declared.Asked.{Asked}
@@ -25,7 +26,7 @@ use Rattle.reader.specs.declared.Summary.{Summary}
 use Rattle.reader.specs.declared.Answer.{Answer}
 use Rattle.reader.specs.declared.Answer.the-variants.{Read, Refused}
 use Rattle.writer.specs.Writing as W
-use Rattle.writer.specs.Writing.{Search, at, nowhere, firstWide, writing}
+use Rattle.writer.specs.Writing.{firstWide, writing}
 
 -- Every entry but the encoder of headers answers 0 if it is done, and else the number of a refusal.
 

@@ -4,14 +4,16 @@ use mathlib.Core.Path.{_≡_, refl, subst}
 use mathlib.Core.Bool.{xor}
 use mathlib.Core.List.{List, [], _∷_, _++_}
 use Prim.Native.Nat.{ℕ}
+use lib.IntN.{ℤ, pos, negsuc}
 use lib.ListN.{replicate}
+use Rattle.lists.specs.Search.{firstFrom}
 use Rattle.settings.specs.Settings.{settings}
 use Rattle.hunt.specs.declared.Hunted.the-variants as HA
 use Rattle.refusals.specs.declared.Hunt.the-variants as HR
 use Rattle.refusals.specs.declared.Reading.the-variants as RR
 use Rattle.reader.specs.Reading as R
 use Rattle.reader.specs.declared.Answer.the-variants as RA
-use Rattle.writer.specs.Writing.{firstFrom, verdict, writing}
+use Rattle.writer.specs.Writing.{verdict, writing}
 use Rattle.hunting.specs.Hunting.{Outcome, outcome}
 use Rattle.refusals.specs.declared.Hunting.the-variants.{Octets, MatchRange, Nowhere, TooMany}
 use Rattle.hunting.specs.declared.Answer.the-variants.{Read, Refused}
@@ -23,7 +25,7 @@ use Rattle.notes.specs.Notes.{pairFails, framesOf, allFrames}
 use Rattle.header.specs.Reading.{reading}
 use Rattle.header.specs.Reading.Examples as H
 use Rattle.choices.specs.Choices.{asked}
-use Rattle.consistency.specs.Tables.{tablesOf, zeroTables, tablesRight}
+use Rattle.consistency.specs.Tables.{tablesOf, zeroTables, sizesRight, admission}
 use Rattle.hunt.specs.Hunt.{hunted, found, inRange, misses}
 use Rattle.hunting.specs.Hunting.{huntingReading}
 use Rattle.entries.specs.Entries.{headerRead, packed, packing, unpacked, unpacking, returning, unchosen, givenOf, dsrWrite, dsrRead}
@@ -162,7 +164,7 @@ pub record FromThenT : Type 0 where
   pub read-17 : dsrReadBits [] 5 17 (asked 0) zeroTables [] [] (replicate 8 90) 8 ≡ record { number = 21; index = []; report = []; answer = replicate 8 90; place = 17 }
 
 pub from-then-T : FromThenT
-unfolding hunted found inRange misses huntingReading tablesRight returning fields asked
+unfolding hunted found inRange misses huntingReading admission sizesRight firstFrom returning fields asked
 from-then-T = record { hunt-17 = refl; hunt-16 = refl; read-17 = refl }
 
 -- ---- a number that names no choice is 96, behind 99 and before 11 and 21, and all stays, the place too. Index and report came as 5 and 6, the place as 8
@@ -178,5 +180,40 @@ pub record Choosing : Type 0 where
   pub read-1 : dsrRead [] (asked 1) (tablesOf [] []) (5 ∷ []) (6 ∷ []) nine 8 ≡ record { number = 11; index = 5 ∷ []; report = 6 ∷ []; answer = nine; place = 0 }
 
 pub choosing : Choosing
-unfolding asked unchosen returning R.reading R.verdict tablesRight
+unfolding asked unchosen returning R.reading R.verdict admission sizesRight
 choosing = record { read-2 = refl; read-no-room = refl; bits-2 = refl; bits-no-room = refl; read-0 = refl; read-1 = refl }
+
+-- ---- a negative threshold (02, C-12) is 10, and its place the first one's number from 0: here 2, and 13, the last, is negative too. Behind 99, 96 and 11, before
+-- anything received is looked at and before 21; index and report came as 5 and 6, the place as 8
+abbrev book : List ℤ
+book = replicate 1280 (pos 0)
+
+abbrev third : List ℤ
+third = pos 0 ∷ pos 0 ∷ negsuc 0 ∷ replicate 10 (pos 7) ++ (negsuc 2147483647 ∷ [])
+
+abbrev last : List ℤ
+last = replicate 13 (pos 0) ++ (negsuc 2147483647 ∷ [])
+
+pub record Negative : Type 0 where
+  pub read-10 : dsrRead (1 ∷ []) (asked 0) (tablesOf book third) (5 ∷ []) (6 ∷ []) nine 8 ≡ record { number = 10; index = 5 ∷ []; report = 6 ∷ []; answer = nine; place = 2 }
+  pub read-10-last : dsrRead [] (asked 1) (tablesOf book last) (5 ∷ []) (6 ∷ []) nine 8 ≡ record { number = 10; index = 5 ∷ []; report = 6 ∷ []; answer = nine; place = 13 }
+  pub read-11 : dsrRead [] (asked 0) (tablesOf (pos 0 ∷ book) third) (5 ∷ []) (6 ∷ []) nine 8 ≡ record { number = 11; index = 5 ∷ []; report = 6 ∷ []; answer = nine; place = 0 }
+  pub read-96 : dsrRead [] (asked 2) (tablesOf book third) (5 ∷ []) (6 ∷ []) nine 8 ≡ record { number = 96; index = 5 ∷ []; report = 6 ∷ []; answer = nine; place = 8 }
+  pub read-99 : dsrRead [] (asked 0) (tablesOf book third) (5 ∷ []) (6 ∷ []) (replicate 5 90) 8
+      ≡ record { number = 99; index = 5 ∷ []; report = 6 ∷ []; answer = replicate 5 90; place = 8 }
+  pub bits-10 : dsrReadBits [] 5 17 (asked 0) (tablesOf book third) (5 ∷ []) (6 ∷ []) nine 8 ≡ record { number = 10; index = 5 ∷ []; report = 6 ∷ []; answer = nine; place = 2 }
+  pub bits-10-last : dsrReadBits [] 5 16 (asked 0) (tablesOf book last) (5 ∷ []) (6 ∷ []) nine 8 ≡ record { number = 10; index = 5 ∷ []; report = 6 ∷ []; answer = nine; place = 13 }
+  pub bits-11 : dsrReadBits [] 5 17 (asked 0) (tablesOf book (pos 0 ∷ third)) (5 ∷ []) (6 ∷ []) nine 8 ≡ record { number = 11; index = 5 ∷ []; report = 6 ∷ []; answer = nine; place = 0 }
+
+pub negative : Negative
+unfolding asked unchosen returning R.reading R.verdict huntingReading admission sizesRight firstFrom
+negative = record {
+  read-10 = refl;
+  read-10-last = refl;
+  read-11 = refl;
+  read-96 = refl;
+  read-99 = refl;
+  bits-10 = refl;
+  bits-10-last = refl;
+  bits-11 = refl;
+}

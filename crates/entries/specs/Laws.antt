@@ -12,6 +12,7 @@ use Rattle.choices.specs.declared.Asked.{Asked}
 use Rattle.choices.specs.declared.Asked.the-variants.{For, NoSuchChoice}
 use Rattle.lists.specs.Tests.{when, true-false}
 use Rattle.lists.specs.Parts.{over}
+use Rattle.lists.specs.Search.{at, nowhere}
 use Rattle.layout.specs.Layout.{streamOctets, indexOctets, multiframePairs}
 use Rattle.settings.specs.Settings.{settings, settingsRight, rate-right, kind-right}
 use Rattle.bits.specs.Bits.{bits, octets}
@@ -23,7 +24,7 @@ use Rattle.notes.specs.Notes.{allFrames, crcNotes}
 use Rattle.notes.specs.Laws.{over-all}
 use Rattle.reader.specs.Reading.{Outcome, outcome}
 use Rattle.reader.specs.declared.Answer.{Answer}
-use Rattle.writer.specs.Writing.{at, nowhere, firstWide, verdict, writing}
+use Rattle.writer.specs.Writing.{firstWide, verdict, writing}
 use Rattle.entries.specs.Entries.{packed, narrowPacking, packing, unpacked, unpacking, Told, numbers, refusal, Given, given, Returned, returned, answered, returning, unchosen, choosing, toldOf, givenOf, writeReturned, dsrWrite}
 
 -- ---- packing

@@ -8,12 +8,13 @@ use native.Mathlib.Omega.{arith}
 use lib.ListN.{length, take}
 use Rattle.layout.specs.Layout.{multiframeOctets, mostMultiframes}
 use Rattle.choices.specs.declared.Choices.{Choices}
-use Rattle.consistency.specs.Tables.{Tables, tablesRight}
+use Rattle.consistency.specs.Tables.{Tables, admission}
+use Rattle.consistency.specs.declared.Admission.the-variants as A
 use Rattle.bits.specs.Bits.{bits}
 use Rattle.hunt.specs.Hunt.{multiframeBits, inRange, searched}
 use Rattle.reader.specs.Reading as R
 use Rattle.reader.specs.declared.Answer.{Answer as OctetAnswer}
-use Rattle.refusals.specs.declared.Reading.the-variants.{WrongTables}
+use Rattle.refusals.specs.declared.Reading.{Reading as OctetRefusal}
 use Rattle.gathering.specs.Gathering.{Ending, whole, tooMany, Gathering, gathering, outsideOf, imageOf, answeredBy, answered, LaidBy, Laid}
 use Rattle.gathering.specs.Laws.{room-for, at-most, apart}
 use Rattle.gathering.specs.declared.Gathered.the-variants as G
@@ -98,11 +99,11 @@ module _ (ch : Choices) (s : List ℕ) (from least : ℕ) where
           some (p ∷ ps) h = refl
 
     -- ---- the first tests
-    pub wrong-tables : tablesRight tables ≡ false → outcome (Refused (Octets WrongTables)) index report ≡ huntingReading ch s from least tables index report
+    pub not-admitted : (r : OctetRefusal) → admission tables ≡ A.Refused r → outcome (Refused (Octets r)) index report ≡ huntingReading ch s from least tables index report
     unfolding huntingReading
-    wrong-tables h = rw h
+    not-admitted r e = rw e
 
-    module _ (right : tablesRight tables ≡ true) where
+    module _ (right : admission tables ≡ A.Admitted) where
       pub out-of-range : inRange least ≡ false → outcome (Refused (MatchRange least)) index report ≡ huntingReading ch s from least tables index report
       unfolding huntingReading
       out-of-range e = rw (right, e)

@@ -10,7 +10,9 @@ use Rattle.lists.specs.Tests.{when}
 use Rattle.layout.specs.Layout.{mostMultiframes}
 use Rattle.choices.specs.Choices.{oneSettles}
 use Rattle.choices.specs.declared.Choices.{Choices}
-use Rattle.consistency.specs.Tables.{Tables, tablesRight, RightTables, right-passes}
+use Rattle.consistency.specs.Tables.{Tables, RightTables, admission, ifAdmitted}
+use Rattle.consistency.specs.Admitted.{right-passes}
+use Rattle.refusals.specs.declared.Reading.{Reading as OctetRefusal}
 use Rattle.cutting.specs.Cutting.{Cutting, cutting}
 use Rattle.cutting.specs.Reached.{whole-exactly}
 use Rattle.cutting.specs.Laws.{every-length}
@@ -20,7 +22,7 @@ use Rattle.gathering.specs.Gathering.{Ending, whole, tooMany, Gathering, gather
 use Rattle.gathering.specs.Laws.{at-most}
 use Rattle.reader.specs.Chosen.{two-alike, one-refused, default-two}
 use Rattle.reader.specs.Reading as R
-use Rattle.refusals.specs.declared.Reading.the-variants.{WrongTables, Unsettled}
+use Rattle.refusals.specs.declared.Reading.the-variants.{Unsettled}
 use Rattle.refusals.specs.declared.Hunting.the-variants.{Octets, MatchRange}
 use Rattle.hunting.specs.Hunting.{Outcome, outcome, counted, readingBy, readingFound, huntingReading}
 use Rattle.hunting.specs.Says.{image-cut, success}
@@ -42,7 +44,7 @@ module _ (s : List ℕ) (from least : ℕ) (tables : Tables) (index report : Lis
   unfolding huntingReading readingFound
   found-alike ch dh two =
       ap
-      (λ (o : Outcome). when (tablesRight tables) (when (inRange least) o (outcome (Refused (MatchRange least)) index report)) (outcome (Refused (Octets WrongTables)) index report))
+      (λ (o : Outcome). ifAdmitted (admission tables) (λ (r : OctetRefusal). outcome (Refused (Octets r)) index report) (when (inRange least) o (outcome (Refused (MatchRange least)) index report)))
       (by (found .places) (found .ending) refl)
     where
       by : (ps : List ℕ) (e : Ending) → found .places ≡ ps → readingBy ch s from least tables index report ps (found .tested) e ≡ readingBy dh s from least tables index report ps (found .tested) e
@@ -55,7 +57,7 @@ module _ (s : List ℕ) (from least : ℕ) (tables : Tables) (index report : Lis
           (subst (λ (l : List ℕ). 2 ≤ length (cutting (imageOf s l) .places)) q (omega (arith, cut-count))))
 
   module _ (ch : Choices) (default : oneSettles ch ≡ false) where
-    -- BY DEFAULT AN ONLY MULTIFRAME FOUND IS REFUSED, 16, whatever its header is, where none of 11, 21, 22 and 15 comes before
+    -- BY DEFAULT AN ONLY MULTIFRAME FOUND IS REFUSED, 16, whatever its header is, where none of 11, 10, 21, 22 and 15 comes before
     pub found-refused : RightTables tables → inRange least ≡ true → gathering (bits s) least mostMultiframes from .ending ≡ whole
         → length (gathering (bits s) least mostMultiframes from .places) ≡ 1
         → huntingReading ch s from least tables index report ≡ outcome (Refused (Octets Unsettled)) index report

@@ -6,14 +6,13 @@ use lib.ListN.{length}
 use Rattle.lists.specs.Tests.{when}
 use Rattle.layout.specs.Layout.{mostMultiframes}
 use Rattle.choices.specs.declared.Choices.{Choices}
-use Rattle.consistency.specs.Tables.{Tables, tablesRight}
+use Rattle.consistency.specs.Tables.{Tables, admission, ifAdmitted}
 use Rattle.bits.specs.Bits.{bits}
 use Rattle.hunt.specs.Hunt.{inRange}
 use Rattle.gathering.specs.Gathering.{Ending, whole, tooMany, Gathering, gathering, outsideOf, imageOf}
 use Rattle.reader.specs.Reading as R
 use Rattle.reader.specs.declared.Answer.the-variants as RA
 use Rattle.reader.specs.declared.Answer.{Answer as OctetAnswer}
-use Rattle.refusals.specs.declared.Reading.the-variants.{WrongTables}
 use Rattle.refusals.specs.declared.Hunting.{Hunting as Refusal}
 use Rattle.refusals.specs.declared.Hunting.the-variants.{Octets, MatchRange, Nowhere, TooMany}
 use Rattle.hunting.specs.declared.Answer.{Answer}
@@ -52,7 +51,7 @@ module _ (ch : Choices) (s : List ℕ) (from least : ℕ) (tables : Tables) (ind
   unfoldable pub readingFound : Outcome
   readingFound = readingBy (all .places) (all .tested) (all .ending)
 
-  -- 11 comes first, then 21
+  -- 11 comes first, then 10 (02, C-12), then 21
   unfoldable pub huntingReading : Outcome
   huntingReading =
-      when (tablesRight tables) (when (inRange least) readingFound (refuse (MatchRange least))) (refuse (Octets WrongTables))
+      ifAdmitted (admission tables) (λ r. refuse (Octets r)) (when (inRange least) readingFound (refuse (MatchRange least)))

@@ -6,9 +6,10 @@ use mathlib.Core.List.{List}
 use mathlib.Core.Bool.{false}
 use native.Mathlib.Omega.{arith}
 use lib.ListN.{length}
-use Rattle.layout.specs.Layout.{mostMultiframes, codebookNumbers, thresholdNumbers}
+use Rattle.layout.specs.Layout.{mostMultiframes}
 use Rattle.choices.specs.declared.Choices.{Choices}
-use Rattle.consistency.specs.Tables.{Tables, RightTables, right-passes, wrong-fails}
+use Rattle.consistency.specs.Tables.{Tables, RightSizes, RightTables, FirstNegative}
+use Rattle.consistency.specs.Admitted.{right-passes, wrong-sizes, negative-refused}
 use Rattle.bits.specs.Bits.{bits}
 use Rattle.hunt.specs.Hunt.{inRange}
 use Rattle.refusals.specs.declared.Reading.the-variants as RR
@@ -43,11 +44,16 @@ module _ (ch : Choices) (s : List ℕ) (from least : ℕ) (tables : Tables) (ind
   )
 
   -- 11 COMES FIRST, whatever T is and whatever was received
-  pub tables-first : (RightTables tables → ⊥) → result ≡ outcome (Refused (Octets RR.WrongTables)) index report
+  pub tables-first : (RightSizes tables → ⊥) → result ≡ outcome (Refused (Octets RR.WrongTables)) index report
   unfolding huntingReading
-  tables-first n = rw (wrong-fails tables n)
+  tables-first n = rw (wrong-sizes tables n)
+
+  -- THEN 10 (02, C-12), whatever T is and whatever was received
+  pub negative-next : (k : ℕ) → RightSizes tables → FirstNegative tables k → result ≡ outcome (Refused (Octets (RR.NegativeThreshold k))) index report
+  unfolding huntingReading
+  negative-next k h f = rw (negative-refused tables k h f)
 
   -- THEN 21, whatever was received
-  pub range-next : length (tables .codebook) ≡ codebookNumbers → length (tables .thresholds) ≡ thresholdNumbers → inRange least ≡ false → result ≡ outcome (Refused (MatchRange least)) index report
+  pub range-next : RightTables tables → inRange least ≡ false → result ≡ outcome (Refused (MatchRange least)) index report
   unfolding huntingReading
-  range-next sc st e = rw (right-passes tables (sc, st), e)
+  range-next right e = rw (right-passes tables right, e)

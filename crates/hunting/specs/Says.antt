@@ -12,9 +12,12 @@ use lib.ListN.{length, getD}
 use lib.Seq.{getD-append-add}
 use borrow.Author.Tests.{ne-eqb}
 use Rattle.lists.specs.Tests.{by-test, true-false}
-use Rattle.layout.specs.Layout.{multiframeOctets, mostMultiframes, indexOctets, reportOctets, codebookNumbers, thresholdNumbers, syncFirst, syncSecond}
+use Rattle.layout.specs.Layout.{multiframeOctets, mostMultiframes, indexOctets, reportOctets, syncFirst, syncSecond}
 use Rattle.choices.specs.declared.Choices.{Choices}
-use Rattle.consistency.specs.Tables.{Tables, tablesRight, RightTables, right-passes, passes-right, fails-wrong}
+use Rattle.consistency.specs.Tables.{Tables, RightSizes, RightTables, FirstNegative, admission}
+use Rattle.consistency.specs.Admitted.{Shown, shown, right-passes}
+use Rattle.consistency.specs.declared.Admission.{Admission}
+use Rattle.consistency.specs.declared.Admission.the-variants as A
 use Rattle.bits.specs.Bits.{bits}
 use Rattle.cutting.specs.Cutting.{Cutting, cutting, whole as uncut}
 use Rattle.cutting.specs.Laws.{every, every-length, whole-image}
@@ -62,6 +65,7 @@ image-cut s ps few = whole-image (imageOf s ps) (length ps) few (length-image s 
 -- ---- so the octet reader refuses it with 16 to 20 only
 abbrev pub Late : OctetRefusal → Type 0
 Late RR.WrongTables = ⊥
+Late (RR.NegativeThreshold k) = ⊥
 Late (RR.Unknown p) = ⊥
 Late (RR.CutShort p) = ⊥
 Late (RR.Empty n) = ⊥
@@ -85,7 +89,7 @@ late-settled m bad pairs index report (S.Settled c) =
     by-test LateVerdict (ltb report (reportOctets * m)) (λ e. tt) (λ e. by-test LateVerdict (eqb bad pairs) (λ e. tt) (λ e. tt))))
 
 module _ (ch : Choices) (s ps : List ℕ) (some : 0 < length ps) (few : length ps ≤ mostMultiframes) (tables : Tables) (index report : List ℕ)
-    (sc : length (tables .codebook) ≡ codebookNumbers) (st : length (tables .thresholds) ≡ thresholdNumbers) where
+    (right : RightTables tables) where
   abbrev image : List ℕ
   image = imageOf s ps
 
@@ -97,7 +101,7 @@ module _ (ch : Choices) (s ps : List ℕ) (some : 0 < length ps) (few : length p
       ≡ R.finished image tables index report rows (wholeVerdict ch image tables (length index) (length report) rows)
   unfolding R.reading R.verdict
   decided =
-      rw (right-passes tables (sc, st))
+      rw (right-passes tables right)
       (ap (λ (w : Cutting). R.finished image tables index report (w .places) (R.endVerdict ch image tables (length index) (length report) (w .places) (w .ending)))
       (image-cut s ps few))
 
@@ -147,7 +151,8 @@ module _ (ch : Choices) (s : List ℕ) (from least : ℕ) (tables : Tables) (ind
 
   -- HOW IT ENDS: each case says that the tests before it passed
   pub data Fate : Type 0 where
-    wrongTables : (RightTables tables → ⊥) → result ≡ keeps (Octets RR.WrongTables) → Fate
+    wrongTables : (RightSizes tables → ⊥) → result ≡ keeps (Octets RR.WrongTables) → Fate
+    negativeThreshold : (k : ℕ) → RightSizes tables → FirstNegative tables k → result ≡ keeps (Octets (RR.NegativeThreshold k)) → Fate
     range : RightTables tables → inRange least ≡ false → result ≡ keeps (MatchRange least) → Fate
     nowhere : RightTables tables → inRange least ≡ true → NonePasses (bits s) least from → result ≡ keeps (Nowhere from (placesLeft (bits s) from)) → Fate
     many : (p : ℕ) → RightTables tables → inRange least ≡ true → found .ending ≡ tooMany p → Beyond (bits s) least mostMultiframes from p (found .places) → result ≡ keeps (TooMany p) → Fate
@@ -169,26 +174,40 @@ module _ (ch : Choices) (s : List ℕ) (from least : ℕ) (tables : Tables) (ind
 
   pub fate : Fate
   unfolding huntingReading readingFound
-  fate = by (tablesRight tables) (inRange least) refl refl
+  fate = by (admission tables) (inRange least) refl refl (shown tables)
     where
-      by : (a r : Bool) → tablesRight tables ≡ a → inRange least ≡ r → Fate
-      by false r ea er = wrongTables (fails-wrong tables ea) (rw ea)
-      by true false ea er = range (passes-right tables ea) er (rw (ea, er))
-      by true true ea er = found-fate (passes-right tables ea) er (rw (ea, er))
+      turned : (r : OctetRefusal) → admission tables ≡ A.Refused r → Shown tables (A.Refused r) → Fate
+      turned RR.WrongTables e h = wrongTables h (rw e)
+      turned (RR.NegativeThreshold k) e h = negativeThreshold k (h .0) (h .1) (rw e)
+      turned (RR.Unknown p) e h = absurd h
+      turned (RR.CutShort p) e h = absurd h
+      turned (RR.Empty n) e h = absurd h
+      turned (RR.TooMany p) e h = absurd h
+      turned RR.Unsettled e h = absurd h
+      turned RR.Unfit e h = absurd h
+      turned (RR.IndexShort n) e h = absurd h
+      turned (RR.ReportShort n) e h = absurd h
+      turned RR.AllBad e h = absurd h
 
-  -- 22 EXACTLY IF NO PLACE PASSES, where the tables have their lengths and T its range
-  pub nowhere-exactly : length (tables .codebook) ≡ codebookNumbers → length (tables .thresholds) ≡ thresholdNumbers → inRange least ≡ true
+      by : (a : Admission) (r : Bool) → admission tables ≡ a → inRange least ≡ r → Shown tables a → Fate
+      by (A.Refused q) r ea er h = turned q ea h
+      by A.Admitted false ea er h = range h er (rw (ea, er))
+      by A.Admitted true ea er h = found-fate h er (rw (ea, er))
+
+  -- 22 EXACTLY IF NO PLACE PASSES, where the tables are right and T is in its range
+  pub nowhere-exactly : RightTables tables → inRange least ≡ true
       → (result ≡ keeps (Nowhere from (placesLeft (bits s) from))) ↔ NonePasses (bits s) least from
   unfolding huntingReading readingFound
-  nowhere-exactly sc st er = (
+  nowhere-exactly right er = (
     λ e. by fate (ap (λ (o : Outcome). o .answer) e),
     λ none.
-        rw (right-passes tables (sc, st), er)
+        rw (right-passes tables right, er)
         (ap (λ (g : Gathering). readingBy ch s from least tables index report (g .places) (g .tested) (g .ending)) (nothing-found (bits s) least 254 from none)),
   )
     where
       by : Fate → result .answer ≡ Refused (Nowhere from (placesLeft (bits s) from)) → NonePasses (bits s) least from
-      by (wrongTables w e) f = absurd (w (sc, st))
+      by (wrongTables w e) f = absurd (w (right .0))
+      by (negativeThreshold k h n e) f = absurd (true-false (sym (n .1) ∙ right .1 k (n .0)))
       by (range ts w e) f = absurd (true-false (sym er ∙ w))
       by (nowhere ts r n e) f = n
       by (many p ts r x b e) f = let g = sym (ap (λ (o : Outcome). o .answer) e) ∙ f in let z : _≡_ {A = ℕ} 0 1 = cc in absurd (omega arith)
@@ -222,6 +241,7 @@ module _ (ch : Choices) (s : List ℕ) (from least : ℕ) (tables : Tables) (ind
 
       by : Fate → Success c
       by (wrongTables w e) = other (Octets RR.WrongTables) e
+      by (negativeThreshold k h n e) = other (Octets (RR.NegativeThreshold k)) e
       by (range t w e) = other (MatchRange least) e
       by (nowhere t r n e) = other (Nowhere from (placesLeft (bits s) from)) e
       by (many p t r x b e) = other (TooMany p) e
@@ -229,7 +249,7 @@ module _ (ch : Choices) (s : List ℕ) (from least : ℕ) (tables : Tables) (ind
           let o = R.reading ch (imageOf s (found .places)) tables index report in
           let a = counted-read (o .answer) (outsideOf (bits s) from (length (found .places))) (found .tested) c (sym (ap (λ (o : Outcome). o .answer) e) ∙ f) in
           let few = at-most (bits s) least mostMultiframes from in
-          let m = image-count ch s (found .places) n few tables index report (t .0) (t .1) (c .summary) (a .0) in
+          let m = image-count ch s (found .places) n few tables index report t (c .summary) (a .0) in
           let far = apart (bits s) least mostMultiframes from in
           let room = room-for (bits s) least from (found .places) far n in
           record {
@@ -244,9 +264,9 @@ module _ (ch : Choices) (s : List ℕ) (from least : ℕ) (tables : Tables) (ind
             all-taken = λ u le inside passes. taken (bits s) least u inside passes mostMultiframes from le (subst Ends (sym w) tt);
           }
 
-  -- 12 TO 14 NEVER COME, and 15 only with a bit for its place: of the octet reader's refusals only 11 and 16 to 20 do
+  -- 12 TO 14 NEVER COME, and 15 only with a bit for its place: of the octet reader's refusals only those of the tables, 11 and 10, and 16 to 20 do
   abbrev pub Comes : Refusal → Type 0
-  Comes (Octets q) = (q ≡ RR.WrongTables) ⊎ Late q
+  Comes (Octets q) = Shown tables (A.Refused q) ⊎ Late q
   Comes (MatchRange k) = Unit
   Comes (Nowhere f n) = Unit
   Comes (TooMany p) = Unit
@@ -258,7 +278,8 @@ module _ (ch : Choices) (s : List ℕ) (from least : ℕ) (tables : Tables) (ind
       same x e k = let g = sym (ap (λ (o : Outcome). o .answer) e) ∙ f in let z : x ≡ r = cc in subst Comes z k
 
       by : Fate → Comes r
-      by (wrongTables w e) = same (Octets RR.WrongTables) e (inl refl)
+      by (wrongTables w e) = same (Octets RR.WrongTables) e (inl w)
+      by (negativeThreshold k h n e) = same (Octets (RR.NegativeThreshold k)) e (inl (h, n))
       by (range t w e) = same (MatchRange least) e tt
       by (nowhere t x n e) = same (Nowhere from (placesLeft (bits s) from)) e tt
       by (many p t x g b e) = same (TooMany p) e tt
@@ -266,17 +287,31 @@ module _ (ch : Choices) (s : List ℕ) (from least : ℕ) (tables : Tables) (ind
           let o = R.reading ch (imageOf s (found .places)) tables index report in
           let g = counted-refused (o .answer) (outsideOf (bits s) from (length (found .places))) (found .tested) r (sym (ap (λ (o : Outcome). o .answer) e) ∙ f) in
           subst Comes (g .1 .1)
-          (inr (image-late ch s (found .places) n (at-most (bits s) least mostMultiframes from) tables index report (t .0) (t .1) (g .0) (g .1 .0)))
+          (inr (image-late ch s (found .places) n (at-most (bits s) least mostMultiframes from) tables index report t (g .0) (g .1 .0)))
 
   number-comes : (r : Refusal) → Comes r → (huntingNumber r ≡ 12 → ⊥) × (huntingNumber r ≡ 13 → ⊥) × (huntingNumber r ≡ 14 → ⊥)
   number-comes (MatchRange k) l = (λ e. omega arith, λ e. omega arith, λ e. omega arith)
   number-comes (Nowhere f n) l = (λ e. omega arith, λ e. omega arith, λ e. omega arith)
   number-comes (TooMany p) l = (λ e. omega arith, λ e. omega arith, λ e. omega arith)
-  number-comes (Octets q) (inl e) = let z : huntingNumber (Octets q) ≡ 11 = ap (λ (x : OctetRefusal). huntingNumber (Octets x)) e in (λ e. omega arith, λ e. omega arith, λ e. omega arith)
+  number-comes (Octets q) (inl h) = of-tables q h
+    where
+      of-tables : (q : OctetRefusal) → Shown tables (A.Refused q) → (readingNumber q ≡ 12 → ⊥) × (readingNumber q ≡ 13 → ⊥) × (readingNumber q ≡ 14 → ⊥)
+      of-tables RR.WrongTables h = (λ e. omega arith, λ e. omega arith, λ e. omega arith)
+      of-tables (RR.NegativeThreshold k) h = (λ e. omega arith, λ e. omega arith, λ e. omega arith)
+      of-tables (RR.Unknown p) h = absurd h
+      of-tables (RR.CutShort p) h = absurd h
+      of-tables (RR.Empty n) h = absurd h
+      of-tables (RR.TooMany p) h = absurd h
+      of-tables RR.Unsettled h = absurd h
+      of-tables RR.Unfit h = absurd h
+      of-tables (RR.IndexShort n) h = absurd h
+      of-tables (RR.ReportShort n) h = absurd h
+      of-tables RR.AllBad h = absurd h
   number-comes (Octets q) (inr l) = of-late q l
     where
       of-late : (q : OctetRefusal) → Late q → (readingNumber q ≡ 12 → ⊥) × (readingNumber q ≡ 13 → ⊥) × (readingNumber q ≡ 14 → ⊥)
       of-late RR.WrongTables l = absurd l
+      of-late (RR.NegativeThreshold k) l = absurd l
       of-late (RR.Unknown p) l = absurd l
       of-late (RR.CutShort p) l = absurd l
       of-late (RR.Empty n) l = absurd l
@@ -295,7 +330,7 @@ module _ (ch : Choices) (s : List ℕ) (from least : ℕ) (tables : Tables) (ind
   never-octet-15 r f p e = never (subst Comes e (comes r f))
     where
       never : Comes (Octets (RR.TooMany p)) → ⊥
-      never (inl e) = let z = ap readingNumber e in omega (arith, z)
+      never (inl h) = h
       never (inr l) = l
 
   pub one-case : (r q : Refusal) → result .answer ≡ Refused r → huntingNumber r ≡ huntingNumber q → huntingOf (huntingNumber q) (huntingPlace r) (huntingTested r) ≡ r

@@ -1,11 +1,11 @@
 // The hunting reader (02, C-13): the multiframes found at any bit are read as the octet reader reads them.
 use choices::Choices;
+use consistency::Admission;
 use gathering::Gathered;
 use layout::MultiframeLayout;
 use layout::UtteranceLayout;
 use reader::Summary;
 use refusals::Hunting;
-use refusals::Reading;
 ghost use mathlib.Core.Path.{_≡_};
 ghost use Prim.Native.Nat.{_*_, _≤_};
 ghost use lib.ListN.{length, take};
@@ -112,8 +112,8 @@ pub fn read(
     ensures { λ r. ⌜ outcome r (left index) (left report)
         ≡ huntingReading choices (came octets) from least (tablesIn codebook thresholds) (came index) (came report) ⌝ }
 {
-    if !consistency::are_right(codebook, thresholds) {
-        return Answer::Refused(Hunting::Octets(Reading::WrongTables));
+    if let Admission::Refused(r) = consistency::admit(codebook, thresholds) {
+        return Answer::Refused(Hunting::Octets(r));
     }
     if hunt::in_range(least) {
         return read_found(

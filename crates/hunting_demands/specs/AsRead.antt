@@ -10,9 +10,9 @@ use lib.ListN.{length, take}
 use lib.Seq.{drop-append-add}
 use Rattle.lists.specs.Parts.{part, part-left}
 use Rattle.lists.specs.Rows.{same-joined}
-use Rattle.layout.specs.Layout.{syncOctets, headerOctets, streamOctets, multiframeOctets, mostMultiframes, codebookNumbers, thresholdNumbers, syncFirst, syncSecond}
+use Rattle.layout.specs.Layout.{syncOctets, headerOctets, streamOctets, multiframeOctets, mostMultiframes, syncFirst, syncSecond}
 use Rattle.choices.specs.declared.Choices.{Choices}
-use Rattle.consistency.specs.Tables.{Tables}
+use Rattle.consistency.specs.Tables.{Tables, RightTables}
 use Rattle.bits.specs.Bits.{value, bits}
 use Rattle.bits.specs.Laws.{length-bits, bits-part}
 use Rattle.header.specs.Reading.{reading}
@@ -55,11 +55,11 @@ module _ (img : List ℕ) (m : ℕ) (w : Multiframes img m) (s : List ℕ) (at :
 
   -- READ WHERE IT STANDS
   pub as-read : (ch : Choices) (from least : ℕ) (tables : Tables) (index report : List ℕ) → fewestMatches ≤ least → least ≤ syncBits
-      → length (tables .codebook) ≡ codebookNumbers → length (tables .thresholds) ≡ thresholdNumbers → InARow (bits s) from at least m → 0 < m → m ≤ mostMultiframes
+      → RightTables tables → InARow (bits s) from at least m → 0 < m → m ≤ mostMultiframes
       → huntingReading ch s from least tables index report
       ≡ counted (R.reading ch img tables index report) (outsideOf (bits s) from m) (testedInRow (bits s) from at m)
-  as-read ch from least tables index report low high codebook-size thresholds-size r some few =
-      reads-in-a-row ch s from least tables index report low high codebook-size thresholds-size at m r some few
+  as-read ch from least tables index report low high right r some few =
+      reads-in-a-row ch s from least tables index report low high right at m r some few
       ∙ ap (λ (x : List ℕ). counted (R.reading ch x tables index report) (outsideOf (bits s) from m) (testedInRow (bits s) from at m)) (put-together (r .inside))
 
 -- ---- octets that are only shifted, with any bits in front and behind, stand there with whole syncs
@@ -136,7 +136,7 @@ module _ (ch : Choices) (u : Utterance) (img s : List ℕ) (from at least : ℕ)
     read-there =
         as-read img (multiframesOf u) (damaged-cut u img d) s at (p .there) ch from least tables index report (p .low)
         (at-most-all (syncAt (bits s) (placeInRow at 0)) least (p .syncs 0 (omega arith)))
-        (p .of-image .lent .codebook-size) (p .of-image .lent .thresholds-size) in-a-row (omega arith)
+        (p .of-image .lent .right-tables) in-a-row (omega arith)
         (few-multiframes (u .settings) (u .indices) (is-accepted u .sizes))
 
     pub names-at-any-bit : Named

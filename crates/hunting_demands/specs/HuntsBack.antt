@@ -148,7 +148,7 @@ module _ (ch : Choices) (u : Utterance) (s : List ℕ) (from at least : ℕ) (ta
       let g = foundImage s (row at n) in
       let few : n ≤ mostMultiframes = few-multiframes (u .settings) (u .indices) (is-accepted u .sizes) in
       let headers : CanSettle ch n (headerFlips (imageOf u) g 0) = ⊎-elim inl (λ e. inr (e .0, flips-are (p Inside) (p Headers) (p Streams) 0 (omega arith) ∙ e .1)) (p Settled) in
-      reads-in-a-row ch s from least tables index report (p Low) (at-most-all (syncAt (bits s) (placeInRow at 0)) least (p Syncs 0 (omega arith))) (p TablesAndRoom .codebook-size) (p TablesAndRoom .thresholds-size) at n
+      reads-in-a-row ch s from least tables index report (p Low) (at-most-all (syncAt (bits s) (placeInRow at 0)) least (p Syncs 0 (omega arith))) (p TablesAndRoom .right-tables) at n
       (in-a-row (p Inside) (p Headers) (p Streams) (p Begins) (p Syncs) (p NoneBefore) (p NoneBehind)) (omega arith) few
       ∙ ap (λ (o : R.Outcome). counted o (outsideOf (bits s) from n) (testedInRow (bits s) from at n))
       (reads-mended ch u g (damage (p Inside) (p Headers) (p Streams)) (packets-kept (p Inside) (p Headers) (p Streams)) headers tables index report (p TablesAndRoom))
@@ -166,7 +166,7 @@ module _ (ch : Choices) (u : Utterance) (s : List ℕ) (from at least : ℕ) (ta
       let inside = p Inside (apart Inside refl) in
       let streams = p Streams (apart Streams refl) in
       let lent = p TablesAndRoom (apart TablesAndRoom refl) in
-      reads-in-a-row ch s from least tables index report (p Low (apart Low refl)) (at-most-all (syncAt (bits s) (placeInRow at 0)) least (syncs 0 (omega arith))) (lent .codebook-size) (lent .thresholds-size) at n
+      reads-in-a-row ch s from least tables index report (p Low (apart Low refl)) (at-most-all (syncAt (bits s) (placeInRow at 0)) least (syncs 0 (omega arith))) (lent .right-tables) at n
       (in-a-row inside headers streams (p Begins (apart Begins refl)) syncs (p NoneBefore (apart NoneBefore refl)) (p NoneBehind (apart NoneBehind refl))) (omega arith) few
       ∙ ap (λ (o : R.Outcome). counted o (outsideOf (bits s) from n) (testedInRow (bits s) from at n))
       (default-unsettled ch u g (damage inside headers streams) tables index report lent default one)

@@ -19,6 +19,7 @@ use borrow.Author.Tests.{ltb-true}
 use Rattle.polynomials.specs.Light.{ones-in}
 use Rattle.lists.specs.Tests.{all-holds}
 use Rattle.lists.specs.Parts.{part, over}
+use Rattle.lists.specs.Search.{firstFrom}
 use Rattle.layout.specs.Layout.{widths, frameIndices, multiframePairs, streamOctets, indexOctets, reportOctets, firstPair}
 use Rattle.choices.specs.Choices.{oneSettles, byDefault, oneHeaderSettles}
 use Rattle.choices.specs.declared.Choices.{Choices}
@@ -57,7 +58,7 @@ use Rattle.demands.specs.Needed.{default-unsettled}
 use Rattle.image.specs.Made.{Small, syncIn, wordIn, streamIn, packetIn, made, length-made, small-made, made-sync, made-word, made-stream}
 use Rattle.image.specs.Laws.{length-image, image-small, image-sync, image-word, image-stream}
 use Rattle.settling.specs.Laws.{two-or-more}
-use Rattle.writer.specs.Writing.{verdict, roomAnswer, firstFrom, frameCount, needed}
+use Rattle.writer.specs.Writing.{verdict, roomAnswer, frameCount, needed}
 use Rattle.writer.specs.Utterance.{Utterance, multiframesOf, pairsOf, imageOf}
 use Rattle.writer.specs.declared.Answer.the-variants.{Written}
 use Rattle.demands.specs.Damage.{any-header, headerFlips, header-lost}
@@ -284,7 +285,7 @@ module _ (ch : Choices) (least : ℕ) (tables : Tables) (index report : List ℕ
     found-alone =
         let out : outsideOf (bits garbled) 0 1 ≡ multiframeBits = omega (arith, searched-are) in
         let tested : testedInRow (bits garbled) 0 multiframeBits 1 ≡ 1153 = omega (arith, searched-are) in
-        as-read (imageOf heard) 1 heard-cut garbled multiframeBits heard-stands ch 0 least tables index report low high (lent .codebook-size) (lent .thresholds-size)
+        as-read (imageOf heard) 1 heard-cut garbled multiframeBits heard-stands ch 0 least tables index report low high (lent .right-tables)
         (second-alone least low high) (lit< tt) (lit≤ tt)
         ∙ ap₂ (λ (a b : ℕ). counted (R.reading ch (imageOf heard) tables index report) a b) out tested
 
@@ -316,8 +317,7 @@ module _ (ch : Choices) (least : ℕ) (tables : Tables) (index report : List ℕ
 
     lent-1 : Lent 1 tables index report
     lent-1 = record {
-      codebook-size = lent .codebook-size;
-      thresholds-size = lent .thresholds-size;
+      right-tables = lent .right-tables;
       index-room = omega (arith, lent .index-room);
       report-room = omega (arith, lent .report-room);
     }

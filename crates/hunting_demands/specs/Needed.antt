@@ -16,10 +16,11 @@ use borrow.Author.Tests.{ne-eqb, lt-ltb}
 use Rattle.polynomials.specs.Light.{ones-in}
 use Rattle.lists.specs.Tests.{true-false}
 use Rattle.lists.specs.Rows.{each, joined, length-joined, joined-part}
-use Rattle.layout.specs.Layout.{packetBits, multiframePairs, multiframeOctets, mostMultiframes, indexOctets, reportOctets, codebookNumbers, thresholdNumbers, syncFirst, syncSecond}
+use Rattle.layout.specs.Layout.{packetBits, multiframePairs, multiframeOctets, mostMultiframes, indexOctets, reportOctets, syncFirst, syncSecond}
 use Rattle.choices.specs.Choices.{oneSettles, byDefault, oneHeaderSettles}
 use Rattle.choices.specs.declared.Choices.{Choices}
-use Rattle.consistency.specs.Tables.{Tables, right-passes, zeroTables}
+use Rattle.consistency.specs.Tables.{Tables, RightTables, zeroTables}
+use Rattle.consistency.specs.Admitted.{right-passes}
 use Rattle.settings.specs.Settings.{settings}
 use Rattle.bits.specs.Bits.{field, fields, value, bits}
 use Rattle.bits.specs.Laws.{length-field, length-bits}
@@ -125,7 +126,7 @@ module _ (ch : Choices) (s : List ℕ) (from at least m : ℕ) (r : InARow (bits
 
   unsettled : settling ch (readings got (rowOf m)) ≡ S.Unsettled → huntingReading ch s from least tables index report ≡ outcome (Refused (Octets Unsettled)) index report
   unsettled e =
-      reads-in-a-row ch s from least tables index report low high (lent .codebook-size) (lent .thresholds-size) at m r some few
+      reads-in-a-row ch s from least tables index report low high (lent .right-tables) at m r some few
       ∙ ap (λ (o : R.Outcome). counted o (outsideOf (bits s) from m) (testedInRow (bits s) from at m))
       (refuses-16 ch got m few (image-size s at m (r .inside)) (image-sync s at m (r .inside)) tables index report some lent e)
 
@@ -149,7 +150,7 @@ module _ (ch : Choices) (s : List ℕ) (from at least m : ℕ) (r : InARow (bits
 -- ---- where the settings are settled and the index buffer is too short, the octet reader gives 18
 module _ (ch : Choices) (s : List ℕ) (m : ℕ) (some : 0 < m) (few : m ≤ mostMultiframes) (size : length s ≡ multiframeOctets * m)
     (syncs : (k : ℕ) → k < m → syncIn s k ≡ syncFirst ∷ syncSecond ∷ []) (tables : Tables) (index report : List ℕ)
-    (codebook-size : length (tables .codebook) ≡ codebookNumbers) (thresholds-size : length (tables .thresholds) ≡ thresholdNumbers) where
+    (right : RightTables tables) where
   refuses-18 : (c : ℕ) → settling ch (readings s (rowOf m)) ≡ S.Settled c → Usable c → length index < indexOctets * m
       → R.reading ch s tables index report ≡ R.outcome (RA.Refused (IndexShort (indexOctets * m))) index report
   unfolding R.reading R.verdict wholeVerdict settledVerdict roomVerdict
@@ -157,7 +158,7 @@ module _ (ch : Choices) (s : List ℕ) (m : ℕ) (some : 0 < m) (few : m ≤ mos
       let k = every-length 0 m in
       let i : length index < indexOctets * length (rowOf m) = subst (λ (n : ℕ). length index < indexOctets * n) (sym k) short in
       rw (
-        right-passes tables (codebook-size, thresholds-size),
+        right-passes tables right,
         cut-is s m few size syncs,
         ne-eqb (length (rowOf m)) 0 (λ z. omega arith),
         e,
@@ -308,8 +309,7 @@ half-fits u = record { syncs = λ k. sync-size; headers = small; around = refl; 
 -- room for many is room for fewer
 fewer : (m k : ℕ) → k ≤ m → (tables : Tables) (index report : List ℕ) → Lent m tables index report → Lent k tables index report
 fewer m k h tables index report lent = record {
-  codebook-size = lent .codebook-size;
-  thresholds-size = lent .thresholds-size;
+  right-tables = lent .right-tables;
   index-room = omega (arith, lent .index-room);
   report-room = omega (arith, lent .report-room);
 }
@@ -373,7 +373,7 @@ module _ (ch : Choices) (tables : Tables) (index report : List ℕ) where
           others = alone-others says1 (λ k. fiveSync) untouched five-fits 0 fewestMatches Syncs (λ other. lit≤ tt) (λ other. absurd (other refl))
               (λ other k. none-few) (λ other. lit≤ tt) (λ other. inr (asked, no-ones)) (λ other. lent);
           fails = λ h. omega (arith, h 0 (lit< tt));
-          instead = nowhere-exactly ch fiveFlips 0 fewestMatches tables index report (lent .codebook-size) (lent .thresholds-size) (in-range fewestMatches (lit≤ tt) (lit≤ tt)) .1
+          instead = nowhere-exactly ch fiveFlips 0 fewestMatches tables index report (lent .right-tables) (in-range fewestMatches (lit≤ tt) (lit≤ tt)) .1
               (λ t a h. let z : t ≡ 0 = omega arith in ap (passes fewestMatches (bits fiveFlips)) z ∙ unlike-fails fewestMatches (bits fiveFlips) 0 few)
               ∙ ap (λ (n : ℕ). outcome (Refused (Nowhere 0 n)) index report) one;
         }
@@ -392,20 +392,20 @@ module _ (ch : Choices) (tables : Tables) (index report : List ℕ) where
     low-needed lent = record {
       others = clean-others 0 11 (lit≤ tt) Low (λ other. lit≤ tt) (λ other. absurd (other refl)) (λ other. lent);
       fails = λ h. omega arith;
-      instead = rw (right-passes tables (lent .codebook-size, lent .thresholds-size));
+      instead = rw (right-passes tables (lent .right-tables));
     }
 
     module _ (least : ℕ) (low : fewestMatches ≤ least) (high : least ≤ syncBits) where
       -- TABLES AND ROOM: with an index buffer that is too short the clean image is found, and refused: 18
-      pub room-needed : length (tables .codebook) ≡ codebookNumbers → length (tables .thresholds) ≡ thresholdNumbers → length index < indexOctets
+      pub room-needed : RightTables tables → length index < indexOctets
           → Needed ch TablesAndRoom says1 clean1 0 0 least tables index report (Octets (IndexShort indexOctets))
-      room-needed codebook-size thresholds-size short = record {
+      room-needed right short = record {
         others = clean-others 0 least high TablesAndRoom (λ other. lit≤ tt) (λ other. low) (λ other. absurd (other refl));
         fails = λ h. omega (arith, h .index-room);
-        instead = reads-in-a-row ch clean1 0 least tables index report low high codebook-size thresholds-size 0 1 (clean-row least high) (lit< tt) (lit≤ tt)
+        instead = reads-in-a-row ch clean1 0 least tables index report low high right 0 1 (clean-row least high) (lit< tt) (lit≤ tt)
             ∙ ap (λ (o : R.Outcome). counted o (outsideOf (bits clean1) 0 1) (testedInRow (bits clean1) 0 0 1))
             (refuses-18 ch (foundImage clean1 (row 0 1)) 1 (lit< tt) (lit≤ tt) (image-size clean1 0 1 (clean-row least high .inside)) (image-sync clean1 0 1 (clean-row least high .inside)) tables
-            index report codebook-size thresholds-size (sentCommon says1)
+            index report right (sentCommon says1)
             (ap (settling ch) (readings-are (foundImage clean1 (row 0 1)) 1) ∙ ap (λ (h : Header). settling ch (h ∷ []))
             (ap reading (image-word clean1 0 1 (clean-row least high .inside) 0 (lit< tt)) ∙ H.mended-there says1 [] (λ k. sync) (λ k. 0) [] 0 clean-fits 0 (lit< tt) none-few)
             ∙ only-clean ch (decodedAs (wordAt (bits clean1) 0) (sentMessage says1 0)) asked (H.near-there says1 [] (λ k. sync) (λ k. 0) [] 0 clean-fits 0 (lit< tt) ∙ no-ones) ∙ ap S.Settled (common-sent says1 0))
@@ -421,7 +421,7 @@ module _ (ch : Choices) (tables : Tables) (index report : List ℕ) where
             record {
               others = clean-others 1 least high Begins (λ other. absurd (other refl)) (λ other. low) (λ other. lent);
               fails = λ h. omega arith;
-              instead = nowhere-exactly ch clean1 1 least tables index report (lent .codebook-size) (lent .thresholds-size) (in-range least low high) .1
+              instead = nowhere-exactly ch clean1 1 least tables index report (lent .right-tables) (in-range least low high) .1
                   (λ t a h. absurd (omega arith))
                   ∙ ap (λ (n : ℕ). outcome (Refused (Nowhere 1 n)) index report) none;
             }
@@ -504,7 +504,7 @@ module _ (ch : Choices) (tables : Tables) (index report : List ℕ) where
 
 pub room-needed-empty : Needed oneHeaderSettles TablesAndRoom says1 clean1 0 0 fewestMatches zeroTables [] (reportFor 1) (Octets (IndexShort indexOctets))
 room-needed-empty =
-    room-needed oneHeaderSettles zeroTables [] (reportFor 1) refl fewestMatches (lit≤ tt) (lit≤ tt) (lent-zeros 1 .codebook-size) (lent-zeros 1 .thresholds-size) (lit< tt)
+    room-needed oneHeaderSettles zeroTables [] (reportFor 1) refl fewestMatches (lit≤ tt) (lit≤ tt) (lent-zeros 1 .right-tables) (lit< tt)
 
 pub headers-needed-24 : (ch : Choices) → Needed ch Headers says24 (halfLost says24) 0 0 fewestMatches zeroTables index24 report24 (Octets Unsettled)
 headers-needed-24 ch = headers-needed ch zeroTables index24 report24 says24 two-multiframes fewestMatches (lit≤ tt) (lit≤ tt) (lent-zeros (multiframesOf says24))

@@ -12,9 +12,10 @@ use lib.Dec.{leb}
 use borrow.Author.Tests.{le-leb, lt-leb}
 use Rattle.lists.specs.Tests.{both}
 use Rattle.lists.specs.Parts.{part, length-part}
-use Rattle.layout.specs.Layout.{headerOctets, streamOctets, multiframeOctets, mostMultiframes, codebookNumbers, thresholdNumbers, syncFirst, syncSecond}
+use Rattle.layout.specs.Layout.{headerOctets, streamOctets, multiframeOctets, mostMultiframes, syncFirst, syncSecond}
 use Rattle.choices.specs.declared.Choices.{Choices}
-use Rattle.consistency.specs.Tables.{Tables, right-passes}
+use Rattle.consistency.specs.Tables.{Tables, RightTables}
+use Rattle.consistency.specs.Admitted.{right-passes}
 use Rattle.bits.specs.Bits.{field, fields, value, bits, octets}
 use Rattle.bits.specs.Laws.{field-value, value-lt, bits-octets, octets-append}
 use Rattle.header.specs.Reading.{reading}
@@ -166,13 +167,13 @@ module _ (l : List Bool) (from at least m : ℕ) (r : InARow l from at least m) 
 
 -- ---- the reading
 module _ (ch : Choices) (s : List ℕ) (from least : ℕ) (tables : Tables) (index report : List ℕ) (low : fewestMatches ≤ least) (high : least ≤ syncBits)
-    (codebook-size : length (tables .codebook) ≡ codebookNumbers) (thresholds-size : length (tables .thresholds) ≡ thresholdNumbers) where
+    (right : RightTables tables) where
   -- past 11 and 21 what is found decides
   found-next : (ps : List ℕ) (e : Ending) (n : ℕ) → gathering (bits s) least mostMultiframes from ≡ record { places = ps; ending = e; tested = n }
       → huntingReading ch s from least tables index report ≡ readingBy ch s from least tables index report ps n e
   unfolding huntingReading readingFound
   found-next ps e n g =
-      rw (right-passes tables (codebook-size, thresholds-size), in-range least low high, g)
+      rw (right-passes tables right, in-range least low high, g)
 
   -- READ IN A ROW: what is put together is read as 01 says, with the bits outside and the places tested
   pub reads-in-a-row : (at m : ℕ) → InARow (bits s) from at least m → 0 < m → m ≤ mostMultiframes

@@ -15,7 +15,8 @@ use Rattle.reader.specs.declared.Answer.the-variants.{Refused}
 use Rattle.lines.specs.Examples.{empty-refused}
 use Rattle.listing.specs.Listing.{listed, listing}
 use Rattle.choices.specs.Choices.{oneHeaderSettles}
-use Rattle.consistency.specs.Tables.{zeroTables, right-passes}
+use Rattle.consistency.specs.Tables.{zeroTables}
+use Rattle.consistency.specs.Admitted.{zero-right, right-passes}
 
 -- "refused 14 0"
 pub empty-listed : listing [] ≡ 114 ∷ 101 ∷ 102 ∷ 117 ∷ 115 ∷ 101 ∷ 100 ∷ 32 ∷ 49 ∷ 52 ∷ 32 ∷ 48 ∷ 10 ∷ []
@@ -24,6 +25,6 @@ empty-listed =
     let index : List ℕ = replicate (indexOctets * mostMultiframes) 0 in
     let report : List ℕ = replicate (reportOctets * mostMultiframes) 0 in
     ap (λ (o : Outcome). listed (o .report) (o .answer))
-    (sym (whole-reading oneHeaderSettles [] zeroTables index report (right-passes zeroTables (length-replicate {A = ℤ} codebookNumbers (pos 0), length-replicate {A = ℤ} thresholdNumbers (pos 0)))
+    (sym (whole-reading oneHeaderSettles [] zeroTables index report (right-passes zeroTables zero-right)
     (outcome (Refused (Empty 0)) index report) [] refl refl refl))
     ∙ empty-refused

@@ -12,7 +12,7 @@ ghost use Rattle.lists.specs.Tests.{when};
 ghost use Rattle.lists.specs.Parts.{over};
 ghost use Rattle.lists.specs.Lent.{came, left};
 ghost use Rattle.layout.specs.Layout.{pairIndices, multiframePairs, streamOctets, indexOctets, multiframeOf, mostMultiframes};
-ghost use Rattle.consistency.specs.Tables.{tablesOf, RightTables};
+ghost use Rattle.consistency.specs.Tables.{tablesOf, RightSizes};
 ghost use Rattle.consistency.specs.Lent.{tablesIn};
 ghost use Rattle.cutting.specs.Laws.{Placed};
 ghost use Rattle.bits.specs.Bits.{bits};
@@ -79,7 +79,7 @@ fn is_inconsistent(
     q: Pair,
 ) -> bool
     requires { ⌜ Placed (now octets) (now places) × (q .0 < pairCount (now places)) ⌝ }
-    requires { ⌜ RightTables (tablesOf (now codebook) (now thresholds)) ⌝ }
+    requires { ⌜ RightSizes (tablesOf (now codebook) (now thresholds)) ⌝ }
     ensures { λ r. ⌜ r ≡ pairInconsistent (received (came octets) (came places)) (tablesIn codebook thresholds) (q .0) ⌝ }
 {
     let mut frames = [0u8; FRAMES];
@@ -97,7 +97,7 @@ fn is_inconsistent_if(
     q: Pair,
 ) -> bool
     requires { ⌜ Placed (now octets) (now places) × (q .0 < pairCount (now places)) ⌝ }
-    requires { ⌜ RightTables (tablesOf (now codebook) (now thresholds)) ⌝ }
+    requires { ⌜ RightSizes (tablesOf (now codebook) (now thresholds)) ⌝ }
     ensures { λ r. ⌜ r ≡ when asked (pairInconsistent (received (came octets) (came places)) (tablesIn codebook thresholds) (q .0)) false ⌝ }
 {
     if asked {
@@ -117,7 +117,7 @@ pub fn judge(
     notes: &mut [u8],
 )
     requires { ⌜ Placed (now octets) (now places) × (now notes ≡ crcNotes (received (now octets) (now places)) (pairCount (now places))) ⌝ }
-    requires { ⌜ RightTables (tablesOf (now codebook) (now thresholds)) ⌝ }
+    requires { ⌜ RightSizes (tablesOf (now codebook) (now thresholds)) ⌝ }
     ensures { λ _. ⌜ left notes ≡ pairNotes (received (came octets) (came places)) (pairCount (came places)) (tablesIn codebook thresholds) ⌝ }
 {
     if bad_pairs::count_bad(notes) == 0 {

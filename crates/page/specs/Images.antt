@@ -10,14 +10,17 @@ use native.Mathlib.Decide.{decLt}
 use native.Mathlib.Omega.{arith}
 use lib.Dec.{T, ltb, ltb→lt, lit<, lit≤}
 use lib.IntN.{pos}
+use lib.Signed.{ltZ}
 use lib.ListN.{length, drop, getD, replicate, List·getD-eq-default}
 use Rattle.lists.specs.Tests.{all, all-holds}
 use Rattle.lists.specs.Parts.{part}
 use Rattle.lists.specs.Rows.{joined}
+use Rattle.lists.specs.Search.{firstFrom}
 use Rattle.layout.specs.Layout.{widths, streamOctets, firstPair, multiframePairs}
 use Rattle.choices.specs.Choices.{oneHeaderSettles}
 use Rattle.choices.specs.declared.Choices.{Choices}
 use Rattle.consistency.specs.Tables.{Tables, tablesOf, zeroTables}
+use Rattle.consistency.specs.Admitted.{zero-right}
 use Rattle.settings.specs.Settings.{settings}
 use Rattle.frames.specs.Frames.{zeroFrame as isZeroFrame}
 use Rattle.bits.specs.Bits.{numbers, value, laid, field, fields, bits, octets}
@@ -32,7 +35,7 @@ use Rattle.message.specs.Message.Laws.{message-lt, message-nothing, message-rat
 use Rattle.image.specs.Image.{image}
 use Rattle.image.specs.Made.{Small, headerIn}
 use Rattle.image.specs.Laws.{image-header}
-use Rattle.writer.specs.Writing.{firstFrom, roomAnswer, verdict, outcome, writing}
+use Rattle.writer.specs.Writing.{roomAnswer, verdict, outcome, writing}
 use Rattle.writer.specs.declared.Answer.the-variants.{Written}
 use Rattle.writer.specs.Utterance.{Utterance, writes}
 use Rattle.reader.specs.Reading.{reading}
@@ -44,6 +47,11 @@ use Rattle.demands.specs.Instances.{says1}
 use Rattle.demands.specs.ReadsBack.{reads-image}
 use Rattle.page.specs.Headers.{same-octets, multiframe-is}
 use Rattle.page.specs.Headers as H
+
+-- tables that nothing turns away: "codebook, 1,280 numbers", "14 thresholds", and no "negative threshold" (02, C-12)
+abbrev pub Right : Tables → Type 0
+Right tables =
+    (length (tables .codebook) ≡ 1280) × (length (tables .thresholds) ≡ 14) × ((k : ℕ) → k < 14 → ltZ (getD (tables .thresholds) k (pos 0)) (pos 0) ≡ false)
 
 -- a buffer before: every octet is AA
 abbrev pub lent : ℕ → List ℕ
@@ -102,7 +110,7 @@ pub record Table (ch : Choices) : Type 0 where
   -- "for n frames, m = n div 24 + 1 multiframes are written; the last holds n mod 24 frames and then zeros": 25 frames at 16 kHz, type 1
   pub two-written : writing (settings 3 1) said (lent 290) ≡ outcome (Written 288) (saidFirst ++ (saidSecond ++ lent 2))
   -- and they are read back, with any tables
-  pub two-read : (tables : Tables) → length (tables .codebook) ≡ 1280 → length (tables .thresholds) ≡ 14
+  pub two-read : (tables : Tables) → Right tables
       → reading ch (saidFirst ++ saidSecond) tables (lent 338) (lent 28)
       ≡ R.outcome (Read (record { settings = settings 3 1; multiframes = 2; speech = 25; bad = 0; end = 1 })) (said ++ (replicate 161 0 ++ lent 2)) (replicate 26 0 ++ lent 2)
 
@@ -170,7 +178,7 @@ unfolding says25
 table ch = record {
   one-written = writes says1 (lent 146) (lit≤ tt) ∙ ap (λ (i : List ℕ). outcome (Written 144) (i ++ lent 2)) one-image;
   one-read = ap (λ (i : List ℕ). reading oneHeaderSettles i zeroTables (lent 170) (lent 15)) (sym one-image)
-      ∙ reads-image oneHeaderSettles says1 (inr refl) zeroTables (lent 170) (lent 15) (record { codebook-size = refl; thresholds-size = refl; index-room = lit≤ tt; report-room = lit≤ tt });
+      ∙ reads-image oneHeaderSettles says1 (inr refl) zeroTables (lent 170) (lent 15) (record { right-tables = zero-right; index-room = lit≤ tt; report-room = lit≤ tt });
   header-1 = λ idx m h. header-in idx m 0 h ∙ E.table .header-count-1;
   header-2 = λ idx m h. header-in idx m 1 h ∙ E.table .header-count-2;
   header-3 = λ idx m h. header-in idx m 2 h ∙ E.table .header-count-3;
@@ -181,7 +189,7 @@ table ch = record {
   stream-bit-90 = ap (λ (i : List ℕ). getD (bits i) (48 + 90) false) one-image ∙ bit-in;
   octet-17 = ap (λ (i : List ℕ). getD i 17 0) one-image;
   two-written = writes says25 (lent 290) (lit≤ tt) ∙ ap (λ (i : List ℕ). outcome (Written 288) (i ++ lent 2)) said-image;
-  two-read = λ tables hc ht.
+  two-read = λ tables right.
       ap (λ (i : List ℕ). reading ch i tables (lent 338) (lent 28)) (sym said-image)
-      ∙ reads-image ch says25 (inl (lit≤ tt)) tables (lent 338) (lent 28) (record { codebook-size = hc; thresholds-size = ht; index-room = lit≤ tt; report-room = lit≤ tt });
+      ∙ reads-image ch says25 (inl (lit≤ tt)) tables (lent 338) (lent 28) (record { right-tables = ((right .0, right .1), right .2); index-room = lit≤ tt; report-room = lit≤ tt });
 }

@@ -3,6 +3,7 @@ pub mod Images
 pub mod Spoken
 pub mod Written
 pub mod Received
+pub mod Turned
 pub mod Rules
 pub mod Listed
 pub mod Settled

@@ -18,6 +18,7 @@ use Rattle.lists.specs.Rows.{joined, each, each-at, same-each}
 use Rattle.layout.specs.Layout.{indexOctets, reportOctets, firstPair, multiframePairs}
 use Rattle.choices.specs.declared.Choices.{Choices}
 use Rattle.consistency.specs.Tables.{Tables, tablesOf, zeroTables}
+use Rattle.consistency.specs.Admitted.{none-by-test, zero-right}
 use Rattle.settings.specs.Settings.{settings}
 use Rattle.frames.specs.Frames.{zeroFrame}
 use Rattle.bits.specs.Bits.{value, numbers, field, fields, total}
@@ -54,6 +55,7 @@ use Rattle.demands.specs.Met.{zero-consistent}
 use Rattle.demands.specs.ReadsBack.{zeros}
 use Rattle.page.specs.Headers.{word-of, ReadsAs, clean, flips}
 use Rattle.page.specs.Headers as Headers
+use Rattle.page.specs.Images.{Right}
 use Rattle.page.specs.Received.{Reads, headed}
 
 -- ---- the first listing: bad pairs, and what stands in for their frames
@@ -61,67 +63,71 @@ abbrev pub hurtFirst : List ℕ
 hurtFirst =
     0x87 ∷ 0xB2 ∷ 0x08 ∷ 0x00 ∷ 0x0E ∷ 0xEE ∷ 0x01 ∷ 0x00 ∷ 0x00 ∷ 0x00 ∷ 0x10 ∷ 0x00 ∷ 0x00 ∷ 0x00 ∷ 0x00 ∷ 0x00 ∷
     0x02 ∷ 0x00 ∷ 0x00 ∷ 0x00 ∷ 0x00 ∷ 0x00 ∷ 0x03 ∷ 0x41 ∷ 0x00 ∷ 0x00 ∷ 0x00 ∷ 0x40 ∷ 0xB0 ∷ 0x41 ∷ 0x00 ∷ 0x00 ∷
-    0x00 ∷ 0x50 ∷ 0x00 ∷ 0x00 ∷ 0x00 ∷ 0x00 ∷ 0x00 ∷ 0x06 ∷ 0x05 ∷ 0x00 ∷ 0x00 ∷ 0x00 ∷ 0x00 ∷ 0x07 ∷ 0x41 ∷ 0x00 ∷
-    0x00 ∷ 0x00 ∷ 0x80 ∷ 0xE0 ∷ 0x00 ∷ 0x00 ∷ 0x00 ∷ 0x00 ∷ 0x90 ∷ 0x20 ∷ 0x00 ∷ 0x00 ∷ 0x00 ∷ 0x00 ∷ 0x0A ∷ 0x03 ∷
+    0x00 ∷ 0x50 ∷ 0x00 ∷ 0x00 ∷ 0x00 ∷ 0x00 ∷ 0x00 ∷ 0x06 ∷ 0x05 ∷ 0x00 ∷ 0x00 ∷ 0x00 ∷ 0x00 ∷ 0x07 ∷ 0x00 ∷ 0x00 ∷
+    0x00 ∷ 0x00 ∷ 0x80 ∷ 0xB0 ∷ 0x00 ∷ 0x00 ∷ 0x00 ∷ 0x00 ∷ 0x90 ∷ 0x20 ∷ 0x00 ∷ 0x00 ∷ 0x00 ∷ 0x00 ∷ 0x0A ∷ 0x03 ∷
     0x00 ∷ 0x00 ∷ 0x00 ∷ 0x00 ∷ 0x8B ∷ 0x00 ∷ 0x00 ∷ 0x00 ∷ 0x00 ∷ 0xC0 ∷ 0x90 ∷ 0x00 ∷ 0x00 ∷ 0x00 ∷ 0x00 ∷ 0xD0 ∷
-    0x00 ∷ 0x00 ∷ 0x00 ∷ 0x00 ∷ 0x00 ∷ 0x0E ∷ 0x08 ∷ 0x00 ∷ 0x00 ∷ 0x00 ∷ 0x00 ∷ 0x0F ∷ 0x00 ∷ 0x00 ∷ 0x00 ∷ 0x00 ∷
-    0x00 ∷ 0x11 ∷ 0x00 ∷ 0x00 ∷ 0x00 ∷ 0x00 ∷ 0x10 ∷ 0x01 ∷ 0x00 ∷ 0x00 ∷ 0x00 ∷ 0x00 ∷ 0x12 ∷ 0x0E ∷ 0x00 ∷ 0x00 ∷
+    0x00 ∷ 0x00 ∷ 0x00 ∷ 0x00 ∷ 0x00 ∷ 0x0E ∷ 0x08 ∷ 0x00 ∷ 0x00 ∷ 0x00 ∷ 0x00 ∷ 0x0F ∷ 0x41 ∷ 0x00 ∷ 0x00 ∷ 0x00 ∷
+    0x00 ∷ 0x41 ∷ 0x41 ∷ 0x00 ∷ 0x00 ∷ 0x00 ∷ 0x10 ∷ 0x01 ∷ 0x00 ∷ 0x00 ∷ 0x00 ∷ 0x00 ∷ 0x12 ∷ 0x04 ∷ 0x00 ∷ 0x00 ∷
     0x00 ∷ 0x00 ∷ 0x13 ∷ 0x00 ∷ 0x00 ∷ 0x00 ∷ 0x00 ∷ 0x40 ∷ 0x01 ∷ 0x00 ∷ 0x00 ∷ 0x00 ∷ 0x00 ∷ 0x50 ∷ 0x11 ∷ 0x04 ∷
-    0x00 ∷ 0x00 ∷ 0x00 ∷ 0x16 ∷ 0x04 ∷ 0x00 ∷ 0x00 ∷ 0x00 ∷ 0x00 ∷ 0x17 ∷ 0x41 ∷ 0x00 ∷ 0x00 ∷ 0x00 ∷ 0x80 ∷ 0x01 ∷ []
+    0x00 ∷ 0x00 ∷ 0x00 ∷ 0x16 ∷ 0x14 ∷ 0x04 ∷ 0x00 ∷ 0x00 ∷ 0x00 ∷ 0x17 ∷ 0x00 ∷ 0x00 ∷ 0x00 ∷ 0x00 ∷ 0x80 ∷ 0xF1 ∷ []
 
 abbrev pub hurtSecond : List ℕ
 hurtSecond =
     0x87 ∷ 0xB2 ∷ 0x10 ∷ 0x00 ∷ 0x1D ∷ 0x8D ∷ 0x00 ∷ 0x00 ∷ 0x00 ∷ 0x00 ∷ 0x90 ∷ 0x01 ∷ 0x00 ∷ 0x00 ∷ 0x00 ∷ 0x00 ∷
-    0x1A ∷ 0x01 ∷ 0x00 ∷ 0x00 ∷ 0x00 ∷ 0x00 ∷ 0x1B ∷ 0x41 ∷ 0x00 ∷ 0x00 ∷ 0x00 ∷ 0xC0 ∷ 0x21 ∷ 0x41 ∷ 0x00 ∷ 0x00 ∷
-    0x00 ∷ 0xD0 ∷ 0x01 ∷ 0x00 ∷ 0x00 ∷ 0x00 ∷ 0x00 ∷ 0x1E ∷ 0x0C ∷ (replicate 97 0x00 ++ (0x01 ∷ replicate 5 0x00))
+    0x1A ∷ 0x01 ∷ 0x04 ∷ 0x00 ∷ 0x00 ∷ 0x00 ∷ 0x1B ∷ 0x01 ∷ 0x00 ∷ 0x00 ∷ 0x00 ∷ 0xC0 ∷ 0xB1 ∷ 0x41 ∷ 0x00 ∷ 0x00 ∷
+    0x00 ∷ 0xD0 ∷ 0x01 ∷ 0x00 ∷ 0x00 ∷ 0x00 ∷ 0x00 ∷ 0x1E ∷ 0x0C ∷ 0x00 ∷ 0x00 ∷ 0x00 ∷ 0x00 ∷ 0x1F ∷ 0x00 ∷ 0x00 ∷
+    0x00 ∷ 0x00 ∷ 0x00 ∷ 0xF0 ∷ (replicate 86 0x00 ++ (0x01 ∷ replicate 5 0x00))
 
--- two multiframes of 30 frames at 8 kHz, type 0, with inverse syncs before, between and after. The last bit of the second header is flipped, and
+-- two multiframes of 31 frames at 8 kHz, type 0, with inverse syncs before, between and after. The last bit of the second header is flipped, and
 -- of pairs 0, 5, 12 and 23 (from 0) one bit each: bits 0, 43, 91 and 44 of the packet
 abbrev pub hurt : List ℕ
 hurt = 0x78 ∷ 0x4D ∷ (hurtFirst ++ (0x78 ∷ 0x4D ∷ 0x78 ∷ 0x4D ∷ (hurtSecond ++ (0x78 ∷ 0x4D ∷ []))))
 
--- tables: in codebook 0 entry 1 is 1, 0 and entry 2 is 1, 1; in codebook 1 entry 1 is 0, 2; all others are 0, 0. Elements of codebook 0 may rise by 0,
+-- tables: in codebook 0 entry 1 is 1, 0 and entry 2 is 1, 1; in codebook 1 entry 1 is 0, 2; all others are 0, 0. Elements of codebook 0 may move by 0,
 -- the second of codebook 1 by 1, all others by 9
 abbrev pub steep : Tables
 steep =
     tablesOf (pos 0 ∷ pos 0 ∷ pos 1 ∷ pos 0 ∷ pos 1 ∷ pos 1 ∷ (replicate 125 (pos 0) ++ (pos 2 ∷ replicate 1148 (pos 0))))
     (pos 0 ∷ pos 0 ∷ pos 9 ∷ pos 1 ∷ replicate 10 (pos 9))
 
--- the frames as they came. Of the first 30 the seventh index is the frame's number, from 1, but for bit 43 of pair 5
+-- the frames as they came. Of the first 31 the seventh index is the frame's number, from 1, but for bit 43 of pair 5
 abbrev came : List ℕ
 came =
     1 ∷ 0 ∷ 0 ∷ 0 ∷ 0 ∷ 0 ∷ 1 ∷ 0 ∷ 0 ∷ 0 ∷ 0 ∷ 0 ∷ 0 ∷ 2 ∷ 0 ∷ 0 ∷ 0 ∷ 0 ∷ 0 ∷ 0 ∷ 3 ∷ 1 ∷ 1 ∷ 0 ∷ 0 ∷ 0 ∷ 0 ∷ 4 ∷ 1 ∷ 1 ∷ 0 ∷ 0 ∷ 0 ∷ 0 ∷ 5 ∷
-    0 ∷ 0 ∷ 0 ∷ 0 ∷ 0 ∷ 0 ∷ 6 ∷ 0 ∷ 0 ∷ 0 ∷ 0 ∷ 0 ∷ 0 ∷ 7 ∷ 1 ∷ 1 ∷ 0 ∷ 0 ∷ 0 ∷ 0 ∷ 8 ∷ 0 ∷ 0 ∷ 0 ∷ 0 ∷ 0 ∷ 0 ∷ 9 ∷ 2 ∷ 0 ∷ 0 ∷ 0 ∷ 0 ∷ 0 ∷ 10 ∷
+    0 ∷ 0 ∷ 0 ∷ 0 ∷ 0 ∷ 0 ∷ 6 ∷ 0 ∷ 0 ∷ 0 ∷ 0 ∷ 0 ∷ 0 ∷ 7 ∷ 0 ∷ 0 ∷ 0 ∷ 0 ∷ 0 ∷ 0 ∷ 8 ∷ 0 ∷ 0 ∷ 0 ∷ 0 ∷ 0 ∷ 0 ∷ 9 ∷ 2 ∷ 0 ∷ 0 ∷ 0 ∷ 0 ∷ 0 ∷ 10 ∷
     0 ∷ 0 ∷ 0 ∷ 0 ∷ 0 ∷ 0 ∷ 139 ∷ 0 ∷ 0 ∷ 0 ∷ 0 ∷ 0 ∷ 0 ∷ 12 ∷ 0 ∷ 0 ∷ 0 ∷ 0 ∷ 0 ∷ 0 ∷ 13 ∷ 0 ∷ 0 ∷ 0 ∷ 0 ∷ 0 ∷ 0 ∷ 14 ∷ 0 ∷ 0 ∷ 0 ∷ 0 ∷ 0 ∷ 0 ∷ 15 ∷
-    0 ∷ 0 ∷ 0 ∷ 0 ∷ 0 ∷ 0 ∷ 16 ∷ 0 ∷ 0 ∷ 0 ∷ 0 ∷ 0 ∷ 0 ∷ 17 ∷ 0 ∷ 0 ∷ 0 ∷ 0 ∷ 0 ∷ 0 ∷ 18 ∷ 0 ∷ 0 ∷ 0 ∷ 0 ∷ 0 ∷ 0 ∷ 19 ∷ 0 ∷ 0 ∷ 0 ∷ 0 ∷ 0 ∷ 0 ∷ 20 ∷
-    0 ∷ 0 ∷ 0 ∷ 0 ∷ 0 ∷ 0 ∷ 21 ∷ 1 ∷ 1 ∷ 0 ∷ 0 ∷ 0 ∷ 0 ∷ 22 ∷ 0 ∷ 0 ∷ 0 ∷ 0 ∷ 0 ∷ 0 ∷ 23 ∷ 1 ∷ 1 ∷ 0 ∷ 0 ∷ 0 ∷ 0 ∷ 24 ∷ 0 ∷ 0 ∷ 0 ∷ 0 ∷ 0 ∷ 0 ∷ 25 ∷
-    0 ∷ 0 ∷ 0 ∷ 0 ∷ 0 ∷ 0 ∷ 26 ∷ 0 ∷ 0 ∷ 0 ∷ 0 ∷ 0 ∷ 0 ∷ 27 ∷ 1 ∷ 1 ∷ 0 ∷ 0 ∷ 0 ∷ 0 ∷ 28 ∷ 1 ∷ 1 ∷ 0 ∷ 0 ∷ 0 ∷ 0 ∷ 29 ∷ 0 ∷ 0 ∷ 0 ∷ 0 ∷ 0 ∷ 0 ∷ 30 ∷ (replicate 119 0 ++ (1 ∷ replicate 6 0))
+    1 ∷ 1 ∷ 0 ∷ 0 ∷ 0 ∷ 0 ∷ 16 ∷ 1 ∷ 1 ∷ 0 ∷ 0 ∷ 0 ∷ 0 ∷ 17 ∷ 0 ∷ 0 ∷ 0 ∷ 0 ∷ 0 ∷ 0 ∷ 18 ∷ 0 ∷ 0 ∷ 0 ∷ 0 ∷ 0 ∷ 0 ∷ 19 ∷ 0 ∷ 0 ∷ 0 ∷ 0 ∷ 0 ∷ 0 ∷ 20 ∷
+    0 ∷ 0 ∷ 0 ∷ 0 ∷ 0 ∷ 0 ∷ 21 ∷ 1 ∷ 1 ∷ 0 ∷ 0 ∷ 0 ∷ 0 ∷ 22 ∷ 1 ∷ 1 ∷ 0 ∷ 0 ∷ 0 ∷ 0 ∷ 23 ∷ 0 ∷ 0 ∷ 0 ∷ 0 ∷ 0 ∷ 0 ∷ 24 ∷ 0 ∷ 0 ∷ 0 ∷ 0 ∷ 0 ∷ 0 ∷ 25 ∷
+    0 ∷ 0 ∷ 0 ∷ 0 ∷ 0 ∷ 0 ∷ 26 ∷ 0 ∷ 1 ∷ 0 ∷ 0 ∷ 0 ∷ 0 ∷ 27 ∷ 1 ∷ 0 ∷ 0 ∷ 0 ∷ 0 ∷ 0 ∷ 28 ∷ 1 ∷ 1 ∷ 0 ∷ 0 ∷ 0 ∷ 0 ∷ 29 ∷ 0 ∷ 0 ∷ 0 ∷ 0 ∷ 0 ∷ 0 ∷ 30 ∷
+    0 ∷ 0 ∷ 0 ∷ 0 ∷ 0 ∷ 0 ∷ 31 ∷ (replicate 112 0 ++ (1 ∷ replicate 6 0))
 
 -- as they stand in the index buffer with these tables
 abbrev pub standing : List ℕ
 standing =
-    1 ∷ 1 ∷ 0 ∷ 0 ∷ 0 ∷ 0 ∷ 5 ∷ 1 ∷ 1 ∷ 0 ∷ 0 ∷ 0 ∷ 0 ∷ 5 ∷ 1 ∷ 1 ∷ 0 ∷ 0 ∷ 0 ∷ 0 ∷ 5 ∷ 1 ∷ 1 ∷ 0 ∷ 0 ∷ 0 ∷ 0 ∷ 5 ∷ 1 ∷ 1 ∷ 0 ∷ 0 ∷ 0 ∷ 0 ∷ 5 ∷
-    0 ∷ 0 ∷ 0 ∷ 0 ∷ 0 ∷ 0 ∷ 6 ∷ 0 ∷ 0 ∷ 0 ∷ 0 ∷ 0 ∷ 0 ∷ 7 ∷ 1 ∷ 1 ∷ 0 ∷ 0 ∷ 0 ∷ 0 ∷ 8 ∷ 0 ∷ 0 ∷ 0 ∷ 0 ∷ 0 ∷ 0 ∷ 9 ∷ 2 ∷ 0 ∷ 0 ∷ 0 ∷ 0 ∷ 0 ∷ 10 ∷
+    0 ∷ 0 ∷ 0 ∷ 0 ∷ 0 ∷ 0 ∷ 7 ∷ 0 ∷ 0 ∷ 0 ∷ 0 ∷ 0 ∷ 0 ∷ 7 ∷ 0 ∷ 0 ∷ 0 ∷ 0 ∷ 0 ∷ 0 ∷ 7 ∷ 0 ∷ 0 ∷ 0 ∷ 0 ∷ 0 ∷ 0 ∷ 7 ∷ 0 ∷ 0 ∷ 0 ∷ 0 ∷ 0 ∷ 0 ∷ 7 ∷
+    0 ∷ 0 ∷ 0 ∷ 0 ∷ 0 ∷ 0 ∷ 7 ∷ 0 ∷ 0 ∷ 0 ∷ 0 ∷ 0 ∷ 0 ∷ 7 ∷ 0 ∷ 0 ∷ 0 ∷ 0 ∷ 0 ∷ 0 ∷ 8 ∷ 0 ∷ 0 ∷ 0 ∷ 0 ∷ 0 ∷ 0 ∷ 9 ∷ 2 ∷ 0 ∷ 0 ∷ 0 ∷ 0 ∷ 0 ∷ 10 ∷
     2 ∷ 0 ∷ 0 ∷ 0 ∷ 0 ∷ 0 ∷ 10 ∷ 0 ∷ 0 ∷ 0 ∷ 0 ∷ 0 ∷ 0 ∷ 13 ∷ 0 ∷ 0 ∷ 0 ∷ 0 ∷ 0 ∷ 0 ∷ 13 ∷ 0 ∷ 0 ∷ 0 ∷ 0 ∷ 0 ∷ 0 ∷ 14 ∷ 0 ∷ 0 ∷ 0 ∷ 0 ∷ 0 ∷ 0 ∷ 15 ∷
-    0 ∷ 0 ∷ 0 ∷ 0 ∷ 0 ∷ 0 ∷ 16 ∷ 0 ∷ 0 ∷ 0 ∷ 0 ∷ 0 ∷ 0 ∷ 17 ∷ 0 ∷ 0 ∷ 0 ∷ 0 ∷ 0 ∷ 0 ∷ 18 ∷ 0 ∷ 0 ∷ 0 ∷ 0 ∷ 0 ∷ 0 ∷ 19 ∷ 0 ∷ 0 ∷ 0 ∷ 0 ∷ 0 ∷ 0 ∷ 20 ∷
+    1 ∷ 1 ∷ 0 ∷ 0 ∷ 0 ∷ 0 ∷ 16 ∷ 1 ∷ 1 ∷ 0 ∷ 0 ∷ 0 ∷ 0 ∷ 17 ∷ 0 ∷ 0 ∷ 0 ∷ 0 ∷ 0 ∷ 0 ∷ 18 ∷ 0 ∷ 0 ∷ 0 ∷ 0 ∷ 0 ∷ 0 ∷ 19 ∷ 0 ∷ 0 ∷ 0 ∷ 0 ∷ 0 ∷ 0 ∷ 20 ∷
     0 ∷ 0 ∷ 0 ∷ 0 ∷ 0 ∷ 0 ∷ 21 ∷ 1 ∷ 1 ∷ 0 ∷ 0 ∷ 0 ∷ 0 ∷ 22 ∷ 1 ∷ 1 ∷ 0 ∷ 0 ∷ 0 ∷ 0 ∷ 22 ∷ 1 ∷ 1 ∷ 0 ∷ 0 ∷ 0 ∷ 0 ∷ 22 ∷ 1 ∷ 1 ∷ 0 ∷ 0 ∷ 0 ∷ 0 ∷ 22 ∷
-    1 ∷ 1 ∷ 0 ∷ 0 ∷ 0 ∷ 0 ∷ 29 ∷ 1 ∷ 1 ∷ 0 ∷ 0 ∷ 0 ∷ 0 ∷ 29 ∷ 1 ∷ 1 ∷ 0 ∷ 0 ∷ 0 ∷ 0 ∷ 29 ∷ 1 ∷ 1 ∷ 0 ∷ 0 ∷ 0 ∷ 0 ∷ 29 ∷ 0 ∷ 0 ∷ 0 ∷ 0 ∷ 0 ∷ 0 ∷ 30 ∷ replicate 126 0
+    1 ∷ 1 ∷ 0 ∷ 0 ∷ 0 ∷ 0 ∷ 22 ∷ 0 ∷ 0 ∷ 0 ∷ 0 ∷ 0 ∷ 0 ∷ 31 ∷ 0 ∷ 0 ∷ 0 ∷ 0 ∷ 0 ∷ 0 ∷ 31 ∷ 0 ∷ 0 ∷ 0 ∷ 0 ∷ 0 ∷ 0 ∷ 31 ∷ 0 ∷ 0 ∷ 0 ∷ 0 ∷ 0 ∷ 0 ∷ 31 ∷
+    0 ∷ 0 ∷ 0 ∷ 0 ∷ 0 ∷ 0 ∷ 31 ∷ replicate 119 0
 
 -- and with tables of zeros
 abbrev pub standingPlain : List ℕ
 standingPlain =
     0 ∷ 0 ∷ 0 ∷ 0 ∷ 0 ∷ 0 ∷ 3 ∷ 0 ∷ 0 ∷ 0 ∷ 0 ∷ 0 ∷ 0 ∷ 3 ∷ 0 ∷ 0 ∷ 0 ∷ 0 ∷ 0 ∷ 0 ∷ 3 ∷ 1 ∷ 1 ∷ 0 ∷ 0 ∷ 0 ∷ 0 ∷ 4 ∷ 1 ∷ 1 ∷ 0 ∷ 0 ∷ 0 ∷ 0 ∷ 5 ∷
-    0 ∷ 0 ∷ 0 ∷ 0 ∷ 0 ∷ 0 ∷ 6 ∷ 0 ∷ 0 ∷ 0 ∷ 0 ∷ 0 ∷ 0 ∷ 7 ∷ 1 ∷ 1 ∷ 0 ∷ 0 ∷ 0 ∷ 0 ∷ 8 ∷ 0 ∷ 0 ∷ 0 ∷ 0 ∷ 0 ∷ 0 ∷ 9 ∷ 2 ∷ 0 ∷ 0 ∷ 0 ∷ 0 ∷ 0 ∷ 10 ∷
+    0 ∷ 0 ∷ 0 ∷ 0 ∷ 0 ∷ 0 ∷ 6 ∷ 0 ∷ 0 ∷ 0 ∷ 0 ∷ 0 ∷ 0 ∷ 7 ∷ 0 ∷ 0 ∷ 0 ∷ 0 ∷ 0 ∷ 0 ∷ 8 ∷ 0 ∷ 0 ∷ 0 ∷ 0 ∷ 0 ∷ 0 ∷ 9 ∷ 2 ∷ 0 ∷ 0 ∷ 0 ∷ 0 ∷ 0 ∷ 10 ∷
     2 ∷ 0 ∷ 0 ∷ 0 ∷ 0 ∷ 0 ∷ 10 ∷ 0 ∷ 0 ∷ 0 ∷ 0 ∷ 0 ∷ 0 ∷ 13 ∷ 0 ∷ 0 ∷ 0 ∷ 0 ∷ 0 ∷ 0 ∷ 13 ∷ 0 ∷ 0 ∷ 0 ∷ 0 ∷ 0 ∷ 0 ∷ 14 ∷ 0 ∷ 0 ∷ 0 ∷ 0 ∷ 0 ∷ 0 ∷ 15 ∷
-    0 ∷ 0 ∷ 0 ∷ 0 ∷ 0 ∷ 0 ∷ 16 ∷ 0 ∷ 0 ∷ 0 ∷ 0 ∷ 0 ∷ 0 ∷ 17 ∷ 0 ∷ 0 ∷ 0 ∷ 0 ∷ 0 ∷ 0 ∷ 18 ∷ 0 ∷ 0 ∷ 0 ∷ 0 ∷ 0 ∷ 0 ∷ 19 ∷ 0 ∷ 0 ∷ 0 ∷ 0 ∷ 0 ∷ 0 ∷ 20 ∷
-    0 ∷ 0 ∷ 0 ∷ 0 ∷ 0 ∷ 0 ∷ 21 ∷ 1 ∷ 1 ∷ 0 ∷ 0 ∷ 0 ∷ 0 ∷ 22 ∷ 0 ∷ 0 ∷ 0 ∷ 0 ∷ 0 ∷ 0 ∷ 23 ∷ 1 ∷ 1 ∷ 0 ∷ 0 ∷ 0 ∷ 0 ∷ 24 ∷ 1 ∷ 1 ∷ 0 ∷ 0 ∷ 0 ∷ 0 ∷ 24 ∷
-    0 ∷ 0 ∷ 0 ∷ 0 ∷ 0 ∷ 0 ∷ 27 ∷ 0 ∷ 0 ∷ 0 ∷ 0 ∷ 0 ∷ 0 ∷ 27 ∷ 1 ∷ 1 ∷ 0 ∷ 0 ∷ 0 ∷ 0 ∷ 28 ∷ 1 ∷ 1 ∷ 0 ∷ 0 ∷ 0 ∷ 0 ∷ 29 ∷ 0 ∷ 0 ∷ 0 ∷ 0 ∷ 0 ∷ 0 ∷ 30 ∷ replicate 126 0
+    1 ∷ 1 ∷ 0 ∷ 0 ∷ 0 ∷ 0 ∷ 16 ∷ 1 ∷ 1 ∷ 0 ∷ 0 ∷ 0 ∷ 0 ∷ 17 ∷ 0 ∷ 0 ∷ 0 ∷ 0 ∷ 0 ∷ 0 ∷ 18 ∷ 0 ∷ 0 ∷ 0 ∷ 0 ∷ 0 ∷ 0 ∷ 19 ∷ 0 ∷ 0 ∷ 0 ∷ 0 ∷ 0 ∷ 0 ∷ 20 ∷
+    0 ∷ 0 ∷ 0 ∷ 0 ∷ 0 ∷ 0 ∷ 21 ∷ 1 ∷ 1 ∷ 0 ∷ 0 ∷ 0 ∷ 0 ∷ 22 ∷ 1 ∷ 1 ∷ 0 ∷ 0 ∷ 0 ∷ 0 ∷ 23 ∷ 0 ∷ 0 ∷ 0 ∷ 0 ∷ 0 ∷ 0 ∷ 24 ∷ 0 ∷ 0 ∷ 0 ∷ 0 ∷ 0 ∷ 0 ∷ 24 ∷
+    0 ∷ 1 ∷ 0 ∷ 0 ∷ 0 ∷ 0 ∷ 27 ∷ 0 ∷ 1 ∷ 0 ∷ 0 ∷ 0 ∷ 0 ∷ 27 ∷ 1 ∷ 0 ∷ 0 ∷ 0 ∷ 0 ∷ 0 ∷ 28 ∷ 1 ∷ 1 ∷ 0 ∷ 0 ∷ 0 ∷ 0 ∷ 29 ∷ 0 ∷ 0 ∷ 0 ∷ 0 ∷ 0 ∷ 0 ∷ 30 ∷
+    0 ∷ 0 ∷ 0 ∷ 0 ∷ 0 ∷ 0 ∷ 31 ∷ replicate 119 0
 
 -- the report with these tables, and with tables of zeros
 abbrev pub hurtNotes : List ℕ
 hurtNotes =
-    0 ∷ 1 ∷ 2 ∷ 0 ∷ 0 ∷ 0 ∷ 1 ∷ 0 ∷ 0 ∷ 0 ∷ 0 ∷ 0 ∷ 2 ∷
-    1 ∷ 1 ∷ 2 ∷ 0 ∷ 0 ∷ 0 ∷ 0 ∷ 0 ∷ 0 ∷ 0 ∷ 0 ∷ 0 ∷ 1 ∷ []
+    0 ∷ 1 ∷ 2 ∷ 2 ∷ 0 ∷ 0 ∷ 1 ∷ 0 ∷ 0 ∷ 0 ∷ 0 ∷ 0 ∷ 2 ∷
+    1 ∷ 1 ∷ 2 ∷ 2 ∷ 0 ∷ 0 ∷ 0 ∷ 0 ∷ 0 ∷ 0 ∷ 0 ∷ 0 ∷ 1 ∷ []
 
 abbrev pub plainNotes : List ℕ
 plainNotes =
@@ -152,19 +158,26 @@ Lists ch octets tables values frames notes =
 pub record Table (ch : Choices) : Type 0 where
   -- Header notes "0 clean, 1 or 2 flips mended": 0 and 1.
   -- "A pair is bad if its CRC fails": 0, 5, 12 and 23 (from 0).
-  -- "An inconsistent pair is bad too if either the next pair's CRC fails": 11, in the multiframe before; "or the pair before it is bad": 1 and 13.
-  -- Not so 3, whose neighbours are good; 4, of which one index pair is flagged, by both its elements; 10, before a bad pair whose CRC is right; nor
-  -- 2 and 14, which fall.
+  -- "An inconsistent pair is bad too if either the next pair's CRC fails": 11, in the multiframe before; "or the pair before it is bad": 1, 2, 13 and 14.
+  -- "The absolute difference" (02, C-12): 1 rises, 2, 11 and 14 fall, and of 13 one index pair rises and one falls.
+  -- Not so 7, which rises, and 8, which falls, with good neighbours on both sides; 4, of which one index pair is flagged, by both its elements; nor 10,
+  -- before a bad pair whose CRC is right.
   -- "In a run of B bad pairs the first B frames become the good frame before the run, the last B the good frame after it": 11 becomes 10 and 12
-  -- becomes 13; 23 to 25 become 22 and 26 to 28 become 29. "At the start of an utterance all 2B take the frame after": 1 to 4 become 5; "at the end, the
-  -- one before": 47 and 48 become 46, which is zero. So speech is 30 and end 1 "after replacing" only
-  pub bad-pairs : Lists ch hurt steep (0 ∷ 0 ∷ 2 ∷ 30 ∷ 7 ∷ 1 ∷ []) standing hurtNotes
+  -- becomes 13; 23 to 26 become 22 and 27 to 30 become 31. "At the start of an utterance all 2B take the frame after": 1 to 6 become 7; "at the end, the
+  -- one before": 47 and 48 become 46, which is zero. So speech is 31 and end 1 "after replacing" only
+  pub bad-pairs : Lists ch hurt steep (0 ∷ 0 ∷ 2 ∷ 31 ∷ 9 ∷ 1 ∷ []) standing hurtNotes
   -- "with all codebook numbers and thresholds 0", as dsrlist lists them, no pair is inconsistent: 1 and 2 become 3; 25 becomes 24 and 26 becomes 27
-  pub bad-by-crc : Lists ch hurt (tablesOf (replicate 1280 (pos 0)) (replicate 14 (pos 0))) (0 ∷ 0 ∷ 2 ∷ 30 ∷ 4 ∷ 1 ∷ []) standingPlain plainNotes
+  pub bad-by-crc : Lists ch hurt (tablesOf (replicate 1280 (pos 0)) (replicate 14 (pos 0))) (0 ∷ 0 ∷ 2 ∷ 31 ∷ 4 ∷ 1 ∷ []) standingPlain plainNotes
   -- "3 lost; a readable one adds 4 if its counter is not (position from 1) mod 16, and 8 if its common bits differ from the settled": settled is
   -- "the first readable header that agrees in them with an earlier readable one", the second, and not what the last two agree in
-  pub header-notes : (tables : Tables) → length (tables .codebook) ≡ 1280 → length (tables .thresholds) ≡ 14
+  pub header-notes : (tables : Tables) → Right tables
       → Lists ch strange tables (0 ∷ 0 ∷ 5 ∷ 96 ∷ 0 ∷ 1 ∷ []) (replicate 840 0) strangeNotes
+
+steep-right : Right steep
+steep-right = (refl, refl, none-by-test steep tt)
+
+zeros-right : Right zeroTables
+zeros-right = (zero-right .0 .0, zero-right .0 .1, zero-right .1)
 
 -- ---- from what was computed to a line
 -- the settled settings of both
@@ -178,7 +191,7 @@ is-usable = record {
 }
 
 module _ (ch : Choices) (s ps : List ℕ) (cut : cutting s ≡ record { places = ps; ending = whole }) (some : length ps ≡ 0 → ⊥) (settles : settling ch (readings s ps) ≡ S.Settled settled)
-    (tables : Tables) (sc : length (tables .codebook) ≡ 1280) (st : length (tables .thresholds) ≡ 14) (ns : List ℕ) (judged : receivedNotes s ps tables ≡ ns)
+    (tables : Tables) (right : Right tables) (ns : List ℕ) (judged : receivedNotes s ps tables ≡ ns)
     (good : badPairs ns ≡ pairCount ps → ⊥) (index report : List ℕ) (hi : indexOctets * length ps ≤ length index) (hr : reportOctets * length ps ≤ length report) where
   is-read : reading ch s tables index report
       ≡ outcome (Read (summary s ps ns settled)) (over index 0 (indexOctets * length ps) (indexPart s ps ns)) (over report 0 (reportOctets * length ps) (reportPart s ps ns settled))
@@ -193,8 +206,7 @@ module _ (ch : Choices) (s ps : List ℕ) (cut : cutting s ≡ record { places =
       } in
       let a : Accepted ch s tables (length index) (length report) settled =
       record {
-        codebook-size = sc;
-        thresholds-size = st;
+        right-tables = ((right .0, right .1), right .2);
         uncut = ap (λ (w : Cutting). w .ending) cut;
         some = λ e. some (ap length (sym pl) ∙ e);
         fitting = subst
@@ -291,23 +303,23 @@ frames-hurt : receivedFrames hurt places ≡ came
 unfolding allFrames framesOf apart numbers value fields field total
 frames-hurt = refl
 
-odd-hurt : each (pairInconsistent (received hurt places) steep) 24
-    ≡ false ∷ true ∷ false ∷ true ∷ false ∷ false ∷ false ∷ false ∷ false ∷ false ∷ true ∷ true ∷ false ∷ true ∷ replicate 10 false
+inconsistent-hurt : each (pairInconsistent (received hurt places) steep) 24
+    ≡ false ∷ true ∷ true ∷ false ∷ false ∷ false ∷ false ∷ true ∷ true ∷ false ∷ true ∷ true ∷ false ∷ true ∷ true ∷ replicate 9 false
 unfolding pairInconsistent framesOf apart numbers value fields field total inconsistent flags flagged
-odd-hurt = refl
+inconsistent-hurt = refl
 
-odd-plain : each (pairInconsistent (received hurt places) zeroTables) 24 ≡ replicate 24 false
+inconsistent-plain : each (pairInconsistent (received hurt places) zeroTables) 24 ≡ replicate 24 false
 unfolding pairInconsistent
-odd-plain =
+inconsistent-plain =
     same-each (pairInconsistent (received hurt places) zeroTables) (λ q. false) 24 (λ q h. zero-consistent (take 7 (framesOf (received hurt places) q)) (drop 7 (framesOf (received hurt places) q)))
 
 judged-hurt : receivedNotes hurt places steep ≡ pairsIn hurtNotes
 unfolding pairNotes noteBy
-judged-hurt = ap₂ notes fails-hurt odd-hurt
+judged-hurt = ap₂ notes fails-hurt inconsistent-hurt
 
 judged-plain : receivedNotes hurt places zeroTables ≡ pairsIn plainNotes
 unfolding pairNotes noteBy
-judged-plain = ap₂ notes fails-hurt odd-plain
+judged-plain = ap₂ notes fails-hurt inconsistent-plain
 
 put-hurt : replaced (pairsIn hurtNotes) came ≡ standing
 unfolding replaced source sourceBy runStart leading
@@ -335,16 +347,16 @@ says-hurt ns =
     ap (λ (hs : List Header). joined (λ k. headerNote settled k (getD hs k Lost) ∷ part (firstPair k) multiframePairs ns) 2) heads-hurt
     ∙ rw (note-same 0xEE0E0008 1 0 0 read-1, note-same 0x8D1D0010 2 1 1 read-2)
 
-hurt-listed : (ch : Choices) → Lists ch hurt steep (0 ∷ 0 ∷ 2 ∷ 30 ∷ 7 ∷ 1 ∷ []) standing hurtNotes
+hurt-listed : (ch : Choices) → Lists ch hurt steep (0 ∷ 0 ∷ 2 ∷ 31 ∷ 9 ∷ 1 ∷ []) standing hurtNotes
 unfolding lastNonzero zeroFrame
 hurt-listed ch index report hi hr =
-    listed ch hurt places cut-hurt (λ e. omega arith) (settles-hurt ch) steep refl refl (pairsIn hurtNotes) judged-hurt (λ e. omega arith) index report hi hr standing hurtNotes
+    listed ch hurt places cut-hurt (λ e. omega arith) (settles-hurt ch) steep steep-right (pairsIn hurtNotes) judged-hurt (λ e. omega arith) index report hi hr standing hurtNotes
     (ap (replaced (pairsIn hurtNotes)) frames-hurt ∙ put-hurt) (says-hurt (pairsIn hurtNotes)) refl refl
 
-plain-listed : (ch : Choices) → Lists ch hurt zeroTables (0 ∷ 0 ∷ 2 ∷ 30 ∷ 4 ∷ 1 ∷ []) standingPlain plainNotes
+plain-listed : (ch : Choices) → Lists ch hurt zeroTables (0 ∷ 0 ∷ 2 ∷ 31 ∷ 4 ∷ 1 ∷ []) standingPlain plainNotes
 unfolding lastNonzero zeroFrame
 plain-listed ch index report hi hr =
-    listed ch hurt places cut-hurt (λ e. omega arith) (settles-hurt ch) zeroTables refl refl (pairsIn plainNotes) judged-plain (λ e. omega arith) index report hi hr standingPlain
+    listed ch hurt places cut-hurt (λ e. omega arith) (settles-hurt ch) zeroTables zeros-right (pairsIn plainNotes) judged-plain (λ e. omega arith) index report hi hr standingPlain
     plainNotes (ap (replaced (pairsIn plainNotes)) frames-hurt ∙ put-plain) (says-hurt (pairsIn plainNotes)) refl refl
 
 -- ---- the second, computed
@@ -405,11 +417,11 @@ says-strange =
       note-other 0x3F0F4001 1 2 4 read-5,
     )
 
-strange-listed : (ch : Choices) (tables : Tables) → length (tables .codebook) ≡ 1280 → length (tables .thresholds) ≡ 14
+strange-listed : (ch : Choices) (tables : Tables) → Right tables
     → Lists ch strange tables (0 ∷ 0 ∷ 5 ∷ 96 ∷ 0 ∷ 1 ∷ []) (replicate 840 0) strangeNotes
 unfolding lastNonzero zeroFrame
-strange-listed ch tables sc st index report hi hr =
-    listed ch strange row cut-strange (λ e. omega arith) (settles-strange ch) tables sc st (replicate 60 0) (judged-strange tables) (λ e. omega arith) index report
+strange-listed ch tables right index report hi hr =
+    listed ch strange row cut-strange (λ e. omega arith) (settles-strange ch) tables right (replicate 60 0) (judged-strange tables) (λ e. omega arith) index report
     hi hr (replicate 840 0) strangeNotes (ap (replaced (replicate 60 0)) frames-strange ∙ put-strange) says-strange refl refl
 
 pub table : (ch : Choices) → Table ch

@@ -16,10 +16,12 @@ use borrow.Author.Tests.{eq-eqb, ne-eqb, lt-ltb, le-ltb}
 use Rattle.polynomials.specs.Light.{ones-in}
 use Rattle.lists.specs.Parts.{part}
 use Rattle.lists.specs.Rows.{joined, each, length-each, each-at, same-each, length-joined, joined-part}
+use Rattle.lists.specs.Search.{firstFrom}
 use Rattle.layout.specs.Layout.{multiframeOctets, mostMultiframes, indexOctets, reportOctets, syncFirst, syncSecond}
 use Rattle.choices.specs.Choices.{byDefault, oneHeaderSettles}
 use Rattle.choices.specs.declared.Choices.{Choices}
-use Rattle.consistency.specs.Tables.{Tables, right-passes, wrong-fails}
+use Rattle.consistency.specs.Tables.{Tables}
+use Rattle.consistency.specs.Admitted.{right-passes, wrong-sizes}
 use Rattle.settings.specs.Settings.{settings}
 use Rattle.frames.specs.Frames.{zeroFrame}
 use Rattle.bits.specs.Bits.{value, bits, field, fields}
@@ -44,13 +46,13 @@ use Rattle.notes.specs.Notes.{pairFails, pairNotes, pairInconsistent}
 use Rattle.bad_pairs.specs.BadPairs.{noteBy, notes, badPairs}
 use Rattle.deciding.specs.Deciding.{roomVerdict, settledVerdict, wholeVerdict, receivedNotes}
 use Rattle.reader.specs.Reading.{answerNumber, answerValues, Outcome, outcome, finished, reading}
-use Rattle.reader.specs.Steps.{wrong-tables, not-cut, whole-reading}
+use Rattle.reader.specs.Steps.{not-admitted, not-cut, whole-reading}
 use Rattle.refusals.specs.Refusals.{readingNumber, readingPlace}
 use Rattle.refusals.specs.declared.Reading.{Reading as Refusal}
 use Rattle.refusals.specs.declared.Reading.the-variants.{WrongTables, Empty, Unsettled, Unfit, IndexShort, ReportShort, AllBad}
 use Rattle.reader.specs.declared.Answer.the-variants.{Refused}
 use Rattle.image.specs.Made.{wordIn, part-within}
-use Rattle.writer.specs.Writing.{firstFrom, roomAnswer, verdict, needed}
+use Rattle.writer.specs.Writing.{roomAnswer, verdict, needed}
 use Rattle.writer.specs.Utterance.{Utterance}
 use Rattle.writer.specs.declared.Answer.the-variants.{Written}
 use Rattle.demands.specs.Whole.{rowOf, cut-is, readings-are}
@@ -58,7 +60,7 @@ use Rattle.demands.specs.ReadsBack.{reads-image}
 use Rattle.demands.specs.Instances.{lone, small-lone}
 use Rattle.page.specs.Headers.{header, word-of, ReadsAs, clean, flips}
 use Rattle.page.specs.Headers as Headers
-use Rattle.page.specs.Images.{spokenBehind, spoken-image}
+use Rattle.page.specs.Images.{Right, spokenBehind, spoken-image}
 
 -- ---- what a line of the table says
 -- the reading is refused with this number and this place, which `readingNumber` and `readingPlace` give of its refusal, and both buffers are as they came
@@ -73,14 +75,14 @@ abbrev pub Tabled : (ch : Choices) → List ℕ → ℕ → ℕ → ℕ → ℕ 
 Tabled ch octets c t number place =
     (tables : Tables) → length (tables .codebook) ≡ c → length (tables .thresholds) ≡ t → (index report : List ℕ) → Refuses ch octets tables index report number place
 
--- of 01's tables and any buffers
+-- of tables that nothing turns away and any buffers
 abbrev pub Always : (ch : Choices) → List ℕ → ℕ → ℕ → Type 0
-Always ch octets number place = Tabled ch octets 1280 14 number place
+Always ch octets number place = (tables : Tables) → Right tables → (index report : List ℕ) → Refuses ch octets tables index report number place
 
--- of 01's tables and buffers of i and r octets, whatever they hold
+-- of such tables and buffers of i and r octets, whatever they hold
 abbrev pub Sized : (ch : Choices) → List ℕ → ℕ → ℕ → ℕ → ℕ → Type 0
 Sized ch octets i r number place =
-    (tables : Tables) → length (tables .codebook) ≡ 1280 → length (tables .thresholds) ≡ 14 → (index report : List ℕ) → length index ≡ i → length report ≡ r
+    (tables : Tables) → Right tables → (index report : List ℕ) → length index ≡ i → length report ≡ r
     → Refuses ch octets tables index report number place
 
 -- the reading succeeds, with these values; frames and notes stand at the buffers' fronts, and octets beyond are as they came
@@ -90,10 +92,10 @@ pub record Reads (ch : Choices) (octets : List ℕ) (tables : Tables) (index rep
   pub index-is : reading ch octets tables index report .index ≡ frames ++ drop (length frames) index
   pub report-is : reading ch octets tables index report .report ≡ notes ++ drop (length notes) report
 
--- with 01's tables and room
+-- with such tables and room
 abbrev pub Succeeds : (ch : Choices) → List ℕ → List ℕ → List ℕ → List ℕ → Type 0
 Succeeds ch octets values frames notes =
-    (tables : Tables) → length (tables .codebook) ≡ 1280 → length (tables .thresholds) ≡ 14 → (index report : List ℕ) → length frames ≤ length index
+    (tables : Tables) → Right tables → (index report : List ℕ) → length frames ≤ length index
     → length notes ≤ length report → Reads ch octets tables index report values frames notes
 
 -- ---- the octets
@@ -222,7 +224,7 @@ pub record Table (ch : Choices) : Type 0 where
   pub rate-3-type-1 : Succeeds oneHeaderSettles (spokenBehind (0x0F ∷ 0x00 ∷ 0x0B ∷ 0xFB ∷ [])) (3 ∷ 1 ∷ 1 ∷ 1 ∷ 0 ∷ 1 ∷ []) (1 ∷ replicate 167 0) (replicate 13 0)
 
 -- ---- from an outcome to a line
-refuses : (ch : Choices) (s : List ℕ) (tables : Tables) (index report : List ℕ) (r : Refusal) → reading ch s tables index report ≡ outcome (Refused r) index report
+pub refuses : (ch : Choices) (s : List ℕ) (tables : Tables) (index report : List ℕ) (r : Refusal) → reading ch s tables index report ≡ outcome (Refused r) index report
     → Refuses ch s tables index report (readingNumber r) (readingPlace r)
 refuses ch s tables index report r e =
     record {
@@ -234,17 +236,17 @@ refuses ch s tables index report r e =
 
 -- of any buffers is of buffers of some size
 sized : (ch : Choices) {s : List ℕ} {n p : ℕ} → Always ch s n p → (i r : ℕ) → Sized ch s i r n p
-sized ch a i r tables sc st index report li lr = a tables sc st index report
+sized ch a i r tables right index report li lr = a tables right index report
 
 -- ---- 11
 module _ (ch : Choices) (s : List ℕ) where
   no-codebook : (c t : ℕ) → (c ≡ 1280 → ⊥) → Tabled ch s c t 11 0
   no-codebook c t h tables sc st index report =
-      refuses ch s tables index report WrongTables (sym (wrong-tables ch s tables index report (wrong-fails tables (λ r. h (sym sc ∙ r .0)))))
+      refuses ch s tables index report WrongTables (sym (not-admitted ch s tables index report WrongTables (wrong-sizes tables (λ r. h (sym sc ∙ r .0)))))
 
   no-thresholds : (t : ℕ) → (t ≡ 14 → ⊥) → Tabled ch s 1280 t 11 0
   no-thresholds t h tables sc st index report =
-      refuses ch s tables index report WrongTables (sym (wrong-tables ch s tables index report (wrong-fails tables (λ r. h (sym st ∙ r .1)))))
+      refuses ch s tables index report WrongTables (sym (not-admitted ch s tables index report WrongTables (wrong-sizes tables (λ r. h (sym st ∙ r .1)))))
 
 -- ---- 12, 13 and 15: as cutting ends
 abbrev Cut : (ch : Choices) → List ℕ → Ending → Type 0
@@ -253,60 +255,60 @@ Cut ch s (refused r) = Always ch s (readingNumber r) (readingPlace r)
 
 is-cut : (ch : Choices) (s : List ℕ) (e : Ending) → cutting s .ending ≡ e → Cut ch s e
 is-cut ch s whole h = tt
-is-cut ch s (refused r) h = λ tables sc st index report.
-    refuses ch s tables index report r (sym (not-cut ch s tables index report (right-passes tables (sc, st)) r h))
+is-cut ch s (refused r) h = λ tables right index report.
+    refuses ch s tables index report r (sym (not-cut ch s tables index report (right-passes tables ((right .0, right .1), right .2)) r h))
 
 -- ---- 14 and 16 to 20, of octets that are cut into multiframes at places
 module _ (ch : Choices) (s ps : List ℕ) (cut : cutting s ≡ record { places = ps; ending = whole }) where
   is-14 : length ps ≡ 0 → Always ch s 14 (length s)
   unfolding wholeVerdict
-  is-14 z tables sc st index report =
+  is-14 z tables right index report =
       refuses ch s tables index report (Empty (length s))
-      (sym (whole-reading ch s tables index report (right-passes tables (sc, st)) (outcome (Refused (Empty (length s))) index report) ps
+      (sym (whole-reading ch s tables index report (right-passes tables ((right .0, right .1), right .2)) (outcome (Refused (Empty (length s))) index report) ps
       (ap (λ (w : Cutting). w .ending) cut) (sym (ap (λ (w : Cutting). w .places) cut)) (rw (eq-eqb (length ps) 0 z))))
 
   module _ (some : length ps ≡ 0 → ⊥) (x : Settlement) (settles : settling ch (readings s ps) ≡ x) where
-    -- past 11 to 15 the settings decide
-    next : (tables : Tables) → length (tables .codebook) ≡ 1280 → length (tables .thresholds) ≡ 14 → (index report : List ℕ)
+    -- past 10 to 15 the settings decide
+    next : (tables : Tables) → Right tables → (index report : List ℕ)
         → reading ch s tables index report
         ≡ finished s tables index report ps
         (settledVerdict (length ps) (badPairs (receivedNotes s ps tables)) (pairCount ps) (length index) (length report) x)
     unfolding wholeVerdict
-    next tables sc st index report =
-        sym (whole-reading ch s tables index report (right-passes tables (sc, st))
+    next tables right index report =
+        sym (whole-reading ch s tables index report (right-passes tables ((right .0, right .1), right .2))
         (finished s tables index report ps (settledVerdict (length ps) (badPairs (receivedNotes s ps tables)) (pairCount ps) (length index) (length report) x)) ps
         (ap (λ (w : Cutting). w .ending) cut) (sym (ap (λ (w : Cutting). w .places) cut)) (rw (ne-eqb (length ps) 0 some, settles)))
 
   module _ (some : length ps ≡ 0 → ⊥) where
     is-16 : settling ch (readings s ps) ≡ S.Unsettled → Always ch s 16 0
     unfolding settledVerdict
-    is-16 e tables sc st index report = refuses ch s tables index report Unsettled (next some S.Unsettled e tables sc st index report)
+    is-16 e tables right index report = refuses ch s tables index report Unsettled (next some S.Unsettled e tables right index report)
 
     module _ (c : ℕ) (e : settling ch (readings s ps) ≡ S.Settled c) where
       is-17-rate : rateOf c ≡ 2 → Always ch s 17 0
       unfolding settledVerdict
-      is-17-rate h tables sc st index report =
-          refuses ch s tables index report Unfit (next some (S.Settled c) e tables sc st index report ∙ rw (unfit-is c (inl h)))
+      is-17-rate h tables right index report =
+          refuses ch s tables index report Unfit (next some (S.Settled c) e tables right index report ∙ rw (unfit-is c (inl h)))
 
       is-17-exp : (rateOf c ≡ 2 → ⊥) → (expOf c ≡ 0 → ⊥) → Always ch s 17 0
       unfolding settledVerdict
-      is-17-exp r h tables sc st index report =
+      is-17-exp r h tables right index report =
           refuses ch s tables index report Unfit
-          (next some (S.Settled c) e tables sc st index report ∙ rw (unfit-is c (inr h)))
+          (next some (S.Settled c) e tables right index report ∙ rw (unfit-is c (inr h)))
 
       module _ (u : Usable c) (i r : ℕ) where
         is-18 : i < indexOctets * length ps → Sized ch s i r 18 (indexOctets * length ps)
         unfolding settledVerdict roomVerdict
-        is-18 h tables sc st index report li lr =
+        is-18 h tables right index report li lr =
             refuses ch s tables index report (IndexShort (indexOctets * length ps))
-            (next some (S.Settled c) e tables sc st index report
+            (next some (S.Settled c) e tables right index report
             ∙ rw (fit-is c u, lt-ltb (length index) (indexOctets * length ps) (omega arith)))
 
         is-19 : indexOctets * length ps ≤ i → r < reportOctets * length ps → Sized ch s i r 19 (reportOctets * length ps)
         unfolding settledVerdict roomVerdict
-        is-19 hi h tables sc st index report li lr =
+        is-19 hi h tables right index report li lr =
             refuses ch s tables index report (ReportShort (reportOctets * length ps))
-            (next some (S.Settled c) e tables sc st index report
+            (next some (S.Settled c) e tables right index report
             ∙ rw (
               fit-is c u,
               le-ltb (length index) (indexOctets * length ps) (omega arith),
@@ -316,9 +318,9 @@ module _ (ch : Choices) (s ps : List ℕ) (cut : cutting s ≡ record { places =
         is-20 : indexOctets * length ps ≤ i → reportOctets * length ps ≤ r
             → ((tables : Tables) → badPairs (receivedNotes s ps tables) ≡ pairCount ps) → Sized ch s i r 20 0
         unfolding settledVerdict roomVerdict
-        is-20 hi hr bad tables sc st index report li lr =
+        is-20 hi hr bad tables right index report li lr =
             refuses ch s tables index report AllBad
-            (next some (S.Settled c) e tables sc st index report
+            (next some (S.Settled c) e tables right index report
             ∙ rw (
               fit-is c u,
               le-ltb (length index) (indexOctets * length ps) (omega arith),
@@ -521,11 +523,11 @@ many-lost ch n h few =
 -- ---- success, by the theorem "reads back"
 speaks : (rate kind : ℕ) (h : List ℕ) → header rate kind 1 ≡ h → verdict (settings rate kind) (lone 1) (needed (lone 1)) ≡ Written (needed (lone 1))
     → Succeeds oneHeaderSettles (spokenBehind h) (rate ∷ kind ∷ 1 ∷ 1 ∷ 0 ∷ 1 ∷ []) (1 ∷ replicate 167 0) (replicate 13 0)
-speaks rate kind h x w tables sc st index report hi hr =
+speaks rate kind h x w tables right index report hi hr =
     let u : Utterance = record { settings = settings rate kind; indices = lone 1; small = small-lone 1 (lit< tt); written = w } in
     let e =
     ap (λ (i : List ℕ). reading oneHeaderSettles i tables index report) (sym (spoken-image rate kind h x))
-    ∙ reads-image oneHeaderSettles u (inr refl) tables index report record { codebook-size = sc; thresholds-size = st; index-room = hi; report-room = hr } in
+    ∙ reads-image oneHeaderSettles u (inr refl) tables index report record { right-tables = ((right .0, right .1), right .2); index-room = hi; report-room = hr } in
     record {
       number-is = ap (λ (o : Outcome). answerNumber (o .answer)) e;
       values-are = ap (λ (o : Outcome). answerValues (o .answer)) e;

@@ -1,4 +1,4 @@
--- The reader's rules, case by case (01, "Headers", "Settings", "Bad pairs", "Replacing", and the success answer): numbers, places and bounds as 01
+-- The reader's rules, case by case (01, "Headers", "Settings", "Bad pairs" with 02, C-12, "Replacing", and the success answer): numbers, places and bounds as 01
 -- prints them, which no theorem would notice if definition, laws and code were changed alike. The numbers stand bare here, as they do there.
 -- Assumes nothing.
 use mathlib.Core.Path.{_≡_, refl, sym, ap, _∙_}
@@ -20,7 +20,7 @@ use Rattle.header.specs.declared.Header.the-variants.{Codeword, Lost}
 use Rattle.settling.specs.Settling.{firstAgreeing, onlyOne, settling, headerNote}
 use Rattle.settling.specs.Laws.{two-or-more, only-mended}
 use Rattle.settling.specs.declared.Settlement.the-variants.{Settled, Unsettled}
-use Rattle.consistency.specs.Consistency.{exceeding, risen, flagged, flags, inconsistent}
+use Rattle.consistency.specs.Consistency.{exceeding, elementExceeds, flagged, flags, inconsistent}
 use Rattle.replacing.specs.Replacing.{source, sourceBy, runStart, leading}
 use Rattle.replacing.specs.Examples.{standIns}
 use Rattle.replacing.specs.Speech.{lastNonzero, speechOf, endOf}
@@ -49,36 +49,50 @@ pairs14 a b = (pos a ∷ pos b ∷ pos a ∷ pos b ∷ []) ++ ((pos a ∷ pos b 
 pub record Consistency : Type 0 where
   -- "codebook c (0 to 5) begins at 128c and the seventh at 768; entry j is two numbers": the first number of codebook 1, both of its second entry, and the last
   -- number of the seventh, which is entry 255's second
-  pub codebook-1 : risen (tablesOf (nineAt 128) (all14 0)) 1 5 0 0 ≡ true
-  pub entry-1-first : risen (tablesOf (nineAt 130) (all14 0)) 1 5 1 0 ≡ true
-  pub entry-1-second : risen (tablesOf (nineAt 131) (all14 0)) 1 5 1 1 ≡ true
-  pub seventh : risen (tablesOf (nineAt 768) (all14 0)) 6 5 0 0 ≡ true
-  pub last-number : risen (tablesOf (nineAt 1279) (all14 0)) 6 0 255 1 ≡ true
-  pub not-before-last : risen (tablesOf (nineAt 1279) (all14 0)) 6 0 254 1 ≡ false
+  pub codebook-1 : elementExceeds (tablesOf (nineAt 128) (all14 0)) 1 5 0 0 ≡ true
+  pub entry-1-first : elementExceeds (tablesOf (nineAt 130) (all14 0)) 1 5 1 0 ≡ true
+  pub entry-1-second : elementExceeds (tablesOf (nineAt 131) (all14 0)) 1 5 1 1 ≡ true
+  pub seventh : elementExceeds (tablesOf (nineAt 768) (all14 0)) 6 5 0 0 ≡ true
+  pub last-number : elementExceeds (tablesOf (nineAt 1279) (all14 0)) 6 0 255 1 ≡ true
+  pub not-before-last : elementExceeds (tablesOf (nineAt 1279) (all14 0)) 6 0 254 1 ≡ false
   -- "2c and 2c+1 for the two elements of codebook c": of thresholds 0 to 13 those of codebook 3 are 6 and 7. The difference is 6, then 8
-  pub threshold-6 : risen (tablesOf (upTo 1280) (upTo 14)) 3 0 3 0 ≡ false
-  pub past-threshold-6 : risen (tablesOf (upTo 1280) (upTo 14)) 3 0 4 0 ≡ true
-  pub past-threshold-7 : risen (tablesOf (upTo 1280) (upTo 14)) 3 0 4 1 ≡ true
-  pub threshold-11 : risen (tablesOf (upTo 1280) (upTo 14)) 5 0 5 1 ≡ false
-  pub past-threshold-11 : risen (tablesOf (upTo 1280) (upTo 14)) 5 0 6 1 ≡ true
-  -- "exceeds": 2 does not exceed 2, and exceeds 1; a fall exceeds no threshold of 0 or more; nothing exceeds -1 but what is no fall
+  pub threshold-6 : elementExceeds (tablesOf (upTo 1280) (upTo 14)) 3 0 3 0 ≡ false
+  pub past-threshold-6 : elementExceeds (tablesOf (upTo 1280) (upTo 14)) 3 0 4 0 ≡ true
+  pub past-threshold-7 : elementExceeds (tablesOf (upTo 1280) (upTo 14)) 3 0 4 1 ≡ true
+  pub threshold-11 : elementExceeds (tablesOf (upTo 1280) (upTo 14)) 5 0 5 1 ≡ false
+  pub past-threshold-11 : elementExceeds (tablesOf (upTo 1280) (upTo 14)) 5 0 6 1 ≡ true
+  -- "the absolute difference exceeds the threshold" (02, C-12): 2 does not exceed 2, and exceeds 1, up and down; nothing is 0 apart and exceeds 0
   pub two-not-two : exceeding (pos 2) (pos 5) (pos 7) ≡ false
   pub two-past-one : exceeding (pos 1) (pos 5) (pos 7) ≡ true
-  pub fall : exceeding (pos 0) (pos 7) (pos 5) ≡ false
-  pub still-past-minus-1 : exceeding (negsuc 0) (pos 7) (pos 7) ≡ true
-  pub fall-of-1 : exceeding (negsuc 0) (pos 7) (pos 6) ≡ false
-  -- "it may need 33 bits": the least number first and the largest second
-  pub exact-difference : exceeding (pos 2147483647) (negsuc 2147483647) (pos 2147483647) ≡ true
-  pub exact-fall : exceeding (negsuc 2147483647) (pos 2147483647) (negsuc 2147483647) ≡ false
+  pub fall-not-two : exceeding (pos 2) (pos 7) (pos 5) ≡ false
+  pub fall-past-one : exceeding (pos 1) (pos 7) (pos 5) ≡ true
+  pub fall-past-zero : exceeding (pos 0) (pos 7) (pos 6) ≡ true
+  pub still : exceeding (pos 0) (pos 7) (pos 7) ≡ false
+  -- from -1 to 1 and back are 2
+  pub through-zero : exceeding (pos 1) (negsuc 0) (pos 1) ≡ true
+  pub fall-through-zero : exceeding (pos 1) (pos 1) (negsuc 0) ≡ true
+  pub through-zero-not-two : exceeding (pos 2) (negsuc 0) (pos 1) ≡ false
+  -- "it may need 33 bits": the least number and the largest, either first
+  pub exact-rise : exceeding (pos 2147483647) (negsuc 2147483647) (pos 2147483647) ≡ true
+  pub exact-fall : exceeding (pos 2147483647) (pos 2147483647) (negsuc 2147483647) ≡ true
+  -- 2^31 - 1 does not exceed itself, and 2^31 does
+  pub largest-rise : exceeding (pos 2147483647) (pos 0) (pos 2147483647) ≡ false
+  pub one-larger-rise : exceeding (pos 2147483647) (negsuc 0) (pos 2147483647) ≡ true
+  pub largest-fall : exceeding (pos 2147483647) (negsuc 0) (negsuc 2147483647) ≡ false
+  pub one-larger-fall : exceeding (pos 2147483647) (pos 0) (negsuc 2147483647) ≡ true
   -- "for either of its two elements"
   pub first-element : flagged (tablesOf (upTo 1280) (pairs14 0 100)) 2 0 1 ≡ true
   pub second-element : flagged (tablesOf (upTo 1280) (pairs14 100 0)) 2 0 1 ≡ true
   pub neither : flagged (tablesOf (upTo 1280) (pairs14 100 100)) 2 0 1 ≡ false
-  -- "if at least two of its seven index pairs are flagged": two, one, the last two, and two falls
+  pub first-element-falls : flagged (tablesOf (upTo 1280) (pairs14 0 100)) 2 1 0 ≡ true
+  pub second-element-falls : flagged (tablesOf (upTo 1280) (pairs14 100 0)) 2 1 0 ≡ true
+  -- "if at least two of its seven index pairs are flagged": two, one, the last two; two that fall, one that falls, and one that rises with one that falls
   pub two-flagged : inconsistent (tablesOf (upTo 1280) (all14 1)) (replicate 7 0) (1 ∷ 1 ∷ 0 ∷ 0 ∷ 0 ∷ 0 ∷ 0 ∷ []) ≡ true
   pub one-flagged : inconsistent (tablesOf (upTo 1280) (all14 1)) (replicate 7 0) (1 ∷ 0 ∷ 0 ∷ 0 ∷ 0 ∷ 0 ∷ 0 ∷ []) ≡ false
   pub last-two-flagged : inconsistent (tablesOf (upTo 1280) (all14 1)) (replicate 7 0) (0 ∷ 0 ∷ 0 ∷ 0 ∷ 0 ∷ 1 ∷ 1 ∷ []) ≡ true
-  pub two-fallen : inconsistent (tablesOf (upTo 1280) (all14 1)) (1 ∷ 1 ∷ 0 ∷ 0 ∷ 0 ∷ 0 ∷ 0 ∷ []) (replicate 7 0) ≡ false
+  pub two-fallen : inconsistent (tablesOf (upTo 1280) (all14 1)) (1 ∷ 1 ∷ 0 ∷ 0 ∷ 0 ∷ 0 ∷ 0 ∷ []) (replicate 7 0) ≡ true
+  pub one-fallen : inconsistent (tablesOf (upTo 1280) (all14 1)) (0 ∷ 0 ∷ 0 ∷ 0 ∷ 0 ∷ 0 ∷ 1 ∷ []) (replicate 7 0) ≡ false
+  pub one-of-each : inconsistent (tablesOf (upTo 1280) (all14 1)) (0 ∷ 1 ∷ 0 ∷ 0 ∷ 0 ∷ 0 ∷ 0 ∷ []) (1 ∷ 0 ∷ 0 ∷ 0 ∷ 0 ∷ 0 ∷ 0 ∷ []) ≡ true
 
 pub consistency : Consistency
 unfolding numbersFrom upTo nineAt all14 pairs14 flagged flags inconsistent
@@ -96,18 +110,30 @@ consistency = record {
   past-threshold-11 = refl;
   two-not-two = refl;
   two-past-one = refl;
-  fall = refl;
-  still-past-minus-1 = refl;
-  fall-of-1 = refl;
-  exact-difference = refl;
+  fall-not-two = refl;
+  fall-past-one = refl;
+  fall-past-zero = refl;
+  still = refl;
+  through-zero = refl;
+  fall-through-zero = refl;
+  through-zero-not-two = refl;
+  exact-rise = refl;
   exact-fall = refl;
+  largest-rise = refl;
+  one-larger-rise = refl;
+  largest-fall = refl;
+  one-larger-fall = refl;
   first-element = refl;
   second-element = refl;
   neither = refl;
+  first-element-falls = refl;
+  second-element-falls = refl;
   two-flagged = refl;
   one-flagged = refl;
   last-two-flagged = refl;
   two-fallen = refl;
+  one-fallen = refl;
+  one-of-each = refl;
 }
 
 -- ---- replacing, frames counted from 1

@@ -16,6 +16,7 @@ use lib.ListN.{length, getD, replicate, length-replicate, getD-replicate}
 use Rattle.polynomials.specs.Light.{ones-in}
 use Rattle.lists.specs.Tests.{when, true-false}
 use Rattle.lists.specs.Parts.{part}
+use Rattle.lists.specs.Search.{nowhere, isFound, says-is}
 use Rattle.layout.specs.Layout.{packetBits, frameIndices, firstFrame, secondFrame, firstPair, multiframePairs, multiframeFrames, multiframeOctets, mostFrames}
 use Rattle.choices.specs.declared.Choices.{Choices}
 use Rattle.settings.specs.declared.Settings.{Settings}
@@ -30,7 +31,7 @@ use Rattle.message.specs.Message.Laws.{message-lt}
 use Rattle.header.specs.Reading.Laws.{flips-of}
 use Rattle.image.specs.Made.{packetIn, made-word, made-packet}
 use Rattle.image.specs.Laws.{image-packet}
-use Rattle.writer.specs.Writing.{nowhere, firstFrom, isFound, frameCount, isWide, mustSpeak, endsEarly, needed, verdict, Outcome, writing}
+use Rattle.writer.specs.Writing.{frameCount, isWide, mustSpeak, endsEarly, needed, verdict, Outcome, writing}
 use Rattle.writer.specs.Laws.{Sized, accepts}
 use Rattle.writer.specs.Utterance.{Utterance, multiframesOf, pairsOf, imageOf, writes}
 use Rattle.writer.specs.declared.Answer.the-variants.{Written}
@@ -50,17 +51,12 @@ pub count-ones : (n : ℕ) → frameCount (ones n) ≡ n
 count-ones n = ap (λ (l : ℕ). l / frameIndices) (length-replicate (frameIndices * n) 1) ∙ omega arith
 
 -- ---- every search finds nothing
-search-none : (f : ℕ → Bool) (k n : ℕ) → ((i : ℕ) → k ≤ i → i < k + n → f i ≡ false) → firstFrom f k n ≡ nowhere
-unfolding firstFrom
-search-none f k zero h = refl
-search-none f k (suc n) h = rw (h k (omega arith) (omega arith)) (search-none f (k + 1) n (λ i a b. h i (omega arith) (omega arith)))
-
 module _ (n k : ℕ) (h : k < n) where
   one-at : (j : ℕ) → j < 7 * n → getD (ones n) j 0 ≡ 1
   one-at j l = getD-replicate (7 * n) j 1 0 l
 
   not-wide : isWide (ones n) k ≡ false
-  not-wide = ap isFound (search-none (λ j. ltb 63 (getD (ones n) j 0)) (7 * k) 6 (λ i a b. ap (ltb 63) (one-at i (omega arith))))
+  not-wide = ap isFound (says-is (λ j. ltb 63 (getD (ones n) j 0)) (7 * k) 6 nowhere (λ i a b. ap (ltb 63) (one-at i (omega arith))))
 
   not-zero : zeroFrame (ones n) k ≡ false
   not-zero = speaks (ones n) k (record { place = 0; within = omega arith; nonzero = λ z. omega (arith, z, one-at (7 * k + 0) (omega arith)) })
@@ -82,8 +78,8 @@ module _ (spoken : Settings) (n : ℕ) (right : settingsRight spoken ≡ true) (
 
   written : verdict spoken (ones n) (needed (ones n)) ≡ Written (needed (ones n))
   written =
-      accepts spoken (ones n) (needed (ones n)) sized (search-none (isWide (ones n)) 0 (frameCount (ones n)) (λ i a b. not-wide n i (omega (arith, count-ones n))))
-      (search-none (endsEarly (ones n)) 0 (frameCount (ones n)) (λ i a b. not-early n i (omega (arith, count-ones n)))) (omega arith)
+      accepts spoken (ones n) (needed (ones n)) sized (says-is (isWide (ones n)) 0 (frameCount (ones n)) nowhere (λ i a b. not-wide n i (omega (arith, count-ones n))))
+      (says-is (endsEarly (ones n)) 0 (frameCount (ones n)) nowhere (λ i a b. not-early n i (omega (arith, count-ones n)))) (omega arith)
 
   -- AN ACCEPTED UTTERANCE OF ANY SETTINGS AND OF EVERY LENGTH THAT 01 ALLOWS
   pub saysOnes : Utterance

@@ -7,6 +7,7 @@ use mathlib.Core.List.{List, [], _∷_, _++_}
 use Prim.Native.Nat.{ℕ, _*_, _≤_}
 use lib.Dec.{lit≤}
 use lib.ListN.{length, replicate}
+use Rattle.lists.specs.Search.{firstFrom}
 use Rattle.layout.specs.Layout.{streamOctets, firstPair, multiframePairs}
 use Rattle.settings.specs.Settings.{settings}
 use Rattle.frames.specs.Frames.{zeroFrame}
@@ -14,7 +15,7 @@ use Rattle.bits.specs.Bits.{numbers, value, laid, field, octets}
 use Rattle.crc.specs.Crc.{crc, after}
 use Rattle.packet.specs.Packet.{packet, guarded, row, packetOf, stream}
 use Rattle.image.specs.Image.{image}
-use Rattle.writer.specs.Writing.{numberOf, placeOf, firstFrom, roomAnswer, verdict, writing}
+use Rattle.writer.specs.Writing.{numberOf, placeOf, roomAnswer, verdict, writing}
 use Rattle.writer.specs.declared.Answer.{Answer}
 use Rattle.writer.specs.declared.Answer.the-variants.{Written}
 use Rattle.page.specs.Headers.{header, multiframe-is}

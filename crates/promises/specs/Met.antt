@@ -16,6 +16,7 @@ use borrow.Author.Tests.{ne-eqb, lt-ltb, le-ltb}
 use Rattle.lists.specs.Tests.{when, by-test}
 use Rattle.lists.specs.Parts.{over}
 use Rattle.lists.specs.Rows.{same-joined}
+use Rattle.lists.specs.Search.{firstFrom}
 use Rattle.layout.specs.Layout.{multiframeOctets, widths, frameIndices, dataBits, packetBits, multiframePairs, indexOctets, reportOctets, firstFrame, secondFrame, firstPair}
 use Rattle.choices.specs.declared.Choices.{Choices}
 use Rattle.consistency.specs.Tables.{Tables, zeroTables}
@@ -43,7 +44,7 @@ use Rattle.reader.specs.declared.Summary.{Summary}
 use Rattle.reader.specs.declared.Answer.the-variants.{Read}
 use Rattle.image.specs.Made.{Small, wordIn, packetIn, framed, made}
 use Rattle.image.specs.Laws.{image-packet}
-use Rattle.writer.specs.Writing.{verdict, roomAnswer, firstFrom, frameCount, needed}
+use Rattle.writer.specs.Writing.{verdict, roomAnswer, frameCount, needed}
 use Rattle.writer.specs.Utterance.{Utterance, multiframesOf, pairsOf, imageOf}
 use Rattle.writer.specs.declared.Answer.the-variants.{Written}
 use Rattle.recordings.specs.CutOff as C

@@ -743,8 +743,7 @@ module _ (ch : Choices) (u : Utterance) (k : ℕ) (some : 0 < k) (last : multifr
       (inverses-behind ch front (ap (λ (w : Cutting). w .ending) c) (omega (arith, n)) (omega (arith, n, F.few u (imageOf u) (unharmed u) k within)) 72 zeroTables i r
       ∙ C.cut-off-reads ch u k some (omega arith) enough zeroTables i r
       (record {
-        codebook-size = lent .codebook-size;
-        thresholds-size = lent .thresholds-size;
+        right-tables = lent .right-tables;
         index-room = omega (arith, lent .index-room);
         report-room = omega (arith, lent .report-room);
       }))

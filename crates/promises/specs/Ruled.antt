@@ -26,7 +26,7 @@ use Rattle.demands.specs.Met.{indexFor, reportFor}
 use Rattle.demands.specs.Needed.{all-bad-refuses}
 use Rattle.demands.specs.NamesTheDamage as N
 use Rattle.recordings.specs.Hit.{hitImage, hits, is-hit, not-hit, clean-header}
-use Rattle.recordings.specs.Said.{rises23, rises47, rises7, stairs, lent-stairs, inconsistent-23, inconsistent-47, inconsistent-7, consistent-7}
+use Rattle.recordings.specs.Said.{rises23, rises47, rises7, stairs, drops, lent-stairs, lent-drops, inconsistent-23, inconsistent-47, inconsistent-47-falls, inconsistent-7, consistent-7}
 
 -- ---- which pairs are bad where pair p alone is damaged, whatever the utterance and the tables
 module _ (u : Utterance) (p : ℕ) (inside : p < pairsOf u) (tables : Tables) where
@@ -167,6 +167,10 @@ chain-23 = chain oneHeaderSettles rises23 (inr refl) 5 stairs (indexFor 1) (repo
 -- of two, where the chain runs on from the first into the second
 pub chain-47 : (ch : Choices) → Chain ch rises47 10 stairs (indexFor 2) (reportFor 2)
 chain-47 ch = chain ch rises47 (inl (omega arith)) 10 stairs (indexFor 2) (reportFor 2) inconsistent-47 (omega arith) (omega arith) (lent-stairs 2)
+
+-- and where every pair falls: a fall counts as much as a rise (02, C-12)
+pub chain-47-falls : (ch : Choices) → Chain ch rises47 10 drops (indexFor 2) (reportFor 2)
+chain-47-falls ch = chain ch rises47 (inl (omega arith)) 10 drops (indexFor 2) (reportFor 2) inconsistent-47-falls (omega arith) (omega arith) (lent-drops 2)
 
 -- and a chain that stops: of 7 frames the first pair is damaged, the three behind it are bad by the rule, and the padding behind them is good
 pub record Stops : Type 0 where

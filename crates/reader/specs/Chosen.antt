@@ -11,8 +11,11 @@ use lib.Dec.{eqb}
 use Rattle.lists.specs.Tests.{when}
 use Rattle.choices.specs.Choices.{oneSettles}
 use Rattle.choices.specs.declared.Choices.{Choices}
-use Rattle.consistency.specs.Tables.{Tables, tablesRight, passes-right}
-use Rattle.refusals.specs.declared.Reading.the-variants.{Empty, Unsettled, WrongTables}
+use Rattle.consistency.specs.Tables.{Tables, admission, ifAdmitted}
+use Rattle.consistency.specs.Admitted.{passes-right}
+use Rattle.consistency.specs.declared.Admission.{Admission}
+use Rattle.consistency.specs.declared.Admission.the-variants as A
+use Rattle.refusals.specs.declared.Reading.the-variants.{Empty, Unsettled}
 use Rattle.cutting.specs.Cutting.{Ending, whole, refused, cutting}
 use Rattle.cutting.specs.Reached.{whole-exactly}
 use Rattle.carrier.specs.Carrier.{pairCount}
@@ -23,7 +26,7 @@ use Rattle.settling.specs.declared.Settlement.the-variants as S
 use Rattle.bad_pairs.specs.BadPairs.{badPairs}
 use Rattle.deciding.specs.Deciding.{receivedNotes, settledVerdict, wholeVerdict}
 use Rattle.reader.specs.Reading.{summary, endVerdict, verdict, finished, outcome, reading}
-use Rattle.reader.specs.Steps.{wrong-tables, not-cut}
+use Rattle.reader.specs.Steps.{not-admitted, not-cut}
 use Rattle.reader.specs.RefusalLaws.{CutUp, refuses-unsettled}
 use Rattle.reader.specs.ReadingLaws.{accepted, refused-keeps}
 use Rattle.reader.specs.declared.Summary.{Summary}
@@ -46,7 +49,7 @@ module _ (octets : List ℕ) (tables : Tables) (index report : List ℕ) where
     read-alike : reading ch octets tables index report ≡ reading dh octets tables index report
     unfolding reading verdict
     read-alike =
-        ap (λ (v : Verdict). finished octets tables index report places (when (tablesRight tables) v (Refuse WrongTables))) (ends-alike (cutting octets .ending))
+        ap (λ (v : Verdict). finished octets tables index report places (ifAdmitted (admission tables) Refuse v)) (ends-alike (cutting octets .ending))
 
   -- every number of multiframes but one, whatever their headers, is read alike by every choice
   many-alike : (ch dh : Choices) → (length (cutting octets .places) ≡ 1 → ⊥) → reading ch octets tables index report ≡ reading dh octets tables index report
@@ -61,18 +64,18 @@ module _ (octets : List ℕ) (tables : Tables) (index report : List ℕ) where
 
   -- AND NOTHING ELSE IS CHANGED: whatever is not an only multiframe behind right tables, cut to the end of the octets, is read or refused alike
   pub else-alike : (ch dh : Choices) → (CutUp octets tables → length (cutting octets .places) ≡ 1 → ⊥) → reading ch octets tables index report ≡ reading dh octets tables index report
-  else-alike ch dh n = by (tablesRight tables) (cutting octets .ending) refl refl
+  else-alike ch dh n = by (admission tables) (cutting octets .ending) refl refl
     where
-      by : (t : Bool) (e : Ending) → tablesRight tables ≡ t → cutting octets .ending ≡ e → reading ch octets tables index report ≡ reading dh octets tables index report
-      by false e et ee = sym (wrong-tables ch octets tables index report et) ∙ wrong-tables dh octets tables index report et
-      by true (refused r) et ee = sym (not-cut ch octets tables index report et r ee) ∙ not-cut dh octets tables index report et r ee
-      by true whole et ee = many-alike ch dh (n (passes-right tables et, whole-exactly octets .0 ee))
+      by : (a : Admission) (e : Ending) → admission tables ≡ a → cutting octets .ending ≡ e → reading ch octets tables index report ≡ reading dh octets tables index report
+      by (A.Refused r) e ea ee = sym (not-admitted ch octets tables index report r ea) ∙ not-admitted dh octets tables index report r ea
+      by A.Admitted (refused r) ea ee = sym (not-cut ch octets tables index report ea r ee) ∙ not-cut dh octets tables index report ea r ee
+      by A.Admitted whole ea ee = many-alike ch dh (n (passes-right tables ea, whole-exactly octets .0 ee))
 
   module _ (ch : Choices) (default : oneSettles ch ≡ false) where
     one-unsettled : length (cutting octets .places) ≡ 1 → settling ch (readings octets (cutting octets .places)) ≡ S.Unsettled
     one-unsettled one = one-default ch (readings octets places) default (length-readings octets places ∙ one)
 
-    -- "BY DEFAULT AN ONLY MULTIFRAME IS NOW REFUSED AS UNSETTLED", whatever its header is, where none of 11 to 15 comes before
+    -- "BY DEFAULT AN ONLY MULTIFRAME IS NOW REFUSED AS UNSETTLED", whatever its header is, where none of 10 to 15 comes before
     pub one-refused : CutUp octets tables → length (cutting octets .places) ≡ 1
         → reading ch octets tables index report ≡ outcome (Refused Unsettled) index report
     one-refused cut one =

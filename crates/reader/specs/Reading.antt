@@ -8,9 +8,8 @@ use Rattle.lists.specs.Tests.{when}
 use Rattle.lists.specs.Parts.{over}
 use Rattle.layout.specs.Layout.{indexOctets, reportOctets}
 use Rattle.choices.specs.declared.Choices.{Choices}
-use Rattle.consistency.specs.Tables.{Tables, tablesRight}
+use Rattle.consistency.specs.Tables.{Tables, admission, ifAdmitted}
 use Rattle.refusals.specs.Refusals.{success, readingNumber, readingPlace}
-use Rattle.refusals.specs.declared.Reading.the-variants.{WrongTables}
 use Rattle.cutting.specs.Cutting.{Ending, whole, refused, cutting}
 use Rattle.message.specs.Message.{settingsOf}
 use Rattle.carrier.specs.Carrier.{received, pairCount}
@@ -56,16 +55,16 @@ summary octets places ns c =
       end = endOf (length places) (indexPart octets places ns);
     }
 
--- ---- every refusal, in 01's order: 11, then what cutting meets, then `wholeVerdict`
+-- ---- every refusal, in 01's order: 11 and then 10 (02, C-12), then what cutting meets, then `wholeVerdict`
 module _ (ch : Choices) (octets : List ℕ) (tables : Tables) (index report : ℕ) where
   -- 12, 13 and 15, as cutting meets them
   abbrev pub endVerdict : List ℕ → Ending → Verdict
   endVerdict places whole = wholeVerdict ch octets tables index report places
   endVerdict places (refused r) = Refuse r
 
-  -- 11: codebook not 1,280 or thresholds not 14. It comes first
+  -- 11 and 10: the tables are turned away (`admission`). They come first
   unfoldable pub verdict : Verdict
-  verdict = when (tablesRight tables) (endVerdict (cutting octets .places) (cutting octets .ending)) (Refuse WrongTables)
+  verdict = ifAdmitted (admission tables) Refuse (endVerdict (cutting octets .places) (cutting octets .ending))
 
 -- ---- the answer and both buffers
 pub record Outcome : Type 0 where
@@ -96,6 +95,6 @@ module _ (ch : Choices) (octets : List ℕ) (tables : Tables) (index report : Li
   endReading places whole = readingFound places
   endReading places (refused r) = outcome (Refused r) index report
 
-  -- decided first, then finished; `in-order` says it by its parts: 11, what cutting refuses, else `readingFound`
+  -- decided first, then finished; `in-order` says it by its parts: 11 and 10, what cutting refuses, else `readingFound`
   unfoldable pub reading : Outcome
   reading = finished octets tables index report (cutting octets .places) (verdict ch octets tables (length index) (length report))

@@ -11,7 +11,10 @@ use Rattle.lists.specs.Tests.{when, by-test}
 use Rattle.lists.specs.Parts.{over}
 use Rattle.layout.specs.Layout.{indexOctets, reportOctets, codebookNumbers, thresholdNumbers}
 use Rattle.choices.specs.declared.Choices.{Choices}
-use Rattle.consistency.specs.Tables.{Tables, tablesRight, RightTables, right-passes, passes-right}
+use Rattle.consistency.specs.Tables.{Tables, RightTables, admission, ifAdmitted}
+use Rattle.consistency.specs.Admitted.{right-passes, passes-right}
+use Rattle.consistency.specs.declared.Admission.{Admission}
+use Rattle.consistency.specs.declared.Admission.the-variants as A
 use Rattle.cutting.specs.Cutting.{Ending, whole, refused, cutting}
 use Rattle.settling.specs.Settling.{readings, settling}
 use Rattle.settling.specs.Laws.{fit-is}
@@ -24,7 +27,6 @@ use Rattle.deciding.specs.Deciding.{roomVerdict, settledVerdict, wholeVerdict, 
 use Rattle.report.specs.Report.{reportPart}
 use Rattle.reader.specs.Reading.{indexPart, summary, endVerdict, verdict, finished, outcome, endReading, reading, receivedFrames}
 use Rattle.refusals.specs.declared.Reading.{Reading as Refusal}
-use Rattle.refusals.specs.declared.Reading.the-variants.{WrongTables}
 use Rattle.reader.specs.declared.Summary.{Summary}
 use Rattle.reader.specs.declared.Answer.{Answer}
 use Rattle.reader.specs.declared.Answer.the-variants.{Read, Refused}
@@ -37,8 +39,7 @@ module _ (ch : Choices) (octets : List ℕ) (tables : Tables) (index report : �
 
   -- an accepted input, with the settled common bits
   pub record Accepted (c : ℕ) : Type 0 where
-    pub codebook-size : length (tables .codebook) ≡ codebookNumbers
-    pub thresholds-size : length (tables .thresholds) ≡ thresholdNumbers
+    pub right-tables : RightTables tables
     pub uncut : cutting octets .ending ≡ whole
     pub some : length places ≡ 0 → ⊥
     pub fitting : Fitting (length places) (badPairs (receivedNotes octets places tables)) (pairCount places) index report (settling ch (readings octets places)) c
@@ -50,15 +51,19 @@ module _ (ch : Choices) (octets : List ℕ) (tables : Tables) (index report : �
   accepted-by : AcceptedBy (verdict ch octets tables index report)
   unfolding verdict
   accepted-by =
-      by-test AcceptedBy (tablesRight tables) (λ h. ended (cutting octets .ending) refl (passes-right tables h)) (λ h. tt)
+      by (admission tables) refl
     where
       fit : (v : Verdict) → RightTables tables → cutting octets .ending ≡ whole → WholeSays ch octets tables index report places v → AcceptedBy v
       fit (Refuse r) t e h = tt
-      fit (Accept c) t e h = record { codebook-size = t .0; thresholds-size = t .1; uncut = e; some = h .0; fitting = h .1 }
+      fit (Accept c) t e h = record { right-tables = t; uncut = e; some = h .0; fitting = h .1 }
 
       ended : (e : Ending) → cutting octets .ending ≡ e → RightTables tables → AcceptedBy (endVerdict ch octets tables index report places e)
       ended (refused r) e t = tt
       ended whole e t = fit (wholeVerdict ch octets tables index report places) t e (whole-says ch octets tables index report places)
+
+      by : (a : Admission) → admission tables ≡ a → AcceptedBy (ifAdmitted a Refuse (endVerdict ch octets tables index report places (cutting octets .ending)))
+      by A.Admitted e = ended (cutting octets .ending) refl (passes-right tables e)
+      by (A.Refused r) e = tt
 
   -- what acceptance says
   pub accepted : (c : ℕ) → verdict ch octets tables index report ≡ Accept c → Accepted c
@@ -70,7 +75,7 @@ module _ (ch : Choices) (octets : List ℕ) (tables : Tables) (index report : �
   accepting c a =
       let f = a .fitting in
       rw (
-        right-passes tables (a .codebook-size, a .thresholds-size),
+        right-passes tables (a .right-tables),
         a .uncut,
         ne-eqb (length places) 0 (a .some),
         f .settles,
@@ -111,19 +116,19 @@ module _ (ch : Choices) (octets : List ℕ) (tables : Tables) (index report : Li
   unfolding reading
   accepted-lays c e = rw e
 
-  -- a reading by its parts: 11, what cutting refuses, else the reading of the multiframes found
+  -- a reading by its parts: 11 and 10, what cutting refuses, else the reading of the multiframes found
   pub in-order : reading ch octets tables index report
-      ≡ when (tablesRight tables) (endReading ch octets tables index report (cutting octets .places) (cutting octets .ending)) (outcome (Refused WrongTables) index report)
+      ≡ ifAdmitted (admission tables) (λ r. outcome (Refused r) index report) (endReading ch octets tables index report (cutting octets .places) (cutting octets .ending))
   unfolding reading verdict
-  in-order = by (tablesRight tables) (cutting octets .ending)
+  in-order = by (admission tables) (cutting octets .ending)
     where
-      by : (t : Bool) (e : Ending)
+      by : (a : Admission) (e : Ending)
           → finished octets tables index report (cutting octets .places)
-          (when t (endVerdict ch octets tables (length index) (length report) (cutting octets .places) e) (Refuse WrongTables))
-          ≡ when t (endReading ch octets tables index report (cutting octets .places) e) (outcome (Refused WrongTables) index report)
-      by false e = refl
-      by true whole = refl
-      by true (refused r) = refl
+          (ifAdmitted a Refuse (endVerdict ch octets tables (length index) (length report) (cutting octets .places) e))
+          ≡ ifAdmitted a (λ r. outcome (Refused r) index report) (endReading ch octets tables index report (cutting octets .places) e)
+      by (A.Refused r) e = refl
+      by A.Admitted whole = refl
+      by A.Admitted (refused r) = refl
 
 -- ---- the sizes of what a reading holds
 module _ (octets places ns : List ℕ) where

@@ -1,5 +1,5 @@
 -- When each refusal is given (01, the reader's table): the answer is that refusal exactly if its own condition holds and that of none before it in
--- 01's order. `Given` has a line for each of 11 to 20, in 01's words; of 12, 13 and 15 it speaks by where cutting gets to and what stands there,
+-- 01's order, 10 behind 11 (02, C-12). `Given` has a line for each of 10 to 20, in 01's words; of 12, 13 and 15 it speaks by where cutting gets to and what stands there,
 -- not by cutting's answer.
 -- Assumes nothing.
 use Prim.Native.Nat.{ℕ, _*_, _≤_, _<_}
@@ -13,9 +13,12 @@ use borrow.Author.Tests.{eq-eqb, ne-eqb, lt-ltb, le-ltb, ltb-true, ltb-false, eq
 use Rattle.lists.specs.Tests.{by-test}
 use Rattle.layout.specs.Layout.{indexOctets, reportOctets}
 use Rattle.choices.specs.declared.Choices.{Choices}
-use Rattle.consistency.specs.Tables.{Tables, tablesRight, RightTables, right-passes, passes-right, wrong-fails, fails-wrong}
+use Rattle.consistency.specs.Tables.{Tables, RightSizes, RightTables, FirstNegative, admission, ifAdmitted}
+use Rattle.consistency.specs.Admitted.{Shown, shown, right-passes, wrong-sizes, negative-refused}
+use Rattle.consistency.specs.declared.Admission.{Admission}
+use Rattle.consistency.specs.declared.Admission.the-variants as A
 use Rattle.refusals.specs.declared.Reading.{Reading as Refusal}
-use Rattle.refusals.specs.declared.Reading.the-variants.{WrongTables, Unknown, CutShort, Empty, TooMany, Unsettled, Unfit, IndexShort, ReportShort, AllBad}
+use Rattle.refusals.specs.declared.Reading.the-variants.{WrongTables, NegativeThreshold, Unknown, CutShort, Empty, TooMany, Unsettled, Unfit, IndexShort, ReportShort, AllBad}
 use Rattle.cutting.specs.Cutting.{Ending, whole, refused, cutting}
 use Rattle.cutting.specs.Reached.{Reached, Meets, Reason, ends-exactly, whole-exactly}
 use Rattle.cutting.specs.declared.Piece.the-variants as P
@@ -33,7 +36,7 @@ use Rattle.deciding.specs.declared.Verdict.{Verdict}
 use Rattle.deciding.specs.declared.Verdict.the-variants.{Refuse, Accept}
 
 -- ---- what holds where the refusals before do not apply; m of 01 is the number of places
--- none of 11, 12, 13 and 15: cutting gets to the end of the octets
+-- none of 10 to 13 and 15: cutting gets to the end of the octets
 abbrev pub CutUp : List ℕ → Tables → Type 0
 CutUp octets tables = RightTables tables × Reached octets (length octets) (length (cutting octets .places))
 
@@ -60,7 +63,9 @@ module _ (ch : Choices) (octets : List ℕ) (tables : Tables) (index report : �
   -- ---- when each refusal is given
   abbrev pub Given : Refusal → Type 0
   -- 11: codebook not 1,280 or thresholds not 14. It comes first
-  Given WrongTables = RightTables tables → ⊥
+  Given WrongTables = RightSizes tables → ⊥
+  -- 10: a negative threshold, place the first one's number from 0. It comes after 11 and before cutting
+  Given (NegativeThreshold k) = RightSizes tables × FirstNegative tables k
   -- 12, 13 and 15 come as cutting meets them: it gets to p (`Reached`), and of the octets there and the multiframes before holds what the table
   -- says (`Says`). 12: octets at p begin nothing known
   Given (Unknown p) = RightTables tables × Meets octets p P.Unknown
@@ -82,9 +87,13 @@ module _ (ch : Choices) (octets : List ℕ) (tables : Tables) (index report : �
   Given AllBad = Room × (badPairs (receivedNotes octets places tables) ≡ pairCount places)
 
   -- ---- the conditions lead to the refusals
-  pub refuses-tables : (RightTables tables → ⊥) → verdict ch octets tables index report ≡ Refuse WrongTables
+  pub refuses-tables : (RightSizes tables → ⊥) → verdict ch octets tables index report ≡ Refuse WrongTables
   unfolding verdict
-  refuses-tables h = rw (wrong-fails tables h)
+  refuses-tables h = rw (wrong-sizes tables h)
+
+  pub refuses-negative : (k : ℕ) → RightSizes tables → FirstNegative tables k → verdict ch octets tables index report ≡ Refuse (NegativeThreshold k)
+  unfolding verdict
+  refuses-negative k h f = rw (negative-refused tables k h f)
 
   ends : RightTables tables → (e : Ending) → cutting octets .ending ≡ e → verdict ch octets tables index report ≡ endVerdict ch octets tables index report places e
   unfolding verdict
@@ -133,6 +142,7 @@ module _ (ch : Choices) (octets : List ℕ) (tables : Tables) (index report : �
 
   given-refused : (r : Refusal) → Given r → verdict ch octets tables index report ≡ Refuse r
   given-refused WrongTables g = refuses-tables g
+  given-refused (NegativeThreshold k) g = refuses-negative k (g .0) (g .1)
   given-refused (Unknown p) g = refuses-cut (g .0) (Unknown p) (ends-exactly octets (refused (Unknown p)) .1 (g .1))
   given-refused (CutShort p) g = refuses-cut (g .0) (CutShort p) (ends-exactly octets (refused (CutShort p)) .1 (g .1))
   given-refused (TooMany p) g = refuses-cut (g .0) (TooMany p) (ends-exactly octets (refused (TooMany p)) .1 (g .1))
@@ -175,6 +185,7 @@ module _ (ch : Choices) (octets : List ℕ) (tables : Tables) (index report : �
   shows-cut t (CutShort p) m = (t, m)
   shows-cut t (TooMany p) m = (t, m)
   shows-cut t WrongTables m = absurd m
+  shows-cut t (NegativeThreshold k) m = absurd m
   shows-cut t (Empty n) m = absurd m
   shows-cut t Unsettled m = absurd m
   shows-cut t Unfit m = absurd m
@@ -188,7 +199,25 @@ module _ (ch : Choices) (octets : List ℕ) (tables : Tables) (index report : �
 
   shows : Shows (verdict ch octets tables index report)
   unfolding verdict
-  shows = by-test Shows (tablesRight tables) (λ a. shows-end (passes-right tables a) (cutting octets .ending) refl) (fails-wrong tables)
+  shows = by (admission tables) (shown tables)
+    where
+      -- what turns the tables away is 11 or 10
+      turned : (r : Refusal) → Shown tables (A.Refused r) → Given r
+      turned WrongTables h = h
+      turned (NegativeThreshold k) h = h
+      turned (Unknown p) h = absurd h
+      turned (CutShort p) h = absurd h
+      turned (Empty n) h = absurd h
+      turned (TooMany p) h = absurd h
+      turned Unsettled h = absurd h
+      turned Unfit h = absurd h
+      turned (IndexShort n) h = absurd h
+      turned (ReportShort n) h = absurd h
+      turned AllBad h = absurd h
+
+      by : (a : Admission) → Shown tables a → Shows (ifAdmitted a Refuse (endVerdict ch octets tables index report places (cutting octets .ending)))
+      by A.Admitted t = shows-end t (cutting octets .ending) refl
+      by (A.Refused r) h = turned r h
 
   pub decided-exactly : (r : Refusal) → (verdict ch octets tables index report ≡ Refuse r) ↔ Given r
   decided-exactly r = (λ e. subst Shows e shows, given-refused r)

@@ -4,21 +4,20 @@ use Prim.Native.Nat.{ℕ}
 use mathlib.Core.Path.{_≡_, ap, _∙_}
 use mathlib.Core.List.{List}
 use Rattle.choices.specs.declared.Choices.{Choices}
-use Rattle.consistency.specs.Tables.{Tables, tablesRight}
-use mathlib.Core.Bool.{true, false}
+use Rattle.consistency.specs.Tables.{Tables, admission}
+use Rattle.consistency.specs.declared.Admission.the-variants as A
 use Rattle.cutting.specs.Cutting.{whole, refused, cutting}
 use Rattle.reader.specs.Reading.{verdict, Outcome, outcome, readingFound, reading}
-use Rattle.refusals.specs.declared.Reading.the-variants.{WrongTables}
 use Rattle.reader.specs.declared.Answer.the-variants.{Refused}
 use Rattle.refusals.specs.declared.Reading.{Reading as Refusal}
 
 -- ---- the first tests of a reading
 module _ (ch : Choices) (octets : List ℕ) (tables : Tables) (index report : List ℕ) where
-  pub wrong-tables : tablesRight tables ≡ false → outcome (Refused WrongTables) index report ≡ reading ch octets tables index report
+  pub not-admitted : (r : Refusal) → admission tables ≡ A.Refused r → outcome (Refused r) index report ≡ reading ch octets tables index report
   unfolding reading verdict
-  wrong-tables h = rw h
+  not-admitted r e = rw e
 
-  module _ (right : tablesRight tables ≡ true) where
+  module _ (right : admission tables ≡ A.Admitted) where
     pub not-cut : (r : Refusal) → cutting octets .ending ≡ refused r → outcome (Refused r) index report ≡ reading ch octets tables index report
     unfolding reading verdict
     not-cut r e = rw (right, e)

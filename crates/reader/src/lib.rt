@@ -1,6 +1,7 @@
 // The reader: received octets become indices and a report, or a refusal that changes nothing.
 // `reading` in specs/ says what it answers and leaves in both buffers, for every input.
 use choices::Choices;
+use consistency::Admission;
 use cutting::Cut;
 use deciding::Verdict;
 use layout::MultiframeLayout;
@@ -13,7 +14,7 @@ ghost use lib.ListN.{length};
 ghost use Rattle.lists.specs.Parts.{over};
 ghost use Rattle.lists.specs.Lent.{came, left};
 ghost use Rattle.layout.specs.Layout.{mostMultiframes, indexOctets, reportOctets};
-ghost use Rattle.consistency.specs.Tables.{tablesOf, RightTables};
+ghost use Rattle.consistency.specs.Tables.{tablesOf, RightSizes};
 ghost use Rattle.consistency.specs.Lent.{tablesIn};
 ghost use Rattle.cutting.specs.Laws.{Placed};
 ghost use Rattle.settling.specs.Stored.{packAll};
@@ -88,7 +89,7 @@ fn read_found(
     report: &mut [u8],
 ) -> Answer
     requires { ⌜ Placed (now octets) (now places) × (length (now places) ≤ mostMultiframes) ⌝ }
-    requires { ⌜ RightTables (tablesOf (now codebook) (now thresholds)) ⌝ }
+    requires { ⌜ RightSizes (tablesOf (now codebook) (now thresholds)) ⌝ }
     ensures { λ r. ⌜ outcome r (left index) (left report)
         ≡ readingFound choices (came octets) (tablesIn codebook thresholds) (came index) (came report) (came places) ⌝ }
 {
@@ -122,8 +123,8 @@ fn read_found(
 
 // read turns received octets into the indices of all frames and a report, or refuses and leaves both buffers as they came. By default an only
 // multiframe is refused with 16; the caller may choose that one header alone settles (02, C-20).
-// Nothing is asked of the caller: codebook, 1,280 numbers; 14 thresholds; an index buffer of 168 and a report buffer of 13 octets for each
-// multiframe; else 01's refusals. 01's number and values of the answer, which of a refusal are its place, are those of the definition.
+// Nothing is asked of the caller: codebook, 1,280 numbers; 14 thresholds, none negative; an index buffer of 168 and a report buffer of 13 octets for each
+// multiframe; else 01's refusals, and 02's 10. 01's number and values of the answer, which of a refusal are its place, are those of the definition.
 pub fn read(
     octets: &[u8],
     choices: Choices,
@@ -139,8 +140,8 @@ pub fn read(
     ensures values { λ r. ⌜ answerValues r
         ≡ answerValues (reading choices (came octets) (tablesIn codebook thresholds) (came index) (came report) .answer) ⌝ }
 {
-    if !consistency::are_right(codebook, thresholds) {
-        return Answer::Refused(Reading::WrongTables);
+    if let Admission::Refused(r) = consistency::admit(codebook, thresholds) {
+        return Answer::Refused(r);
     }
     let mut places = [0usize; MULTIFRAMES];
     match cutting::cut_into(octets, &mut places) {

@@ -221,8 +221,7 @@ cut-off-answer ch u k less tables index report given e =
 
     lent : Lent k tables index report
     lent = record {
-      codebook-size = a .codebook-size;
-      thresholds-size = a .thresholds-size;
+      right-tables = a .right-tables;
       index-room = subst (λ (n : ℕ). indexOctets * n ≤ length index) rows (a .fitting .roomy .index-room);
       report-room = subst (λ (n : ℕ). reportOctets * n ≤ length report) rows (a .fitting .roomy .report-room);
     }
@@ -320,7 +319,7 @@ cut-anywhere ch u n short tables index report given e =
     sized : RightTables tables
     sized =
         let a = A.was-read ch (take n (imageOf u)) tables index report [] given e .reader-accepts in
-        (a .codebook-size, a .thresholds-size)
+        a .right-tables
 
 -- ---- the premises are met
 -- of 24 frames of ones the first multiframe alone is read where the caller asks for the old rule: rate 0, one multiframe, 24 frames of speech, end 0

@@ -413,5 +413,5 @@ pub past-255 : (ch : Choices) (index report : List ℕ)
     → reading ch (inverseFirst ∷ inverseSecond ∷ (octetsOf (blanks mostMultiframes) ++ sync)) zeroTables index report
     ≡ reading ch (octetsOf (blanks mostMultiframes) ++ sync) zeroTables index report → ⊥
 past-255 ch index report =
-    not-past-255 ch zeroTables index report (lent-zeros 1 .codebook-size, lent-zeros 1 .thresholds-size) (blanks mostMultiframes) []
+    not-past-255 ch zeroTables index report (lent-zeros 1 .right-tables) (blanks mostMultiframes) []
     (blanks-proper mostMultiframes) (blanks-count mostMultiframes .0) (blanks-count mostMultiframes .1)

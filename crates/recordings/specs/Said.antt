@@ -11,14 +11,16 @@ use lib.ListN.{getD, replicate, length-replicate}
 use borrow.Author.Tests.{ltb-true}
 use Rattle.lists.specs.Tests.{when, true-false, all-holds}
 use Rattle.lists.specs.Rows.{joined}
+use Rattle.lists.specs.Search.{firstFrom}
 use Rattle.layout.specs.Layout.{frameIndices, indexOctets, reportOctets, thresholdNumbers, firstFrame, secondFrame}
-use Rattle.consistency.specs.Tables.{Tables, tablesOf}
+use Rattle.consistency.specs.Tables.{Tables, tablesOf, RightTables}
+use Rattle.consistency.specs.Admitted.{none-by-test}
 use Rattle.settings.specs.Settings.{settings}
 use Rattle.frames.specs.Frames.{zeroFrame}
 use Rattle.packet.specs.Packet.{row, frameAt}
 use Rattle.consistency.specs.Consistency.{flagged, flags, inconsistent}
 use Rattle.image.specs.Made.{Small}
-use Rattle.writer.specs.Writing.{verdict, roomAnswer, firstFrom, needed}
+use Rattle.writer.specs.Writing.{verdict, roomAnswer, needed}
 use Rattle.writer.specs.Utterance.{Utterance, multiframesOf}
 use Rattle.writer.specs.declared.Answer.the-variants.{Written}
 use Rattle.demands.specs.Whole.{Lent}
@@ -92,25 +94,38 @@ rises7 = record { settings = settings 0 0; indices = rising 3; small = small-oct
 pub lengths : (multiframesOf rises23 ≡ 1) × (multiframesOf rises47 ≡ 2) × (multiframesOf rises7 ≡ 1)
 lengths = (refl, refl, refl)
 
--- ---- tables under which a pair of these frames is inconsistent: entry 1 of each codebook is 0, every other is 5, and all thresholds are 4. A rise of 5
--- from the first frame to the second is flagged, a fall and no change are not
-abbrev pub stair : ℕ → List ℤ
-stair n = pos 5 ∷ pos 5 ∷ pos 0 ∷ pos 0 ∷ replicate n (pos 5)
+-- ---- tables under which a pair of these frames is inconsistent: entry 1 of each codebook is one number, every other is another, and all thresholds are 4
+abbrev pub stair : ℤ → ℤ → ℕ → List ℤ
+stair one other n = other ∷ other ∷ one ∷ one ∷ replicate n other
 
+abbrev pub steps : ℤ → ℤ → Tables
+steps one other = tablesOf (joined (λ c. stair one other 124) 6 ++ stair one other 508) (replicate thresholdNumbers (pos 4))
+
+-- from 0 to 5: each pair rises by 5 from its first frame to its second
 abbrev pub stairs : Tables
-stairs = tablesOf (joined (λ c. stair 124) 6 ++ stair 508) (replicate thresholdNumbers (pos 4))
+stairs = steps (pos 0) (pos 5)
+
+-- from 5 to 0: each falls by 5, which counts as much (02, C-12)
+abbrev pub drops : Tables
+drops = steps (pos 5) (pos 0)
+
+module _ (m : ℕ) (tables : Tables) (right : RightTables tables) where
+  lent-by : Lent m tables (indexFor m) (reportFor m)
+  lent-by = record {
+    right-tables = right;
+    index-room = le-of-eq (sym (length-replicate (indexOctets * m) 0));
+    report-room = le-of-eq (sym (length-replicate (reportOctets * m) 0));
+  }
 
 pub lent-stairs : (m : ℕ) → Lent m stairs (indexFor m) (reportFor m)
-lent-stairs m = record {
-  codebook-size = refl;
-  thresholds-size = refl;
-  index-room = le-of-eq (sym (length-replicate (indexOctets * m) 0));
-  report-room = le-of-eq (sym (length-replicate (reportOctets * m) 0));
-}
+lent-stairs m = lent-by m stairs ((refl, refl), none-by-test stairs tt)
+
+pub lent-drops : (m : ℕ) → Lent m drops (indexFor m) (reportFor m)
+lent-drops m = lent-by m drops ((refl, refl), none-by-test drops tt)
 
 -- which pairs are inconsistent: of 23 and of 47 frames all, also the last, whose second frame is padding
-abbrev inconsistentPair : List ℕ → ℕ → Bool
-inconsistentPair idx q = inconsistent stairs (frameAt idx (firstFrame q)) (frameAt idx (secondFrame q))
+abbrev inconsistentPair : Tables → List ℕ → ℕ → Bool
+inconsistentPair tables idx q = inconsistent tables (frameAt idx (firstFrame q)) (frameAt idx (secondFrame q))
 
 is-true : (b : Bool) → T b → b ≡ true
 is-true true t = refl
@@ -118,16 +133,21 @@ is-true false t = absurd t
 
 pub inconsistent-23 : (q : ℕ) → q < 12 → inconsistent stairs (frameAt (rising 11) (firstFrame q)) (frameAt (rising 11) (secondFrame q)) ≡ true
 unfolding inconsistent flags flagged row
-inconsistent-23 q h = is-true (inconsistentPair (rising 11) q) (all-holds (inconsistentPair (rising 11)) 12 tt q h)
+inconsistent-23 q h = is-true (inconsistentPair stairs (rising 11) q) (all-holds (inconsistentPair stairs (rising 11)) 12 tt q h)
 
 pub inconsistent-47 : (q : ℕ) → q < 24 → inconsistent stairs (frameAt (rising 23) (firstFrame q)) (frameAt (rising 23) (secondFrame q)) ≡ true
 unfolding inconsistent flags flagged row
-inconsistent-47 q h = is-true (inconsistentPair (rising 23) q) (all-holds (inconsistentPair (rising 23)) 24 tt q h)
+inconsistent-47 q h = is-true (inconsistentPair stairs (rising 23) q) (all-holds (inconsistentPair stairs (rising 23)) 24 tt q h)
+
+-- and where they fall
+pub inconsistent-47-falls : (q : ℕ) → q < 24 → inconsistent drops (frameAt (rising 23) (firstFrame q)) (frameAt (rising 23) (secondFrame q)) ≡ true
+unfolding inconsistent flags flagged row
+inconsistent-47-falls q h = is-true (inconsistentPair drops (rising 23) q) (all-holds (inconsistentPair drops (rising 23)) 24 tt q h)
 
 -- of 7 frames the first four pairs, and not the fifth, which is padding
 pub inconsistent-7 : (q : ℕ) → q < 4 → inconsistent stairs (frameAt (rising 3) (firstFrame q)) (frameAt (rising 3) (secondFrame q)) ≡ true
 unfolding inconsistent flags flagged row
-inconsistent-7 q h = is-true (inconsistentPair (rising 3) q) (all-holds (inconsistentPair (rising 3)) 4 tt q h)
+inconsistent-7 q h = is-true (inconsistentPair stairs (rising 3) q) (all-holds (inconsistentPair stairs (rising 3)) 4 tt q h)
 
 pub consistent-7 : inconsistent stairs (frameAt (rising 3) (firstFrame 4)) (frameAt (rising 3) (secondFrame 4)) ≡ false
 unfolding inconsistent flags flagged row

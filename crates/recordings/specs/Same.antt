@@ -12,7 +12,7 @@ use Rattle.lists.specs.Parts.{part, over}
 use Rattle.lists.specs.Rows.{each, joined, same-each, same-joined}
 use Rattle.layout.specs.Layout.{widths, frameIndices, dataBits, multiframePairs, streamOctets, multiframeOctets, indexOctets, reportOctets, firstPair}
 use Rattle.choices.specs.declared.Choices.{Choices}
-use Rattle.consistency.specs.Tables.{Tables, tablesRight}
+use Rattle.consistency.specs.Tables.{Tables, admission, ifAdmitted}
 use Rattle.bits.specs.Bits.{value, bits}
 use Rattle.crc.specs.Crc.{right}
 use Rattle.packet.specs.Packet.{apart}
@@ -34,7 +34,6 @@ use Rattle.reader.specs.Reading.{verdict, finished, Outcome, outcome, reading, 
 use Rattle.deciding.specs.declared.Verdict.{Verdict}
 use Rattle.deciding.specs.declared.Verdict.the-variants.{Refuse, Accept}
 use Rattle.reader.specs.declared.Answer.the-variants.{Read}
-use Rattle.refusals.specs.declared.Reading.the-variants.{WrongTables}
 use Rattle.image.specs.Made.{part-within}
 
 -- two lists of octets, each with the places of as many multiframes, the k-th of the one the same as the k-th of the other
@@ -109,9 +108,9 @@ module _ (ch : Choices) (o₁ p₁ o₂ p₂ : List ℕ) (count : length p₁ �
           ∙ ap (λ (hs : List Header). settledVerdict (length p₂) (badPairs (receivedNotes o₂ p₂ tables)) (pairCount p₂) (length index) (length report) (settling ch hs))
           headers-same)
 
-      -- the verdict, if the tables have their sizes
+      -- the verdict, if the tables are right
       abbrev tabled : Verdict → Verdict
-      tabled v = when (tablesRight tables) v (Refuse WrongTables)
+      tabled v = ifAdmitted (admission tables) Refuse v
 
       -- if these are what cutting finds, and there is one, the whole outcome is the same
       pub same-read : cutting o₁ ≡ record { places = p₁; ending = whole } → cutting o₂ ≡ record { places = p₂; ending = whole } → 0 < length p₁

@@ -61,6 +61,7 @@ writing-one-case r q e = ap (λ (n : ℕ). writingOf n (writingPlace r)) (sym e)
 -- ---- the reader's
 pub reading-between : (r : Reading) → Between (readingNumber r)
 reading-between R.WrongTables = (omega arith, omega arith)
+reading-between (R.NegativeThreshold k) = (omega arith, omega arith)
 reading-between (R.Unknown p) = (omega arith, omega arith)
 reading-between (R.CutShort p) = (omega arith, omega arith)
 reading-between (R.Empty n) = (omega arith, omega arith)
@@ -77,16 +78,18 @@ reading-no-success r e = omega (arith, reading-between r)
 unfoldable pub readingOf : ℕ → ℕ → Reading
 readingOf n p =
     when (eqb n 11) R.WrongTables
+    (when (eqb n 10) (R.NegativeThreshold p)
     (when (eqb n 12) (R.Unknown p)
     (when (eqb n 13) (R.CutShort p)
     (when (eqb n 14) (R.Empty p)
     (when (eqb n 15) (R.TooMany p)
     (when (eqb n 16) R.Unsettled
-    (when (eqb n 17) R.Unfit (when (eqb n 18) (R.IndexShort p) (when (eqb n 19) (R.ReportShort p) R.AllBad))))))))
+    (when (eqb n 17) R.Unfit (when (eqb n 18) (R.IndexShort p) (when (eqb n 19) (R.ReportShort p) R.AllBad)))))))))
 
 pub reading-told : (r : Reading) → readingOf (readingNumber r) (readingPlace r) ≡ r
 unfolding readingOf
 reading-told R.WrongTables = refl
+reading-told (R.NegativeThreshold k) = refl
 reading-told (R.Unknown p) = refl
 reading-told (R.CutShort p) = refl
 reading-told (R.Empty n) = refl
@@ -143,6 +146,7 @@ huntingOf n p tested =
 pub hunting-told : (r : Hunting) → ((p : ℕ) → r ≡ G.Octets (R.TooMany p) → ⊥) → huntingOf (huntingNumber r) (huntingPlace r) (huntingTested r) ≡ r
 unfolding huntingOf readingOf
 hunting-told (G.Octets R.WrongTables) h = refl
+hunting-told (G.Octets (R.NegativeThreshold k)) h = refl
 hunting-told (G.Octets (R.Unknown p)) h = refl
 hunting-told (G.Octets (R.CutShort p)) h = refl
 hunting-told (G.Octets (R.Empty n)) h = refl

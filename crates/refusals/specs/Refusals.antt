@@ -1,4 +1,4 @@
--- The number and the place of every refusal: 01's tables of the writer and the reader, and 02's two of the hunt. The cases stand in src/.
+-- The number and the place of every refusal: 01's tables of the writer and the reader, 02's 10 of the reader and its two of the hunt. The cases stand in src/.
 -- Assumes nothing.
 use Prim.Native.Nat.{ℕ, _+_}
 use Rattle.refusals.specs.declared.Writing.{Writing}
@@ -48,9 +48,10 @@ writingPlace (W.WideIndex f) = f .0 + 1
 writingPlace (W.ZeroFrame f) = f .0 + 1
 writingPlace (W.OutputShort n) = n
 
--- ---- the reader's (01, "Reading")
+-- ---- the reader's (01, "Reading"; 10: 02, C-12)
 abbrev pub readingNumber : Reading → ℕ
 readingNumber R.WrongTables = 11
+readingNumber (R.NegativeThreshold k) = 10
 readingNumber (R.Unknown p) = 12
 readingNumber (R.CutShort p) = 13
 readingNumber (R.Empty n) = 14
@@ -63,6 +64,8 @@ readingNumber R.AllBad = 20
 
 abbrev pub readingPlace : Reading → ℕ
 readingPlace R.WrongTables = 0
+-- the first negative one's number, from 0
+readingPlace (R.NegativeThreshold k) = k
 readingPlace (R.Unknown p) = p
 readingPlace (R.CutShort p) = p
 readingPlace (R.Empty n) = n

@@ -31,9 +31,10 @@ pub enum Writing {
     OutputShort { needed: usize },
 }
 
-// Why received octets are not read: 01's refusals 11 to 20.
+// Why received octets are not read: 01's refusals 11 to 20, and 02's 10, a negative threshold, numbered from 0.
 pub enum Reading {
     WrongTables,
+    NegativeThreshold { threshold: usize },
     Unknown { place: usize },
     CutShort { place: usize },
     Empty { octets: usize },
@@ -89,12 +90,13 @@ pub fn writing_place(r: Writing) -> usize
     }
 }
 
-// reading_number gives 01's number of a reader's refusal.
+// reading_number gives the number of a reader's refusal: 01's, and 02's of a negative threshold.
 pub fn reading_number(r: Reading) -> u32
     ensures { λ n. ⌜ n ≡ readingNumber r ⌝ }
 {
     match r {
         Reading::WrongTables => 11,
+        Reading::NegativeThreshold { threshold: _ } => 10,
         Reading::Unknown { place: _ } => 12,
         Reading::CutShort { place: _ } => 13,
         Reading::Empty { octets: _ } => 14,
@@ -107,12 +109,13 @@ pub fn reading_number(r: Reading) -> u32
     }
 }
 
-// reading_place gives 01's place of a reader's refusal.
+// reading_place gives the place of a reader's refusal.
 pub fn reading_place(r: Reading) -> usize
     ensures { λ n. ⌜ n ≡ readingPlace r ⌝ }
 {
     match r {
         Reading::WrongTables => 0,
+        Reading::NegativeThreshold { threshold } => threshold,
         Reading::Unknown { place } => place,
         Reading::CutShort { place } => place,
         Reading::Empty { octets } => octets,

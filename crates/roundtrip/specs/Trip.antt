@@ -12,7 +12,8 @@ use lib.Seq.{take-at}
 use Rattle.lists.specs.Parts.{over, length-over}
 use Rattle.layout.specs.Layout.{indexOctets, reportOctets, codebookNumbers}
 use Rattle.choices.specs.Choices.{oneHeaderSettles}
-use Rattle.consistency.specs.Tables.{Tables, tablesOf, zeroTables, wrong-fails}
+use Rattle.consistency.specs.Tables.{Tables, tablesOf, zeroTables, RightSizes, FirstNegative}
+use Rattle.consistency.specs.Admitted.{wrong-sizes, negative-refused}
 use Rattle.settings.specs.declared.Settings.{Settings}
 use Rattle.settings.specs.Settings.{settings}
 use Rattle.writer.specs.Writing as W
@@ -33,7 +34,7 @@ use Rattle.reader.specs.declared.Summary.{Summary}
 use Rattle.reader.specs.declared.Answer as RA
 use Rattle.reader.specs.declared.Answer.the-variants as R
 use Rattle.refusals.specs.declared.Reading as RR
-use Rattle.refusals.specs.declared.Reading.the-variants.{WrongTables}
+use Rattle.refusals.specs.declared.Reading.the-variants.{WrongTables, NegativeThreshold}
 use Rattle.demands.specs.Whole.{Lent}
 use Rattle.demands.specs.ReadsBack.{reads-image}
 use Rattle.demands.specs.Instances.{lone, written-1, says1}
@@ -253,7 +254,19 @@ wrong-tables u tables out index report room wrong =
     as-written (u .settings) (u .indices) tables out index report (needed (u .indices))
     (accepts (u .settings) (u .indices) (length out) (a .sizes) (a .narrow-indices) (a .speaks) room)
     ∙ ap (λ (q : Outcome). made (tripOf (q .answer)) (imaged (u .settings) (u .indices) (needed (u .indices)) out) (q .index) (q .report))
-    (sym (S.wrong-tables oneHeaderSettles (imageOf u) tables index report (wrong-fails tables (λ r. wrong (r .0)))))
+    (sym (S.not-admitted oneHeaderSettles (imageOf u) tables index report WrongTables (wrong-sizes tables (λ r. wrong (r .0)))))
+
+-- and with a negative threshold, with refusal 10 (02, C-12)
+pub negative-threshold : (u : Utterance) (tables : Tables) (out index report : List ℕ) → needed (u .indices) ≤ length out → RightSizes tables
+    → (k : ℕ) → FirstNegative tables k
+    → trip (u .settings) (u .indices) tables out index report
+    ≡ made (NotRead (NegativeThreshold k)) (imaged (u .settings) (u .indices) (needed (u .indices)) out) index report
+negative-threshold u tables out index report room sized k first =
+    let a = is-accepted u in
+    as-written (u .settings) (u .indices) tables out index report (needed (u .indices))
+    (accepts (u .settings) (u .indices) (length out) (a .sizes) (a .narrow-indices) (a .speaks) room)
+    ∙ ap (λ (q : Outcome). made (tripOf (q .answer)) (imaged (u .settings) (u .indices) (needed (u .indices)) out) (q .index) (q .report))
+    (sym (S.not-admitted oneHeaderSettles (imageOf u) tables index report (NegativeThreshold k) (negative-refused tables k sized first)))
 
 -- so is 01's frame 1 with no codebook at all: its 144 octets stand in the output, and the octet beyond is as it came
 pub unread-1 : trip (settings 0 0) (lone 1) (tablesOf [] (zeroTables .thresholds)) (replicate 145 255) (indexFor 1) (reportFor 1)

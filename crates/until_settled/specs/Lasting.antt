@@ -15,7 +15,7 @@ use Rattle.choices.specs.Choices.{oneSettles}
 use Rattle.choices.specs.declared.Choices.{Choices}
 use Rattle.message.specs.Message.{settingsOf}
 use Rattle.refusals.specs.declared.Reading.{Reading as Refusal}
-use Rattle.refusals.specs.declared.Reading.the-variants.{WrongTables, Unknown, CutShort, Empty, TooMany, Unsettled, Unfit, IndexShort, ReportShort, AllBad}
+use Rattle.refusals.specs.declared.Reading.the-variants.{WrongTables, NegativeThreshold, Unknown, CutShort, Empty, TooMany, Unsettled, Unfit, IndexShort, ReportShort, AllBad}
 use Rattle.cutting.specs.declared.Piece.{Piece}
 use Rattle.cutting.specs.declared.Piece.the-variants as P
 use Rattle.cutting.specs.Cutting.{Ending, whole, refused, Cutting, ended, step, cutting}
@@ -37,6 +37,7 @@ abbrev pub OfTwo : Choices → Answer → Type 0
 OfTwo ch (Read b) = (oneSettles ch ≡ false) ⊎ (2 ≤ b .multiframes)
 OfTwo ch (Refused Unfit) = oneSettles ch ≡ false
 OfTwo ch (Refused WrongTables) = ⊥
+OfTwo ch (Refused (NegativeThreshold k)) = ⊥
 OfTwo ch (Refused (Unknown p)) = ⊥
 OfTwo ch (Refused (CutShort p)) = ⊥
 OfTwo ch (Refused (Empty n)) = ⊥
@@ -50,6 +51,7 @@ module _ (ch : Choices) (s : List ℕ) (of-two : OfTwo ch (untilSettled ch s)) w
   -- what cutting refuses does not come of two headers
   cut-not : (r : Refusal) → Reason s r → OfTwo ch (Refused r) → ⊥
   cut-not WrongTables h t = h
+  cut-not (NegativeThreshold k) h t = h
   cut-not (Unknown p) h t = t
   cut-not (CutShort p) h t = t
   cut-not (Empty n) h t = h

@@ -18,7 +18,7 @@ use Rattle.settings.specs.Settings.{settingsRight}
 use Rattle.message.specs.Message.{rateOf, typeOf, settingsOf}
 use Rattle.message.specs.Message.Laws.{rate-lt, type-lt}
 use Rattle.refusals.specs.declared.Reading.{Reading as Refusal}
-use Rattle.refusals.specs.declared.Reading.the-variants.{WrongTables, Unknown, CutShort, Empty, TooMany, Unsettled, Unfit, IndexShort, ReportShort, AllBad}
+use Rattle.refusals.specs.declared.Reading.the-variants.{WrongTables, NegativeThreshold, Unknown, CutShort, Empty, TooMany, Unsettled, Unfit, IndexShort, ReportShort, AllBad}
 use Rattle.header.specs.declared.Header.{Header}
 use Rattle.cutting.specs.Cutting.{Ending, whole, refused, Cutting, ended, walk, cutting}
 use Rattle.cutting.specs.Laws.{places-placed, at-most-255}
@@ -220,9 +220,10 @@ module _ (s : List ℕ) (c : ℕ) (a : Agreed s c) (k : ℕ) (cut : k < settling
         | no y ↦ none-met (omega arith)
       ]
 
--- ---- which refusals come: 12 to 17, and never 11 or 18 to 20
+-- ---- which refusals come: 12 to 17, and never 11, 10 or 18 to 20
 abbrev pub Comes : Refusal → Type 0
 Comes WrongTables = ⊥
+Comes (NegativeThreshold k) = ⊥
 Comes (Unknown p) = Unit
 Comes (CutShort p) = Unit
 Comes (Empty n) = Unit
@@ -239,6 +240,7 @@ AnswerComes (Refused r) = Comes r
 
 reason-comes : (s : List ℕ) (r : Refusal) → Reason s r → Comes r
 reason-comes s WrongTables h = h
+reason-comes s (NegativeThreshold k) h = h
 reason-comes s (Unknown p) h = tt
 reason-comes s (CutShort p) h = tt
 reason-comes s (Empty n) h = tt

@@ -20,7 +20,7 @@ use Rattle.consistency.specs.Tables.{Tables, RightTables}
 use Rattle.refusals.specs.Laws.{reading-no-success}
 use Rattle.refusals.specs.Refusals.{noSuchChoice, noRoom, readingNumber, readingPlace}
 use Rattle.refusals.specs.declared.Reading.{Reading as Refusal}
-use Rattle.refusals.specs.declared.Reading.the-variants.{WrongTables, Unknown, CutShort, Empty, TooMany, Unsettled, Unfit, IndexShort, ReportShort, AllBad}
+use Rattle.refusals.specs.declared.Reading.the-variants.{WrongTables, NegativeThreshold, Unknown, CutShort, Empty, TooMany, Unsettled, Unfit, IndexShort, ReportShort, AllBad}
 use Rattle.settling.specs.Settling.{firstAgreeing}
 use Rattle.settling.specs.declared.Settlement.the-variants as S
 use Rattle.writer.specs.Utterance.{Utterance}
@@ -80,34 +80,35 @@ module _ (octets answer : List ℕ) (place : ℕ) where
       by true = refl
       by false = refl
 
-  -- NEITHER 11 NOR 18 TO 20 IS EVER RETURNED
+  -- NEITHER 11, 10 NOR 18 TO 20 IS EVER RETURNED: no tables and no buffers are lent
   abbrev Never : ℕ → Type 0
-  Never n = (n ≡ 11 → ⊥) × (n ≡ 18 → ⊥) × (n ≡ 19 → ⊥) × (n ≡ 20 → ⊥)
+  Never n = (n ≡ 10 → ⊥) × (n ≡ 11 → ⊥) × (n ≡ 18 → ⊥) × (n ≡ 19 → ⊥) × (n ≡ 20 → ⊥)
 
   comes-never : (r : Refusal) → Comes r → Never (readingNumber r)
   comes-never WrongTables c = absurd c
-  comes-never (Unknown p) c = (λ e. omega arith, λ e. omega arith, λ e. omega arith, λ e. omega arith)
-  comes-never (CutShort p) c = (λ e. omega arith, λ e. omega arith, λ e. omega arith, λ e. omega arith)
-  comes-never (Empty n) c = (λ e. omega arith, λ e. omega arith, λ e. omega arith, λ e. omega arith)
-  comes-never (TooMany p) c = (λ e. omega arith, λ e. omega arith, λ e. omega arith, λ e. omega arith)
-  comes-never Unsettled c = (λ e. omega arith, λ e. omega arith, λ e. omega arith, λ e. omega arith)
-  comes-never Unfit c = (λ e. omega arith, λ e. omega arith, λ e. omega arith, λ e. omega arith)
+  comes-never (NegativeThreshold k) c = absurd c
+  comes-never (Unknown p) c = (λ e. omega arith, λ e. omega arith, λ e. omega arith, λ e. omega arith, λ e. omega arith)
+  comes-never (CutShort p) c = (λ e. omega arith, λ e. omega arith, λ e. omega arith, λ e. omega arith, λ e. omega arith)
+  comes-never (Empty n) c = (λ e. omega arith, λ e. omega arith, λ e. omega arith, λ e. omega arith, λ e. omega arith)
+  comes-never (TooMany p) c = (λ e. omega arith, λ e. omega arith, λ e. omega arith, λ e. omega arith, λ e. omega arith)
+  comes-never Unsettled c = (λ e. omega arith, λ e. omega arith, λ e. omega arith, λ e. omega arith, λ e. omega arith)
+  comes-never Unfit c = (λ e. omega arith, λ e. omega arith, λ e. omega arith, λ e. omega arith, λ e. omega arith)
   comes-never (IndexShort n) c = absurd c
   comes-never (ReportShort n) c = absurd c
   comes-never AllBad c = absurd c
 
   answered-never : (ch : Choices) (x : Answer) → untilSettled ch octets ≡ x → Never (answered settleNumbers answer place [] [] (settleTold x) .number)
-  answered-never ch (Read b) e = (λ e. omega arith, λ e. omega arith, λ e. omega arith, λ e. omega arith)
+  answered-never ch (Read b) e = (λ e. omega arith, λ e. omega arith, λ e. omega arith, λ e. omega arith, λ e. omega arith)
   answered-never ch (Refused r) e = comes-never r (comes ch octets r e)
 
   pub c-settle-never : (q : Asked) → Never (dsrSettle octets q answer place .number)
   unfolding returning unchosen
   c-settle-never (For ch) =
-      by-test (λ (x : Returned). Never (x .number)) (ltb (length answer) settleNumbers) (λ h. (λ e. omega arith, λ e. omega arith, λ e. omega arith, λ e. omega arith))
+      by-test (λ (x : Returned). Never (x .number)) (ltb (length answer) settleNumbers) (λ h. (λ e. omega arith, λ e. omega arith, λ e. omega arith, λ e. omega arith, λ e. omega arith))
       (λ h. answered-never ch (untilSettled ch octets) refl)
   c-settle-never NoSuchChoice =
-      by-test (λ (x : Returned). Never (x .number)) (ltb (length answer) settleNumbers) (λ h. (λ e. omega arith, λ e. omega arith, λ e. omega arith, λ e. omega arith))
-      (λ h. (λ e. omega arith, λ e. omega arith, λ e. omega arith, λ e. omega arith))
+      by-test (λ (x : Returned). Never (x .number)) (ltb (length answer) settleNumbers) (λ h. (λ e. omega arith, λ e. omega arith, λ e. omega arith, λ e. omega arith, λ e. omega arith))
+      (λ h. (λ e. omega arith, λ e. omega arith, λ e. omega arith, λ e. omega arith, λ e. omega arith))
 
   -- ---- THE OCTETS BEHIND THE SETTLING MULTIFRAME DO NOT COUNT, whatever is asked for and lent
   pub c-only-the-front : (c : ℕ) → Agreed octets c → (t : List ℕ) → take (settlingEnd octets) t ≡ take (settlingEnd octets) octets

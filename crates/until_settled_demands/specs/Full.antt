@@ -9,12 +9,13 @@ use mathlib.Core.List.{List, []}
 use mathlib.Core.Bool.{Bool, true, false}
 use lib.ListN.{length}
 use native.Mathlib.Omega.{arith}
+use Rattle.lists.specs.Tests.{true-false}
 use Rattle.choices.specs.declared.Choices.{Choices}
 use Rattle.settings.specs.declared.Settings.{Settings}
 use Rattle.consistency.specs.Tables.{Tables, RightTables}
 use Rattle.message.specs.Message.{settingsOf}
 use Rattle.refusals.specs.declared.Reading.{Reading as Refusal}
-use Rattle.refusals.specs.declared.Reading.the-variants.{WrongTables, Unknown, CutShort, Empty, TooMany, Unsettled, Unfit, IndexShort, ReportShort, AllBad}
+use Rattle.refusals.specs.declared.Reading.the-variants.{WrongTables, NegativeThreshold, Unknown, CutShort, Empty, TooMany, Unsettled, Unfit, IndexShort, ReportShort, AllBad}
 use Rattle.cutting.specs.Cutting.{whole, refused, cutting}
 use Rattle.cutting.specs.Reached.{ends-exactly, whole-exactly}
 use Rattle.settling.specs.Settling.{readings, firstAgreeing, settling, unfit}
@@ -63,8 +64,9 @@ module _ (ch : Choices) (s : List ℕ) where
   -- what each answer of the full reading says of the answer before the end
   abbrev pub FullSays : RA.Answer → Type 0
   FullSays (R.Read g) = Answers (g .settings) (g .multiframes)
-  -- 11 is of the tables, which are not lent here
+  -- 11 and 10 are of the tables, which are not lent here
   FullSays (R.Refused WrongTables) = Unit
+  FullSays (R.Refused (NegativeThreshold k)) = Unit
   FullSays (R.Refused (Unknown p)) = CutSays (Unknown p)
   FullSays (R.Refused (CutShort p)) = CutSays (CutShort p)
   FullSays (R.Refused (TooMany p)) = CutSays (TooMany p)
@@ -140,6 +142,7 @@ module _ (ch : Choices) (s : List ℕ) (tables : Tables) (index report : List �
 
   refused-says : (r : Refusal) → Given ch s tables (length index) (length report) r → FullSays ch s (R.Refused r)
   refused-says WrongTables g = tt
+  refused-says (NegativeThreshold k) g = tt
   refused-says (Unknown p) g = cut-answers ch s (Unknown p) (ends-exactly s (refused (Unknown p)) .1 (g .1))
   refused-says (CutShort p) g = cut-answers ch s (CutShort p) (ends-exactly s (refused (CutShort p)) .1 (g .1))
   refused-says (TooMany p) g = cut-answers ch s (TooMany p) (ends-exactly s (refused (TooMany p)) .1 (g .1))
@@ -164,7 +167,7 @@ module _ (ch : Choices) (s : List ℕ) (tables : Tables) (index report : List �
   pub full-settings : (g : Summary) → reading ch s tables index report .answer ≡ R.Read g → Answers ch s (g .settings) (g .multiframes)
   full-settings g e = subst (FullSays ch s) e full
 
-  -- "IF NOTHING SETTLES BEFORE THE END IT REFUSES AS THE FULL READING DOES", if the tables are right: 11 comes first there
+  -- "IF NOTHING SETTLES BEFORE THE END IT REFUSES AS THE FULL READING DOES", if the tables are right: 11 and 10 come first there
   pub refuses-as-full : RightTables tables → firstAgreeing [] (headers s) ≡ S.Unsettled → (r : Refusal) → untilSettled ch s ≡ Refused r
       → reading ch s tables index report .answer ≡ R.Refused r
   refuses-as-full right none r e = by (reading ch s tables index report .answer) refl full
@@ -181,7 +184,9 @@ module _ (ch : Choices) (s : List ℕ) (tables : Tables) (index report : List �
 
       by : (a : RA.Answer) → reading ch s tables index report .answer ≡ a → FullSays ch s a → a ≡ R.Refused r
       by (R.Read g) ea h = absurd (differ _ (h .answer))
-      by (R.Refused WrongTables) ea h = absurd (refused-exactly ch s tables index report WrongTables .0 ea right)
+      by (R.Refused WrongTables) ea h = absurd (refused-exactly ch s tables index report WrongTables .0 ea (right .0))
+      by (R.Refused (NegativeThreshold k)) ea h =
+          let g = refused-exactly ch s tables index report (NegativeThreshold k) .0 ea in absurd (true-false (sym (g .1 .1) ∙ right .1 k (g .1 .0)))
       by (R.Refused (Unknown p)) ea h = cut (Unknown p) h
       by (R.Refused (CutShort p)) ea h = cut (CutShort p) h
       by (R.Refused (TooMany p)) ea h = cut (TooMany p) h

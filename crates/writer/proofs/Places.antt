@@ -8,11 +8,11 @@ use lib.Dec.{eqb, ltb}
 use lib.ListN.{length}
 use borrow.Author.Tests.{ltb-false}
 use Rattle.lists.specs.Tests.{by-test}
+use Rattle.lists.specs.Search.{Search, at, nowhere, Says, first-says}
 use Rattle.settings.specs.declared.Settings.{Settings}
 use Rattle.settings.specs.Settings.{settingsRight}
 use Rattle.layout.specs.Layout.{frameIndices, mostFrames}
-use Rattle.writer.specs.Writing.{Search, at, nowhere, numberOf, placeOf, frameCount, isWide, endsEarly, firstWide, firstEarly, roomAnswer, earlyAnswer, wideAnswer, needed, verdict, Outcome, finished, writing}
-use Rattle.writer.specs.Laws.{Says, first-says}
+use Rattle.writer.specs.Writing.{numberOf, placeOf, frameCount, isWide, endsEarly, firstWide, firstEarly, roomAnswer, earlyAnswer, wideAnswer, needed, verdict, Outcome, finished, writing}
 use Rattle.writer.specs.declared.Answer.{Answer}
 use Rattle.writer.specs.declared.Answer.the-variants.{Written, Refused}
 

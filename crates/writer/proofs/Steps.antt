@@ -8,38 +8,14 @@ use native.Mathlib.Omega.{arith}
 use lib.ListN.{length}
 use Rattle.lists.specs.Tests.{when}
 use Rattle.lists.specs.Parts.{over}
+use Rattle.lists.specs.Search.{at, nowhere, firstFrom, Passed, search-begin, search-end, hit, on}
 use Rattle.settings.specs.declared.Settings.{Settings}
 use Rattle.layout.specs.Layout.{frameIndices, multiframeOctets}
 use Rattle.image.specs.Image.{image}
-use Rattle.writer.specs.Writing.{at, nowhere, firstFrom, frameCount, verdict, multiframesFor, outcome, writing}
+use Rattle.writer.specs.Writing.{frameCount, verdict, multiframesFor, outcome, writing}
 use Rattle.refusals.specs.declared.Writing.{Writing as Refusal}
 use Rattle.writer.specs.declared.Answer.the-variants.{Written, Refused}
 use Rattle.writer.specs.Laws.{accepted}
-
--- ---- a search that has passed i of n places
-module _ (f : ℕ → Bool) (k n i : ℕ) where
-  -- so far nothing: what the whole finds is what the rest finds
-  abbrev pub Passed : Type 0
-  Passed = (i ≤ n) × (firstFrom f k n ≡ firstFrom f (k + i) (n - i))
-
-  ahead : i < n → firstFrom f (k + i) (n - i) ≡ when (f (k + i)) (at (k + i)) (firstFrom f (k + i + 1) (n - (i + 1)))
-  unfolding firstFrom
-  ahead h = let e : n - i ≡ suc (n - (i + 1)) = omega arith in ap (firstFrom f (k + i)) e
-
-  pub search-hit : Passed → i < n → f (k + i) ≡ true → firstFrom f k n ≡ at (k + i)
-  search-hit p h t = p .1 ∙ ahead h ∙ rw t
-
-pub search-begin : (f : ℕ → Bool) (k n : ℕ) → Passed f k n 0
-search-begin f k n = let e : k + 0 ≡ k = omega arith in let g : n - 0 ≡ n = omega arith in (omega arith, sym (ap (λ (x : ℕ). firstFrom f x (n - 0)) e ∙ ap (firstFrom f k) g))
-
-pub search-on : (f : ℕ → Bool) (k n i : ℕ) → Passed f k n i → i < n → f (k + i) ≡ false → Passed f k n (i + 1)
-search-on f k n i p h t =
-    let e : k + i + 1 ≡ k + (i + 1) = omega arith in
-    (omega arith, p .1 ∙ ahead f k n i h ∙ rw t (ap (λ (x : ℕ). firstFrom f x (n - (i + 1))) e))
-
-pub search-end : (f : ℕ → Bool) (k n i : ℕ) → Passed f k n i → n ≤ i → firstFrom f k n ≡ nowhere
-unfolding firstFrom
-search-end f k n i p h = let e : n - i ≡ 0 = omega arith in p .1 ∙ ap (firstFrom f (k + i)) e
 
 -- ---- a loop over all frames that stops at the first that passes a test, whatever the test: k of them did not
 abbrev pub PassedFrames : (List ℕ → ℕ → Bool) → List ℕ → ℕ → ℕ → Type 0
@@ -51,10 +27,10 @@ frames-begin test idx = (omega arith, search-begin (test idx) 0 (frameCount idx)
 -- r is what the code's test says of frame k
 module _ (test : List ℕ → ℕ → Bool) (idx : List ℕ) (frames k : ℕ) (p : PassedFrames test idx frames k) where
   pub frame-hit : k < frames → (r : Bool) → r ≡ test idx k → r ≡ true → at k ≡ firstFrom (test idx) 0 frames
-  frame-hit h r e t = let z : 0 + k ≡ k = omega arith in sym (search-hit (test idx) 0 frames k (p .1) h (ap (test idx) z ∙ sym e ∙ t) ∙ ap at z)
+  frame-hit h r e t = sym (hit (test idx) frames k (p .1) r e h t)
 
   pub frame-on : k < frames → (r : Bool) → r ≡ test idx k → r ≡ false → PassedFrames test idx frames (k + 1)
-  frame-on h r e t = let z : 0 + k ≡ k = omega arith in (p .0, search-on (test idx) 0 frames k (p .1) h (ap (test idx) z ∙ sym e ∙ t))
+  frame-on h r e t = (p .0, on (test idx) frames k (p .1) r e h t)
 
   pub frames-end : frames ≤ k → nowhere ≡ firstFrom (test idx) 0 frames
   frames-end h = sym (search-end (test idx) 0 frames k (p .1) h)

@@ -10,11 +10,12 @@ use lib.ListN.{length}
 use lib.Dec.{eqb, ltb}
 use borrow.Author.Tests.{eq-eqb, ne-eqb, lt-ltb, le-ltb, eqb-true, ltb-false}
 use Rattle.lists.specs.Tests.{by-test}
+use Rattle.lists.specs.Search.{Search, at, nowhere}
 use Rattle.settings.specs.declared.Settings.{Settings}
 use Rattle.settings.specs.Settings.{settingsRight}
 use Rattle.layout.specs.Layout.{frameIndices, multiframeFrames, mostFrames, mostMultiframes}
 use Rattle.frames.specs.Frames.{zeroFrame}
-use Rattle.writer.specs.Writing.{Search, at, nowhere, firstFrom, frameCount, endsEarly, firstWide, firstEarly, roomAnswer, earlyAnswer, wideAnswer, needed, verdict, multiframesFor}
+use Rattle.writer.specs.Writing.{frameCount, endsEarly, firstWide, firstEarly, roomAnswer, earlyAnswer, wideAnswer, needed, verdict, multiframesFor}
 use Rattle.writer.specs.declared.Answer.{Answer}
 use Rattle.refusals.specs.declared.Writing.the-variants.{WrongSettings, PartFrame, TooMany, WideIndex, ZeroFrame, OutputShort}
 use Rattle.writer.specs.declared.Answer.the-variants.{Written, Refused}
@@ -36,29 +37,6 @@ module _ (idx : List ℕ) (k : ℕ) where
 
   pub early-never : (k + 1 ≡ frameCount idx → ⊥) → ((k + 1) % multiframeFrames ≡ 0 → ⊥) → endsEarly idx k ≡ false
   early-never n m = rw (ne-eqb (k + 1) (frameCount idx) n, ne-eqb ((k + 1) % multiframeFrames) 0 m)
-
--- ---- what a search says
-abbrev pub Says : (ℕ → Bool) → ℕ → ℕ → Search → Type 0
-Says f k n (at j) = (k ≤ j) × (j < k + n) × (f j ≡ true) × ((i : ℕ) → k ≤ i → i < j → f i ≡ false)
-Says f k n nowhere = (i : ℕ) → k ≤ i → i < k + n → f i ≡ false
-
-one-more : (f : ℕ → Bool) (k n : ℕ) (s : Search) → f k ≡ false → Says f (k + 1) n s → Says f k (suc n) s
-one-more f k n (at j) e h =
-    (omega (arith, h .0), omega (arith, h .1), h .2, λ i a b. elim (ℕ-discrete i k) [ yes p ↦ ap f p ∙ e | no d ↦ h .3 i (omega arith) b ])
-one-more f k n nowhere e h = λ i a b. elim (ℕ-discrete i k) [ yes p ↦ ap f p ∙ e | no d ↦ h i (omega arith) (omega arith) ]
-
--- the first place from k on at which the test holds, and nowhere exactly if it holds at none of the n
-pub first-says : (f : ℕ → Bool) (k n : ℕ) → Says f k n (firstFrom f k n)
-unfolding firstFrom
-first-says f k zero = λ i a b. absurd (omega arith)
-first-says f k (suc n) =
-    by-test (Says f k (suc n)) (f k) (λ e. (omega arith, omega arith, e, λ i a b. absurd (omega arith))) (λ e. one-more f k n (firstFrom f (k + 1) n) e (first-says f (k + 1) n))
-
-pub first-at : (f : ℕ → Bool) (k n j : ℕ) → firstFrom f k n ≡ at j → Says f k n (at j)
-first-at f k n j e = subst (Says f k n) e (first-says f k n)
-
-pub first-nowhere : (f : ℕ → Bool) (k n : ℕ) → firstFrom f k n ≡ nowhere → (i : ℕ) → k ≤ i → i < k + n → f i ≡ false
-first-nowhere f k n e = subst (Says f k n) e (first-says f k n)
 
 -- ---- the answers, one by one, in 01's order
 -- the settings are right, the frames whole and not too many

@@ -13,6 +13,7 @@ use lib.Seq.{ext-getD}
 use borrow.Author.Tests.{eqb-false, ltb-false}
 use Rattle.lists.specs.Tests.{true-false}
 use Rattle.lists.specs.Parts.{part, over}
+use Rattle.lists.specs.Search.{Search, at, nowhere, firstFrom, isFound, first-nowhere}
 use Rattle.settings.specs.declared.Settings.{Settings}
 use Rattle.settings.specs.Settings.{settingsRight, rate-right, kind-right, right-not-2}
 use Rattle.layout.specs.Layout.{widths, frameIndices, mostNarrow, multiframeFrames, multiframePairs, multiframeOctets, headerOctets, streamOctets, firstFrame, secondFrame, multiframeOf, firstPair, sync}
@@ -27,8 +28,8 @@ use Rattle.message.specs.Message.Laws.{message-lt, settings-back}
 use Rattle.image.specs.Image.{image}
 use Rattle.image.specs.Made.{wordIn, packetIn, Small}
 use Rattle.image.specs.Laws.{length-image, image-word, image-packet}
-use Rattle.writer.specs.Writing.{Search, at, nowhere, firstFrom, isFound, frameCount, isWide, endsEarly, multiframesFor, needed, verdict, outcome, finished, writing}
-use Rattle.writer.specs.Laws.{first-nowhere, early-last, early-boundary, Accepted, accepted, accepts}
+use Rattle.writer.specs.Writing.{frameCount, isWide, endsEarly, multiframesFor, needed, verdict, outcome, finished, writing}
+use Rattle.writer.specs.Laws.{early-last, early-boundary, Accepted, accepted, accepts}
 use Rattle.writer.specs.declared.Answer.{Answer}
 use Rattle.refusals.specs.declared.Writing.{Writing as Refusal}
 use Rattle.writer.specs.declared.Answer.the-variants.{Written, Refused}

@@ -8,6 +8,7 @@ use lib.Dec.{eqb, ltb}
 use lib.ListN.{length, getD}
 use Rattle.lists.specs.Tests.{when}
 use Rattle.lists.specs.Parts.{over}
+use Rattle.lists.specs.Search.{Search, at, nowhere, firstFrom, isFound}
 use Rattle.settings.specs.declared.Settings.{Settings}
 use Rattle.settings.specs.Settings.{settingsRight}
 use Rattle.layout.specs.Layout.{frameIndices, mostNarrow, multiframeFrames, multiframeOctets, mostFrames}
@@ -26,20 +27,6 @@ numberOf (Refused r) = writingNumber r
 abbrev pub placeOf : Answer → ℕ
 placeOf (Written n) = n
 placeOf (Refused r) = writingPlace r
-
--- ---- the first place at which a test holds
-pub data Search : Type 0 where
-  at : ℕ → Search
-  nowhere : Search
-
--- among the n places from k on
-unfoldable pub firstFrom : (ℕ → Bool) → ℕ → ℕ → Search
-firstFrom f k zero = nowhere
-firstFrom f k (suc n) = when (f k) (at k) (firstFrom f (k + 1) n)
-
-abbrev pub isFound : Search → Bool
-isFound (at k) = true
-isFound nowhere = false
 
 -- ---- frames
 abbrev pub frameCount : List ℕ → ℕ

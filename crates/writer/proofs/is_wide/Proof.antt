@@ -6,11 +6,10 @@ use Prim.Native.Nat.{ℕ, _+_, _-_, _*_, _≤_, _<_}
 use native.Mathlib.Omega.{arith}
 use lib.Dec.{eqb, ltb}
 use lib.ListN.{length, getD}
+use Rattle.lists.specs.Search.{isFound, Passed, search-begin, search-hit, search-on, search-end}
 use Rattle.layout.specs.Layout.{frameIndices, mostNarrow}
 use borrow.Author.Needs.{needs}
 use borrow.Author.Tests.{eq-eqb, ne-eqb, lt-ltb, le-ltb}
-use Rattle.writer.specs.Writing.{isFound}
-use Rattle.writer.proofs.Steps.{Passed, search-begin, search-hit, search-on, search-end}
 use Rattle.writer.proofs.is_wide.Statement.{statement}
 use Rattle.writer.proofs.is_wide.Tie as tie
 
