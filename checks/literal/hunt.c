@@ -1,4 +1,4 @@
-/* The hunt, and the reading that hunts (02, C-13). */
+/* The hunt, and the reading that hunts (02, C-12 and C-13). */
 #include <string.h>
 
 #include "literal.h"
@@ -95,6 +95,11 @@ uint32_t literal_read_bits(const uint8_t *octets, size_t octets_len, uint64_t fr
     if (codebook_len != CODEBOOK_NUMBERS || thresholds_len != THRESHOLD_NUMBERS) {
         *place = 0;
         return 11;
+    }
+    size_t negative = literal_first_negative(thresholds);
+    if (negative < THRESHOLD_NUMBERS) {
+        *place = negative;
+        return 10;
     }
     uint32_t number = hunt_all(octets, octets_len, from, least, &g, place);
     if (number != 0) return number;

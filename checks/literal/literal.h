@@ -46,6 +46,9 @@ void literal_unpack(const uint8_t *stream, uint8_t *indices, uint8_t *notes);
 uint32_t literal_write(uint64_t rate, uint64_t type, const uint8_t *indices, size_t indices_len, uint8_t *out, size_t out_len,
                         uint64_t *place);
 
+/* The first negative threshold's number, from 0; 14 if none is negative (02, C-12). */
+size_t literal_first_negative(const int32_t *thresholds);
+
 /* `one_header_settles` asks for the rule that was 01's: an only multiframe whose header is a codeword settles (02, C-20). */
 uint32_t literal_read(const uint8_t *octets, size_t octets_len, int one_header_settles, const int32_t *codebook, size_t codebook_len,
                        const int32_t *thresholds, size_t thresholds_len, uint8_t *index, size_t index_len, uint8_t *report,

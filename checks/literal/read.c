@@ -1,4 +1,4 @@
-/* The reader (01, "Reading"; 02, C-20). */
+/* The reader (01, "Reading"; 02, C-12 and C-20). */
 #include <string.h>
 
 #include "literal.h"
@@ -69,13 +69,26 @@ static int settle(const struct utterance *u, int one_header_settles, uint16_t *c
     return 0;
 }
 
+size_t literal_first_negative(const int32_t *thresholds) {
+    size_t i = 0;
+    while (i < THRESHOLD_NUMBERS && thresholds[i] >= 0) i++;
+    return i;
+}
+
+/* Whether the absolute difference exceeds the threshold (02, C-12). The exact difference is meant; it may need 33 bits. */
+static int exceeds(int32_t first, int32_t second, int32_t threshold) {
+    int64_t difference = (int64_t)second - first;
+    int64_t absolute = difference < 0 ? -difference : difference;
+    return absolute > threshold;
+}
+
 /* A pair is inconsistent if at least two of its seven index pairs are flagged. */
 static int inconsistent(const uint8_t *pair, const int32_t *codebook, const int32_t *thresholds) {
     unsigned flagged = 0;
     for (unsigned c = 0; c < FRAME_INDICES; c++) {
         const int32_t *first = codebook + 128 * c + 2 * pair[c];
         const int32_t *second = codebook + 128 * c + 2 * pair[FRAME_INDICES + c];
-        if ((int64_t)second[0] - first[0] > thresholds[2 * c] || (int64_t)second[1] - first[1] > thresholds[2 * c + 1]) flagged++;
+        if (exceeds(first[0], second[0], thresholds[2 * c]) || exceeds(first[1], second[1], thresholds[2 * c + 1])) flagged++;
     }
     return flagged >= 2;
 }
@@ -136,6 +149,8 @@ uint32_t literal_read(const uint8_t *octets, size_t octets_len, int one_header_s
     uint16_t common = 0;
     uint64_t cut_at = 0;
     if (codebook_len != CODEBOOK_NUMBERS || thresholds_len != THRESHOLD_NUMBERS) return refuse(place, 11, 0);
+    size_t negative = literal_first_negative(thresholds);
+    if (negative < THRESHOLD_NUMBERS) return refuse(place, 10, negative);
     uint32_t number = cut(octets, octets_len, &u, &cut_at);
     if (number != 0) return refuse(place, number, cut_at);
     if (u.m == 0) return refuse(place, 14, octets_len);
