@@ -28,10 +28,10 @@ extern "C" {
 /* DSR_VERSION is this header's version as a number that grows, DSR_VERSION_TEXT the same to print. An incompatible change raises the major
  * number; while that is 0, the minor one. */
 #define DSR_VERSION_MAJOR 0
-#define DSR_VERSION_MINOR 3
-#define DSR_VERSION_PATCH 1
+#define DSR_VERSION_MINOR 4
+#define DSR_VERSION_PATCH 0
 #define DSR_VERSION (DSR_VERSION_MAJOR * 10000 + DSR_VERSION_MINOR * 100 + DSR_VERSION_PATCH)
-#define DSR_VERSION_TEXT "0.3.1"
+#define DSR_VERSION_TEXT "0.4.0"
 
 /* DSR_MULTIFRAME_OCTETS is the size of a multiframe: sync 2, header 4, feature stream 138. */
 #define DSR_MULTIFRAME_OCTETS 144
@@ -86,6 +86,8 @@ enum dsr_status {
     /* DSR_WRITE_OUTPUT_SHORT: output shorter than 144m. Place: octets needed. */
     DSR_WRITE_OUTPUT_SHORT = 6,
 
+    /* DSR_READ_THRESHOLD: a negative threshold. It comes right behind DSR_READ_TABLES. Place: the first one's number, from 0. */
+    DSR_READ_THRESHOLD = 10,
     /* DSR_READ_TABLES: codebook not 1,280 or thresholds not 14. Place: 0. */
     DSR_READ_TABLES = 11,
     /* DSR_READ_UNKNOWN: octets at p begin nothing known. Place: p. */
@@ -213,10 +215,11 @@ enum dsr_note {
  * codebook 6 begins at number 768 and has 256. An entry is two numbers, its elements as above: entry j of codebook c is numbers
  * 128c + 2j and 128c + 2j + 1.
  *
- * Thresholds, 14 numbers from 0: 2c and 2c + 1 are for the two elements of codebook c, in the codebook's scale, of any sign. From the first
- * frame of a pair to the second an index is flagged if either of its elements rises by more than its threshold. At least two flagged
- * indices make a pair inconsistent, and an inconsistent pair is bad if the next pair's CRC fails or the pair before it is bad. With all
- * 1,280 and 14 numbers 0 no pair is inconsistent. */
+ * Thresholds, 14 numbers from 0: 2c and 2c + 1 are for the two elements of codebook c, in the codebook's scale, none of them negative. From
+ * the first frame of a pair to the second an index is flagged if either of its elements differs by more than its threshold, upward or
+ * downward; the difference is the exact one, which may need 33 bits. At least two flagged indices make a pair inconsistent, and an
+ * inconsistent pair is bad if the next pair's CRC fails or the pair before it is bad. With all 1,280 and 14 numbers 0 no pair is
+ * inconsistent. */
 
 /* --- the proved functions
  *
@@ -255,10 +258,11 @@ DSR_MUST_USE uint32_t dsr_write(uint64_t rate, uint64_t type, const uint8_t *ind
                                 uint64_t *place);
 
 /* dsr_read reads received octets: DSR_DONE, and answer holds the six numbers of enum dsr_answer, index the first 168m octets and report
- * the first 13m (octets beyond them stay, numbers beyond the sixth too), and *place stays; or a refusal, 11 to 20, the first that applies,
- * and *place is its place and answer, index and report stay as they came. Lend an answer of DSR_ANSWER_NUMBERS numbers; fewer are refused
- * before all else with DSR_READ_ANSWER_SHORT, and choices that are no number of enum dsr_choices next with DSR_NO_SUCH_CHOICE; then *place
- * stays too. The choices are a number of 64 bits, so that none is cut to a right one on its way.
+ * the first 13m (octets beyond them stay, numbers beyond the sixth too), and *place stays; or a refusal, 10 to 20, the first that applies:
+ * 11 comes first, then 10, then the others; and *place is its place and answer, index and report stay as they came. Lend an answer of
+ * DSR_ANSWER_NUMBERS numbers; fewer are refused before all else with DSR_READ_ANSWER_SHORT, and choices that are no number of enum
+ * dsr_choices next with DSR_NO_SUCH_CHOICE; then *place stays too. The choices are a number of 64 bits, so that none is cut to a right one
+ * on its way.
  * An answer that is used again still holds the last success: look at the number returned. Put DSR_RATE_NONE into
  * answer[DSR_ANSWER_RATE] before each call, and a refusal that was missed does not pass for a rate. */
 DSR_MUST_USE uint32_t dsr_read(const uint8_t *octets, size_t octets_len, uint64_t choices, const int32_t *codebook, size_t codebook_len,
@@ -294,8 +298,8 @@ DSR_MUST_USE uint32_t dsr_hunt(const uint8_t *octets, size_t octets_len, uint64_
 /* dsr_read_bits hunts from bit `from` on, takes the 1,152 bits found, hunts on right behind them, and so on to the end; then it reads the
  * multiframes found as dsr_read does, their syncs taken as whole. DSR_DONE, and answer holds the eight numbers of enum dsr_answer, index
  * the first 168m octets and report the first 13m (octets beyond them stay, numbers beyond the eighth too), and *place stays; or a refusal,
- * the first of 11, 21, 22 and 15 to 20 that applies, and *place is its place and answer, index and report stay as they came. Lend an answer
- * of DSR_BITS_ANSWER_NUMBERS numbers; fewer are refused before all else with DSR_READ_ANSWER_SHORT, and wrong choices next, as in
+ * the first of 11, 10, 21, 22 and 15 to 20 that applies, and *place is its place and answer, index and report stay as they came. Lend an
+ * answer of DSR_BITS_ANSWER_NUMBERS numbers; fewer are refused before all else with DSR_READ_ANSWER_SHORT, and wrong choices next, as in
  * dsr_read; then *place stays too.
  * A refusal gives no number of places tested: dsr_hunt does. An answer that is used again still holds the last success, as in dsr_read:
  * look at the number returned. */
@@ -415,6 +419,7 @@ static inline const char *dsr_status_text(uint32_t status) {
     case DSR_WRITE_INDEX_VALUE: return "one of the first six indices of a frame above 63";
     case DSR_WRITE_ZERO_FRAME: return "an all-zero frame that is the last, or whose number is a multiple of 24";
     case DSR_WRITE_OUTPUT_SHORT: return "output shorter than 144m";
+    case DSR_READ_THRESHOLD: return "a negative threshold";
     case DSR_READ_TABLES: return "codebook not 1,280 or thresholds not 14";
     case DSR_READ_UNKNOWN: return "octets at p begin nothing known";
     case DSR_READ_CUT: return "sync with too few octets, or a lone last 87 or 78";

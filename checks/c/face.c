@@ -1,7 +1,7 @@
 /* Tests every inline function of dsr.h, as C99, C++11 and C++20: the values on success, what a refusal leaves in the struct, null pointers,
- * and numbers that are too wide; and of the proved functions what they say of an only multiframe and of a choice that there is not, and
- * all that dsr_settle says. Two multiframes are read alike by either rule, so all that is expected of them is tried with both. Prints how
- * many expectations were met, or the first that was not. */
+ * and numbers that are too wide; and of the proved functions what they say of an only multiframe, of a choice that there is not and of a
+ * negative threshold, and all that dsr_settle says. Two multiframes are read alike by either rule, so all that is expected of them is tried
+ * with both. Prints how many expectations were met, or the first that was not. */
 #include <stdio.h>
 #include <stdlib.h>
 #include <string.h>
@@ -54,7 +54,7 @@ static void expect_version(void) {
     char text[32];
     snprintf(text, sizeof text, "%d.%d.%d", DSR_VERSION_MAJOR, DSR_VERSION_MINOR, DSR_VERSION_PATCH);
     EXPECT(strcmp(text, DSR_VERSION_TEXT) == 0);
-    EXPECT(DSR_VERSION == 301);
+    EXPECT(DSR_VERSION == 400);
 }
 
 static void expect_sizes(void) {
@@ -78,8 +78,9 @@ static void expect_texts(void) {
         for (uint32_t b = 0; b < a; b++)
             if (strcmp(dsr_status_text(a), dsr_status_text(b)) == 0) expect_at(__LINE__, 0, "two statuses have the same words");
     }
-    EXPECT(known == 23);
+    EXPECT(known == 24);
     EXPECT(strcmp(dsr_status_text(DSR_DONE), "done") == 0);
+    EXPECT(strcmp(dsr_status_text(DSR_READ_THRESHOLD), "a negative threshold") == 0 && DSR_READ_THRESHOLD == 10);
     EXPECT(strcmp(dsr_status_text(DSR_READ_CUT), "sync with too few octets, or a lone last 87 or 78") == 0);
     EXPECT(strcmp(dsr_status_text(DSR_HUNT_MATCH), "T outside 12 to 16") == 0);
     EXPECT(strcmp(dsr_status_text(DSR_NO_SUCH_CHOICE), "no such choice") == 0);
@@ -186,20 +187,46 @@ static void expect_reading_null(uint64_t rule) {
     expect_not_read(&r, dsr_read_utterance(image, n, rule, &zero, heard, h, NULL, 26, &r), DSR_WRONG_LENGTH, 0);
 }
 
-/* Each table is lent at its place: thresholds that every rise exceeds make the pair before a failed CRC bad too. */
-static void expect_tables_lent(uint64_t rule) {
-    static struct dsr_tables strict;
+static void set_thresholds(struct dsr_tables *tables, int32_t all) {
+    for (size_t i = 0; i < DSR_THRESHOLD_NUMBERS; i++) tables->thresholds[i] = all;
+}
+
+/* The notes of pair 2, in which each index rises by 7, of pair 3, whose CRC fails, and of pair 4, in which each index falls by 56. */
+static void expect_judged(uint64_t rule, const struct dsr_tables *tables, uint8_t rising, uint8_t falling) {
     struct dsr_reading r;
-    memset(&strict, 0, sizeof strict);
-    for (size_t i = 0; i < DSR_THRESHOLD_NUMBERS; i++) strict.thresholds[i] = -1;
     image[6 + 92 * 3 / 8] ^= 0x10; /* stream bit 280, in pair 3 */
-    EXPECT(dsr_read_utterance(image, sizeof image, rule, &strict, heard, sizeof heard, report, sizeof report, &r) == DSR_DONE);
-    EXPECT(report[3] == DSR_PAIR_BAD && report[4] == DSR_PAIR_CRC && report[5] == DSR_PAIR_BAD);
-    for (size_t i = 0; i < DSR_CODEBOOK_NUMBERS; i++) strict.codebook[i] = -(int32_t)(2 * i);
-    for (size_t i = 0; i < DSR_THRESHOLD_NUMBERS; i++) strict.thresholds[i] = 3000;
-    EXPECT(dsr_read_utterance(image, sizeof image, rule, &strict, heard, sizeof heard, report, sizeof report, &r) == DSR_DONE);
-    EXPECT(report[3] == DSR_PAIR_GOOD && report[4] == DSR_PAIR_CRC && report[5] == DSR_PAIR_GOOD);
+    EXPECT(dsr_read_utterance(image, sizeof image, rule, tables, heard, sizeof heard, report, sizeof report, &r) == DSR_DONE);
+    EXPECT(report[3] == rising && report[4] == DSR_PAIR_CRC && report[5] == falling);
+    EXPECT(dsr_hunt_utterance(image, sizeof image, 0, 16, rule, tables, heard, sizeof heard, report, sizeof report, &r) == DSR_DONE);
+    EXPECT(report[3] == rising && report[4] == DSR_PAIR_CRC && report[5] == falling);
     image[6 + 92 * 3 / 8] ^= 0x10;
+}
+
+/* Each table is lent at its place, and a fall counts as much as a rise: by a codebook that goes up from number to number, and by one that
+ * goes down as much. */
+static void expect_tables_lent(uint64_t rule) {
+    static struct dsr_tables steps;
+    for (int32_t step = -1; step <= 1; step += 2) {
+        for (int32_t i = 0; i < DSR_CODEBOOK_NUMBERS; i++) steps.codebook[i] = step * i;
+        set_thresholds(&steps, 13);
+        expect_judged(rule, &steps, DSR_PAIR_BAD, DSR_PAIR_BAD);
+        set_thresholds(&steps, 14);
+        expect_judged(rule, &steps, DSR_PAIR_GOOD, DSR_PAIR_BAD);
+        set_thresholds(&steps, 111);
+        expect_judged(rule, &steps, DSR_PAIR_GOOD, DSR_PAIR_BAD);
+        set_thresholds(&steps, 112);
+        expect_judged(rule, &steps, DSR_PAIR_GOOD, DSR_PAIR_GOOD);
+    }
+}
+
+/* A fall and a rise of 33 bits exceed the largest threshold. */
+static void expect_exact_difference(uint64_t rule) {
+    static struct dsr_tables edges;
+    set_thresholds(&edges, INT32_MAX);
+    for (size_t i = 0; i < DSR_CODEBOOK_NUMBERS; i++) edges.codebook[i] = i / 2 % 64 < 32 ? INT32_MIN : INT32_MAX;
+    expect_judged(rule, &edges, DSR_PAIR_BAD, DSR_PAIR_BAD);
+    for (size_t i = 0; i < DSR_CODEBOOK_NUMBERS; i++) edges.codebook[i] = i / 2 % 64 < 32 ? 0 : INT32_MAX;
+    expect_judged(rule, &edges, DSR_PAIR_GOOD, DSR_PAIR_GOOD);
 }
 
 /* The image behind idle bits that end in the middle of an octet. */
@@ -255,6 +282,75 @@ static uint32_t plain_read_bits(size_t octets, uint64_t choices, size_t codebook
     mark();
     return dsr_read_bits(image, octets, 0, DSR_LEAST_MATCH, choices, zero.codebook, codebook_len, zero.thresholds, DSR_THRESHOLD_NUMBERS,
                          heard, sizeof heard, report, sizeof report, answer, answer_len, &place);
+}
+
+/* Both readers refuse these thresholds with 10 and that place, whatever else would be refused behind it; a struct that was used before shows
+ * it all the same. */
+static void expect_negative(uint64_t rule, const struct dsr_tables *tables, uint64_t first) {
+    const size_t n = sizeof image, h = sizeof heard, p = sizeof report;
+    struct dsr_reading r;
+    memset(&r, MARK, sizeof r);
+    mark();
+    expect_not_read(&r, dsr_read_utterance(image, n, rule, tables, heard, h, report, p, &r), DSR_READ_THRESHOLD, first);
+    expect_not_read(&r, dsr_read_utterance(said, sizeof said, rule, tables, heard, h, report, p, &r), DSR_READ_THRESHOLD, first);
+    expect_not_read(&r, dsr_read_utterance(image, n - 1, rule, tables, heard, h, report, p, &r), DSR_READ_THRESHOLD, first);
+    expect_not_read(&r, dsr_read_utterance(NULL, 0, rule, tables, heard, h, report, p, &r), DSR_READ_THRESHOLD, first);
+    expect_not_read(&r, dsr_read_utterance(image, 144, rule, tables, NULL, 0, NULL, 0, &r), DSR_READ_THRESHOLD, first);
+    expect_not_read(&r, dsr_hunt_utterance(image, n, 0, 14, rule, tables, heard, h, report, p, &r), DSR_READ_THRESHOLD, first);
+    expect_not_read(&r, dsr_hunt_utterance(image, n, 0, 11, rule, tables, heard, h, report, p, &r), DSR_READ_THRESHOLD, first);
+    expect_not_read(&r, dsr_hunt_utterance(image, n, 9999, 14, rule, tables, heard, h, report, p, &r), DSR_READ_THRESHOLD, first);
+    expect_not_read(&r, dsr_hunt_utterance(NULL, 0, 5, 17, rule, tables, NULL, 0, NULL, 0, &r), DSR_READ_THRESHOLD, first);
+    expect_not_read(&r, dsr_read_utterance(image, n, 2, tables, heard, h, report, p, &r), DSR_NO_SUCH_CHOICE, 0);
+    expect_not_read(&r, dsr_hunt_utterance(NULL, 1, 0, 14, rule, tables, heard, h, report, p, &r), DSR_WRONG_LENGTH, 0);
+}
+
+/* Each threshold alone, and each with each behind it, however low. */
+static void expect_negative_thresholds(uint64_t rule) {
+    static const int32_t negative[] = {-1, INT32_MIN, -112};
+    static struct dsr_tables tables;
+    for (size_t i = 0; i < sizeof negative / sizeof *negative; i++) {
+        for (size_t first = 0; first < DSR_THRESHOLD_NUMBERS; first++) {
+            set_thresholds(&tables, i == 0 ? 0 : INT32_MAX);
+            tables.thresholds[first] = negative[i];
+            expect_negative(rule, &tables, first);
+            for (size_t second = first + 1; second < DSR_THRESHOLD_NUMBERS; second++) {
+                tables.thresholds[second] = INT32_MIN;
+                expect_negative(rule, &tables, first);
+            }
+        }
+    }
+}
+
+static const int32_t all_negative[DSR_THRESHOLD_NUMBERS + 1] = {-1, -1, -1, -1, -1, -1, -1, -1, -1, -1, -1, -1, -1, -1, -1};
+
+/* dsr_read and dsr_read_bits themselves, with so many thresholds, all negative, so much of a codebook and so long an answer. */
+static uint32_t negative_read(uint64_t choices, size_t codebook_len, size_t thresholds_len, size_t answer_len) {
+    mark();
+    return dsr_read(image, sizeof image, choices, zero.codebook, codebook_len, all_negative, thresholds_len, heard, sizeof heard,
+                    report, sizeof report, answer, answer_len, &place);
+}
+
+static uint32_t negative_read_bits(uint64_t choices, size_t codebook_len, size_t thresholds_len, size_t answer_len) {
+    mark();
+    return dsr_read_bits(image, sizeof image, 0, 17, choices, zero.codebook, codebook_len, all_negative, thresholds_len, heard,
+                         sizeof heard, report, sizeof report, answer, answer_len, &place);
+}
+
+/* 99 comes first, then 96, then 11, then 10. */
+static void expect_negative_in_turn(uint64_t rule) {
+    const size_t c = DSR_CODEBOOK_NUMBERS, t = DSR_THRESHOLD_NUMBERS, six = DSR_ANSWER_NUMBERS, eight = DSR_BITS_ANSWER_NUMBERS;
+    EXPECT(negative_read(rule, c, t, six) == DSR_READ_THRESHOLD && place == 0 && buffers_stay());
+    EXPECT(negative_read_bits(rule, c, t, eight) == DSR_READ_THRESHOLD && place == 0 && buffers_stay());
+    for (size_t wrong = t - 1; wrong <= t + 1; wrong += 2) {
+        EXPECT(negative_read(rule, c, wrong, six) == DSR_READ_TABLES && place == 0 && buffers_stay());
+        EXPECT(negative_read_bits(rule, c, wrong, eight) == DSR_READ_TABLES && place == 0 && buffers_stay());
+    }
+    EXPECT(negative_read(rule, c - 1, t, six) == DSR_READ_TABLES && place == 0 && buffers_stay());
+    EXPECT(negative_read_bits(rule, c - 1, t, eight) == DSR_READ_TABLES && place == 0 && buffers_stay());
+    EXPECT(negative_read(2, c, t, six) == DSR_NO_SUCH_CHOICE && marks_stay());
+    EXPECT(negative_read_bits(2, c, t, eight) == DSR_NO_SUCH_CHOICE && marks_stay());
+    EXPECT(negative_read(rule, c, t, six - 1) == DSR_READ_ANSWER_SHORT && marks_stay());
+    EXPECT(negative_read_bits(rule, c, t, eight - 1) == DSR_READ_ANSWER_SHORT && marks_stay());
 }
 
 /* An only multiframe is refused by default, however clean; 16 comes behind 11 and before 18. */
@@ -489,6 +585,9 @@ int main(void) {
         expect_reading_refusals(rule);
         expect_reading_null(rule);
         expect_tables_lent(rule);
+        expect_exact_difference(rule);
+        expect_negative_thresholds(rule);
+        expect_negative_in_turn(rule);
         expect_hunt_reads(rule);
         expect_hunt_refusals(rule);
         expect_touched_header_refused(rule);
