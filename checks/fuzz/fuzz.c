@@ -1,7 +1,8 @@
 /* Makes random calls of the library until the time is up, and after each checks what a caller may rely on: a refusal leaves every buffer
  * as it came, octets beyond the answer stay, answers are in their range and agree with the buffers, what was written reads back,
- * damage of the kinds that the reader is proved to see is named, a hunt ends at the first place that passes, a reading that hunts is
- * the reading of what the hunts find, the choice of a rule changes nothing but for an only multiframe, and settings are settled as the
+ * damage of the kinds that the reader is proved to see is named, pairs beside it are bad exactly if they are inconsistent, a codebook
+ * turned upside down changes nothing, higher thresholds make no pair bad, a hunt ends at the first place that passes, a reading that hunts
+ * is the reading of what the hunts find, the choice of a rule changes nothing but for an only multiframe, and settings are settled as the
  * literal version settles them, as the full reading has them, and whatever stands behind.
  *
  *   fuzz SECONDS [SEED]            runs for that time and prints how often each answer was given; the environment can give SEED too
@@ -27,7 +28,7 @@ enum {
     SEED = 201108
 };
 
-static uint64_t state, seed = SEED, round_number, given[STATUSES], read_back, named, hunted, only_ones, settled_early;
+static uint64_t state, seed = SEED, round_number, given[STATUSES], read_back, named, turned, hunted, only_ones, settled_early;
 
 static uint32_t chance(uint32_t below) {
     state = state * 6364136223846793005u + 1442695040888963407u;
@@ -90,6 +91,74 @@ static void give_back(struct lent *l) {
 static void give_back_kept(struct lent *l, const char *what) {
     expect(stays_from(l, 0), what);
     give_back(l);
+}
+
+/* --- tables */
+
+/* A number at an edge, or beside one. */
+static int32_t edge_number(void) {
+    static const int32_t edges[] = {INT32_MIN, INT32_MIN + 1, -1, 0, 1, INT32_MAX - 1, INT32_MAX};
+    return edges[chance(sizeof edges / sizeof *edges)];
+}
+
+/* One number of a table of that kind: 0, small, of any size, or at an edge. */
+static int32_t some_number(uint32_t kind) {
+    if (kind == 0) return 0;
+    if (kind == 1) return (int32_t)chance(200) - 100;
+    return kind == 2 ? (int32_t)(chance(65536) << 16 | chance(65536)) : edge_number();
+}
+
+static int32_t number_at(const struct lent *table, size_t i) {
+    int32_t x;
+    memcpy(&x, table->data + sizeof x * i, sizeof x);
+    return x;
+}
+
+static void set_number(struct lent *table, size_t i, int32_t x) {
+    memcpy(table->data + sizeof x * i, &x, sizeof x);
+    memcpy(table->copy + sizeof x * i, &x, sizeof x);
+}
+
+static struct lent lend_codebook(size_t numbers) {
+    struct lent l = lend(sizeof(int32_t) * numbers);
+    uint32_t kind = chance(5);
+    for (size_t i = 0; i < numbers; i++) set_number(&l, i, some_number(kind < 4 ? kind : chance(4)));
+    return l;
+}
+
+/* Thresholds of which none is negative. */
+static struct lent lend_thresholds(size_t numbers) {
+    struct lent l = lend(sizeof(int32_t) * numbers);
+    uint32_t kind = chance(6);
+    for (size_t i = 0; i < numbers; i++) {
+        int32_t x = kind < 5 ? some_number(kind % 4) : INT32_MAX;
+        set_number(&l, i, x < 0 ? -(x + 1) : x);
+    }
+    return l;
+}
+
+/* A negative number: -1, the lowest, or any other. */
+static int32_t negative_number(void) {
+    int32_t x = chance(2) ? edge_number() : some_number(2);
+    return x < 0 ? x : -1;
+}
+
+/* Makes one to three of them negative, or all by as much. */
+static void spoil_thresholds(struct lent *l) {
+    uint32_t numbers = (uint32_t)(l->len / sizeof(int32_t));
+    int32_t all = negative_number();
+    if (chance(4) == 0)
+        for (uint32_t i = 0; i < numbers; i++) set_number(l, i, all);
+    else
+        for (uint32_t times = numbers == 0 ? 0 : 1 + chance(3); times > 0; times--) set_number(l, chance(numbers), negative_number());
+}
+
+/* The number of the first negative threshold; how many there are if none is. */
+static size_t first_negative(const struct lent *thresholds) {
+    size_t numbers = thresholds->len / sizeof(int32_t), first = numbers;
+    for (size_t i = numbers; i > 0; i--)
+        if (number_at(thresholds, i - 1) < 0) first = i - 1;
+    return first;
 }
 
 /* --- utterances */
@@ -220,7 +289,7 @@ static uint64_t known_choice(void) { return chance(2) ? DSR_DEFAULT_CHOICES : DS
 static void check_reads_back(uint64_t rate, uint64_t type, const struct lent *indices, const struct lent *image) {
     size_t frames = indices->len / DSR_FRAME_INDICES, m = image->len / DSR_MULTIFRAME_OCTETS;
     struct lent index = lend_buffer(DSR_MULTIFRAME_INDICES * m), report = lend_buffer(DSR_MULTIFRAME_REPORT * m);
-    struct lent codebook = lend_buffer(4 * DSR_CODEBOOK_NUMBERS), thresholds = lend_buffer(4 * DSR_THRESHOLD_NUMBERS);
+    struct lent codebook = lend_codebook(DSR_CODEBOOK_NUMBERS), thresholds = lend_thresholds(DSR_THRESHOLD_NUMBERS);
     uint64_t a[DSR_ANSWER_NUMBERS], place = UNTOUCHED, choices = m == 1 ? DSR_ONE_HEADER_SETTLES : known_choice();
     uint32_t number = dsr_read(image->data, image->len, choices, (const int32_t *)codebook.data, DSR_CODEBOOK_NUMBERS,
                                (const int32_t *)thresholds.data, DSR_THRESHOLD_NUMBERS, index.data, index.len, report.data, report.len, a,
@@ -399,22 +468,10 @@ static void check_refused_reading(uint32_t number, uint64_t place, const struct 
     case DSR_READ_NO_MULTIFRAME: expect(place == in->len, "refusal 14"); break;
     case DSR_READ_TOO_MANY: expect(left > 1 && at[0] == 0x87 && place >= DSR_MOST_MULTIFRAMES * DSR_MULTIFRAME_OCTETS, "refusal 15"); break;
     case DSR_READ_INDEX_SHORT: expect(place > index->len && place % DSR_MULTIFRAME_INDICES == 0, "refusal 18"); break;
-    case DSR_NO_SUCH_CHOICE: case DSR_READ_ANSWER_SHORT: break;
+    case DSR_READ_THRESHOLD: case DSR_NO_SUCH_CHOICE: case DSR_READ_ANSWER_SHORT: break;
     case DSR_READ_REPORT_SHORT: expect(place > report->len && place % DSR_MULTIFRAME_REPORT == 0, "refusal 19"); break;
     default: expect(place == 0, "a refusal has a place that 01 does not give it");
     }
-}
-
-/* Tables: zeros, anything, or small numbers, so that all kinds of pairs are met. */
-static struct lent lend_table(size_t numbers) {
-    struct lent l = lend_buffer(sizeof(int32_t) * numbers);
-    uint32_t kind = chance(3);
-    for (size_t i = 0; i < numbers && kind != 0; i++) {
-        int32_t x = kind == 1 ? 0 : (int32_t)chance(200) - 100;
-        memcpy(l.data + sizeof x * i, &x, sizeof x);
-    }
-    memcpy(l.copy, l.data, l.len);
-    return l;
 }
 
 static size_t room_near(size_t needed) {
@@ -440,20 +497,6 @@ static uint64_t some_choices(void) {
 
 static int is_known(uint64_t choices) { return choices == DSR_DEFAULT_CHOICES || choices == DSR_ONE_HEADER_SETTLES; }
 
-/* What the number says of choices, tables, answer and place. */
-static void check_number(uint32_t number, uint64_t choices, int tables, const struct lent *answer, const struct lent *place) {
-    int short_answer = answer->len < sizeof(uint64_t) * DSR_ANSWER_NUMBERS, done = number == DSR_DONE;
-    int asked = !short_answer && is_known(choices);
-    expect((number == DSR_READ_ANSWER_SHORT) == short_answer, "refusal 99 against the answer's length");
-    expect((number == DSR_NO_SUCH_CHOICE) == (!short_answer && !is_known(choices)), "refusal 96 against the choices");
-    if (!asked) expect(stays_from(place, 0), "a short answer or an unknown choice touched the place");
-    else expect(done || (number >= DSR_READ_TABLES && number <= DSR_READ_ALL_BAD), "a reading's answer is no number of 01");
-    if (asked) expect((number == DSR_READ_TABLES) == !tables, "refusal 11 against the tables");
-    expect(stays_from(answer, done ? sizeof(uint64_t) * DSR_ANSWER_NUMBERS : 0), "a reading touched numbers that have to stay");
-    if (done) expect(stays_from(place, 0), "a reading that ended well touched the place");
-    given[number]++;
-}
-
 /* What is lent to a reading beside the octets. */
 struct rooms {
     struct lent codebook, thresholds, index, report, answer, place;
@@ -461,8 +504,9 @@ struct rooms {
 
 static struct rooms lend_rooms(size_t m, size_t numbers) {
     struct rooms r;
-    r.codebook = lend_table(chance(40) ? DSR_CODEBOOK_NUMBERS : chance(2000));
-    r.thresholds = lend_table(chance(40) ? DSR_THRESHOLD_NUMBERS : chance(30));
+    r.codebook = lend_codebook(chance(40) ? DSR_CODEBOOK_NUMBERS : chance(2000));
+    r.thresholds = lend_thresholds(chance(40) ? DSR_THRESHOLD_NUMBERS : chance(30));
+    if (chance(12) == 0) spoil_thresholds(&r.thresholds);
     r.index = lend_buffer(room_near(DSR_MULTIFRAME_INDICES * m));
     r.report = lend_buffer(room_near(DSR_MULTIFRAME_REPORT * m));
     r.answer = lend_answer(numbers);
@@ -494,11 +538,30 @@ static int right_tables(const struct rooms *r) {
     return r->codebook.len / 4 == DSR_CODEBOOK_NUMBERS && r->thresholds.len / 4 == DSR_THRESHOLD_NUMBERS;
 }
 
+/* Whether tables of the right lengths have a negative threshold. */
+static int has_negative(const struct rooms *r) { return right_tables(r) && first_negative(&r->thresholds) < DSR_THRESHOLD_NUMBERS; }
+
+/* What the number says of choices, tables, answer and place. */
+static void check_number(uint32_t number, uint64_t choices, const struct rooms *r) {
+    int short_answer = r->answer.len < sizeof(uint64_t) * DSR_ANSWER_NUMBERS, done = number == DSR_DONE;
+    int asked = !short_answer && is_known(choices);
+    expect((number == DSR_READ_ANSWER_SHORT) == short_answer, "refusal 99 against the answer's length");
+    expect((number == DSR_NO_SUCH_CHOICE) == (!short_answer && !is_known(choices)), "refusal 96 against the choices");
+    if (!asked) expect(stays_from(&r->place, 0), "a short answer or an unknown choice touched the place");
+    else expect(done || (number >= DSR_READ_THRESHOLD && number <= DSR_READ_ALL_BAD), "a reading's answer is no number of 01 or 02");
+    if (asked) expect((number == DSR_READ_TABLES) == !right_tables(r), "refusal 11 against the tables");
+    if (asked) expect((number == DSR_READ_THRESHOLD) == has_negative(r), "refusal 10 against the thresholds");
+    if (number == DSR_READ_THRESHOLD) expect(place_of(r) == first_negative(&r->thresholds), "refusal 10 is not at the first one");
+    expect(stays_from(&r->answer, done ? sizeof(uint64_t) * DSR_ANSWER_NUMBERS : 0), "a reading touched numbers that have to stay");
+    if (done) expect(stays_from(&r->place, 0), "a reading that ended well touched the place");
+    given[number]++;
+}
+
 static uint32_t read_and_check(const struct lent *in, uint64_t choices, struct rooms *r) {
     uint32_t number = dsr_read(in->data, in->len, choices, (const int32_t *)r->codebook.data, r->codebook.len / 4,
                                (const int32_t *)r->thresholds.data, r->thresholds.len / 4, r->index.data, r->index.len, r->report.data,
                                r->report.len, (uint64_t *)r->answer.data, r->answer.len / sizeof(uint64_t), (uint64_t *)r->place.data);
-    check_number(number, choices, right_tables(r), &r->answer, &r->place);
+    check_number(number, choices, r);
     if (number == DSR_DONE) check_reading(in, &r->index, &r->report, (const uint64_t *)r->answer.data, choices);
     else check_refused_reading(number, place_of(r), in, &r->index, &r->report);
     return number;
@@ -538,6 +601,34 @@ static void check_other_rule(const struct lent *in, uint64_t choices, const stru
     give_back_written(&again);
 }
 
+/* All that two readings of the same octets gave. */
+static int same_written(const struct rooms *a, const struct rooms *b) {
+    return same(&a->answer, &b->answer) && same(&a->place, &b->place) && same(&a->index, &b->index) && same(&a->report, &b->report);
+}
+
+/* A codebook of ones' complements has a fall of the same size for every rise, and a rise for every fall: nothing changes. */
+static void check_upside_down(const struct lent *in, uint64_t choices, const struct rooms *r, uint32_t number) {
+    struct rooms again = lend_again(r);
+    again.codebook = lend_copy(r->codebook.data, r->codebook.len);
+    for (size_t i = 0; i < again.codebook.len / sizeof(int32_t); i++) set_number(&again.codebook, i, ~number_at(&r->codebook, i));
+    expect(read_and_check(in, choices, &again) == number && same_written(r, &again), "a codebook turned upside down is read otherwise");
+    give_back_written(&again), give_back_kept(&again.codebook, "reading touched the codebook");
+}
+
+/* The highest thresholds make no pair bad that was not bad before. */
+static void check_raised(const struct lent *in, uint64_t choices, const struct rooms *r) {
+    struct rooms again = lend_again(r);
+    again.thresholds = lend_copy(r->thresholds.data, r->thresholds.len);
+    for (size_t i = 0; i < DSR_THRESHOLD_NUMBERS; i++) set_number(&again.thresholds, i, INT32_MAX);
+    expect(read_and_check(in, choices, &again) == DSR_DONE, "higher thresholds make a reading refuse");
+    for (size_t i = 0; i < r->report.len; i++) {
+        uint8_t was = r->report.data[i], is = again.report.data[i];
+        int freed = i % DSR_MULTIFRAME_REPORT != 0 && was == DSR_PAIR_BAD && is == DSR_PAIR_GOOD;
+        expect(is == was || freed, "higher thresholds make a pair bad");
+    }
+    give_back_written(&again), give_back_kept(&again.thresholds, "reading touched the thresholds");
+}
+
 /* Settings of its own in about one header of `one_in`, and one in four of these is lost: then two agree late or never. */
 static void estrange_headers(size_t m, uint32_t one_in) {
     for (size_t k = 0; k < m; k++) {
@@ -567,6 +658,8 @@ static void try_read(void) {
     uint64_t choices = some_choices();
     uint32_t number = read_and_check(&in, choices, &r);
     if (number <= DSR_READ_ALL_BAD) check_other_rule(&in, choices, &r, number);
+    if (number == DSR_DONE || number == DSR_READ_ALL_BAD) check_upside_down(&in, choices, &r, number), turned++;
+    if (number == DSR_DONE) check_raised(&in, choices, &r);
     give_back_rooms(&r);
     give_back_kept(&in, "reading touched the octets");
 }
@@ -690,13 +783,44 @@ static void damage_image(uint8_t *damaged, size_t m) {
     }
 }
 
+/* An index of a frame that was written, or of padding. */
+static uint8_t index_spoken(size_t i) { return i < DSR_FRAME_INDICES * spoken_frames ? spoken[i] : 0; }
+
+/* Whether a number of the codebook is further from another than that, above it or below it. */
+static int is_further(int64_t a, int64_t b, int64_t threshold) { return a > b + threshold || b > a + threshold; }
+
+/* Whether at least two indices of a pair that was written are flagged. */
+static int is_inconsistent(size_t q, const struct lent *codebook, const struct lent *thresholds) {
+    unsigned flagged = 0;
+    for (size_t c = 0; c < DSR_FRAME_INDICES; c++) {
+        size_t first = 2 * DSR_FRAME_INDICES * q + c, second = first + DSR_FRAME_INDICES, either = 0;
+        for (size_t e = 0; e < 2; e++) {
+            int32_t a = number_at(codebook, 128 * c + 2 * index_spoken(first) + e);
+            int32_t b = number_at(codebook, 128 * c + 2 * index_spoken(second) + e);
+            either |= (size_t)is_further(a, b, number_at(thresholds, 2 * c + e));
+        }
+        flagged += either != 0;
+    }
+    return flagged >= 2;
+}
+
+/* A pair that is not damaged is bad exactly if it is inconsistent and the next one is damaged or the one before it bad. */
+static void check_judged(const uint8_t *damaged, const struct lent *report, size_t pairs, const struct lent *codebook,
+                         const struct lent *thresholds) {
+    for (size_t q = 0; q < pairs; q++) {
+        int beside = (q + 1 < pairs && damaged[q + 1]) || (q > 0 && note_of(report->data, q - 1) != DSR_PAIR_GOOD);
+        int bad = beside && is_inconsistent(q, codebook, thresholds);
+        if (!damaged[q]) expect(note_of(report->data, q) == (bad ? DSR_PAIR_BAD : DSR_PAIR_GOOD), "a pair is judged otherwise than it is");
+    }
+}
+
 /* Each damaged pair is named by its CRC, no other is, and an unnamed pair's frames are those that were written. */
 static void check_named(const uint8_t *damaged, const struct lent *index, const struct lent *report, size_t m) {
     for (size_t q = 0; q < DSR_MULTIFRAME_PAIRS * m; q++) {
         uint8_t note = note_of(report->data, q);
         expect((note == DSR_PAIR_CRC) == damaged[q], "a damaged pair is not named, or another is");
         for (size_t i = 2 * DSR_FRAME_INDICES * q; i < 2 * DSR_FRAME_INDICES * (q + 1) && note == DSR_PAIR_GOOD; i++)
-            expect(index->data[i] == (i < DSR_FRAME_INDICES * spoken_frames ? spoken[i] : 0), "a good pair's frame is another");
+            expect(index->data[i] == index_spoken(i), "a good pair's frame is another");
     }
 }
 
@@ -708,7 +832,7 @@ static void try_damage(void) {
     damage_image(damaged, m);
     struct lent in = lend_copy(octets, octets_len), index = lend_buffer(DSR_MULTIFRAME_INDICES * m);
     struct lent report = lend_buffer(DSR_MULTIFRAME_REPORT * m);
-    struct lent codebook = lend_table(DSR_CODEBOOK_NUMBERS), thresholds = lend_table(DSR_THRESHOLD_NUMBERS);
+    struct lent codebook = lend_codebook(DSR_CODEBOOK_NUMBERS), thresholds = lend_thresholds(DSR_THRESHOLD_NUMBERS);
     uint64_t a[DSR_ANSWER_NUMBERS] = {0}, place = UNTOUCHED, choices = known_choice();
     uint32_t number = dsr_read(in.data, in.len, choices, (const int32_t *)codebook.data, DSR_CODEBOOK_NUMBERS,
                                (const int32_t *)thresholds.data, DSR_THRESHOLD_NUMBERS, index.data, index.len, report.data, report.len, a,
@@ -719,6 +843,7 @@ static void try_damage(void) {
         expect(a[DSR_ANSWER_RATE] == rate && a[DSR_ANSWER_TYPE] == type && a[DSR_ANSWER_MULTIFRAMES] == m, "settings or length of a damaged image");
         check_reading(&in, &index, &report, a, choices);
         check_named(damaged, &index, &report, m);
+        check_judged(damaged, &report, DSR_MULTIFRAME_PAIRS * m, &codebook, &thresholds);
         named++;
     } else {
         check_refused_reading(number, place, &in, &index, &report);
@@ -901,6 +1026,8 @@ static uint32_t refused_before(const struct rooms *r, const struct asked *asked,
     if (!is_known(asked->choices)) return DSR_NO_SUCH_CHOICE;
     *place = 0;
     if (!right_tables(r)) return DSR_READ_TABLES;
+    *place = first_negative(&r->thresholds);
+    if (has_negative(r)) return DSR_READ_THRESHOLD;
     *place = asked->least;
     if (!in_range(asked->least)) return DSR_HUNT_MATCH;
     *place = asked->from;
@@ -993,8 +1120,9 @@ int main(int argc, char **argv) {
     for (; time(NULL) < end; round_number++) play_round();
     printf("%llu rounds, %llu utterances read back, %llu damaged images with every damaged pair named, ",
            (unsigned long long)round_number, (unsigned long long)read_back, (unsigned long long)named);
-    printf("%llu read at any bit, %llu of one multiframe by both rules, %llu settled whatever stands behind\nanswers:",
-           (unsigned long long)hunted, (unsigned long long)only_ones, (unsigned long long)settled_early);
+    printf("%llu read with the codebook upside down, %llu at any bit, %llu of one multiframe by both rules, ", (unsigned long long)turned,
+           (unsigned long long)hunted, (unsigned long long)only_ones);
+    printf("%llu settled whatever stands behind\nanswers:", (unsigned long long)settled_early);
     for (unsigned i = 0; i < STATUSES; i++)
         if (given[i] > 0) printf(" %u:%llu", i, (unsigned long long)given[i]);
     printf("\n");
