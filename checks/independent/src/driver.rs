@@ -76,6 +76,7 @@ impl Driver {
         let pairs = |note: u8| report.chunks(REPORT).flat_map(|part| &part[1..]).filter(|&&n| n == note).count();
         for note in [1, 2] {
             self.count(&format!("of these, pairs with note {note}"), pairs(note));
+            self.count(&format!("of these, readings with pairs of note {note}"), (pairs(note) > 0) as usize);
         }
         for note in report.iter().step_by(REPORT).filter(|&&note| note != 0) {
             self.count(&format!("of these, headers with note {note:2}"), 1);

@@ -1,7 +1,7 @@
-//! The hunt for a sync at any bit and the reading that hunts, 02 C-13. The octets are laid out as single bits in sending order, and
-//! every rule is then about places in that row.
+//! The hunt for a sync at any bit and the reading that hunts, 02 C-13 and, for its tables, C-12. The octets are laid out as single bits in
+//! sending order, and every rule is then about places in that row.
 use crate::header::Code;
-use crate::reading::{read, Reading, Rule, CODEBOOK, MOST, THRESHOLDS};
+use crate::reading::{fit_tables, read, Reading, Rule, MOST};
 use crate::writing::{Refusal, MULTIFRAME, SYNC};
 
 pub const MULTIFRAME_BITS: usize = 8 * MULTIFRAME;
@@ -121,9 +121,7 @@ pub fn read_bits(
     rooms: (usize, usize),
 ) -> Result<HuntingReading, Refusal> {
     // The octet reader says this too, but after the hunt it would come too late.
-    if tables.0.len() != CODEBOOK || tables.1.len() != THRESHOLDS {
-        return Err(refusal(11, 0));
-    }
+    fit_tables(tables)?;
     allowed(least)?;
     let bits = bits_of(octets);
     let met = meet(code, &bits, from, least)?;
@@ -136,6 +134,7 @@ pub fn read_bits(
 mod tests {
     use super::*;
     use crate::header::encode;
+    use crate::reading::{CODEBOOK, THRESHOLDS};
     use crate::writing::{multiframe, write, INVERSE};
 
     const TABLES: (&[i32], &[i32]) = (&[0; CODEBOOK], &[0; THRESHOLDS]);
@@ -235,6 +234,52 @@ mod tests {
             assert_eq!((refused.number, refused.place), (11, 0));
             let refused = read_bits(&Code::new(), &image(2), 0, 16, rule, TABLES, (335, 25)).err().expect("rooms are short");
             assert_eq!((refused.number, refused.place), (18, 336));
+        }
+    }
+
+    /// 11, 10, 21, 22, and then as it was: 15 for a match after 255, 16, 18.
+    #[test]
+    fn a_negative_threshold_comes_after_lengths_and_before_the_hunt() {
+        let code = Code::new();
+        fn with(code: &Code, octets: &[u8], (from, least): (u64, u64), tables: (&[i32], &[i32]), rooms: (usize, usize)) -> (u32, u64) {
+            let refused = read_bits(code, octets, from, least, Rule::TwoHeaders, tables, rooms).err().expect("it is refused");
+            (refused.number, refused.place)
+        }
+        let too_many: Vec<u8> = (1..=256).flat_map(|position| multiframe(0, 0, position, &[1; 168])).collect();
+        let calls: [(&[u8], (u64, u64), (usize, usize), u32); 6] = [
+            (&image(2), (0, 11), ROOMS, 21),
+            (&[], (5, 12), ROOMS, 22),
+            (&image(2), (u64::MAX, 16), ROOMS, 22),
+            (&too_many, (0, 16), ROOMS, 15),
+            (&image(1), (0, 16), ROOMS, 16),
+            (&image(2), (0, 16), (335, 25), 18),
+        ];
+        for (octets, search, rooms, number) in calls {
+            assert_eq!(with(&code, octets, search, TABLES, rooms).0, number);
+            for first in 0..THRESHOLDS {
+                let mut thresholds = [0; THRESHOLDS];
+                thresholds[first..].fill(i32::MIN);
+                assert_eq!(with(&code, octets, search, (&[0; CODEBOOK], &thresholds), rooms), (10, first as u64));
+                assert_eq!(with(&code, octets, search, (&[0; CODEBOOK - 1], &thresholds), rooms), (11, 0));
+                assert_eq!(with(&code, octets, search, (&[0; CODEBOOK], &thresholds[1..]), rooms), (11, 0));
+            }
+        }
+    }
+
+    /// Every pair of speech falls, or rises, by 11 in every index, and the second one's CRC fails: all are bad, and zeros replace them.
+    #[test]
+    fn a_fall_flags_like_a_rise() {
+        let codebook: Vec<i32> = (0..CODEBOOK as i32).map(|i| 11 * (i / 2 % 64)).collect();
+        for (first, second) in [(1, 2), (2, 1)] {
+            let frames = [[first; 7], [second; 7]].concat().repeat(23);
+            let mut octets = write(0, 0, &frames, 288).ok().expect("it is written");
+            octets[20] ^= 1;
+            for (threshold, speech, bad) in [(10, 24, 23), (11, 46, 1)] {
+                let tables = (&codebook[..], &[threshold; THRESHOLDS][..]);
+                let octets = shifted(&[false; 3], &octets);
+                let hunting = read_bits(&Code::new(), &octets, 0, 16, Rule::TwoHeaders, tables, ROOMS).ok().expect("it is read");
+                assert_eq!(hunting.reading.answer, [0, 0, 2, speech, bad, 1]);
+            }
         }
     }
 

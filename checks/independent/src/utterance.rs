@@ -2,7 +2,8 @@
 use crate::chance::Chance;
 use crate::header::encode;
 use crate::reading::{CODEBOOK, THRESHOLDS};
-use crate::stream::{packet_of, stream_of, PAIRS};
+use crate::steps::Steps;
+use crate::stream::{packet_of, stream_of, FRAME, PAIRS};
 use crate::writing::SYNC;
 
 /// One multiframe before it is sent: a header word and twelve packets.
@@ -192,19 +193,86 @@ impl Tables {
     }
 }
 
-/// Nothing but zeros; values that flag about a sixth, a half or most index pairs; the ends of 32 bits.
-pub fn tables(chance: &mut Chance) -> Tables {
-    let zeros = Tables { codebook: vec![0; CODEBOOK], thresholds: vec![0; THRESHOLDS] };
-    let small = |chance: &mut Chance, n: usize| (0..n).map(|_| chance.below(2001) as i32 - 1000).collect();
+/// With no threshold negative, as a reading takes them. Nothing but zeros; numbers that flag about a sixth, a half or most index pairs;
+/// small ones of which every difference flags; the ends of 32 bits; differences that only just reach or exceed the thresholds; only one
+/// element of each codebook that can exceed, so that an index pair is flagged by a fall alone or by a rise alone; and a zero frame apart
+/// from all others, above or below them, so that all of a pair's indices rise at once, or all fall.
+pub fn fit_tables(chance: &mut Chance) -> Tables {
     let ends = [i32::MIN, i32::MIN + 1, -1, 0, 1, i32::MAX - 1, i32::MAX];
-    let edge = |chance: &mut Chance, n: usize| (0..n).map(|_| chance.pick(&ends)).collect();
-    match chance.below(8) {
-        0 => zeros,
-        1 => Tables { thresholds: vec![-1; THRESHOLDS], ..zeros },
-        2 | 3 => Tables { codebook: small(chance, CODEBOOK), thresholds: small(chance, THRESHOLDS).into_iter().map(|t: i32| t + 500).collect() },
-        4 => Tables { codebook: small(chance, CODEBOOK), thresholds: vec![1100; THRESHOLDS] },
-        5 => Tables { codebook: small(chance, CODEBOOK), thresholds: small(chance, THRESHOLDS) },
-        6 => Tables { codebook: edge(chance, CODEBOOK), thresholds: edge(chance, THRESHOLDS) },
-        _ => Tables { codebook: edge(chance, CODEBOOK), thresholds: vec![chance.pick(&[i32::MAX, i32::MAX - 1, i32::MIN]); THRESHOLDS] },
+    let limits = [0, 1, i32::MAX - 1, i32::MAX];
+    let around = |chance: &mut Chance, middle: usize| numbers(THRESHOLDS, || (middle - 100 + chance.below(201)) as i32);
+    let small = |chance: &mut Chance| numbers(CODEBOOK, || chance.below(2001) as i32 - 1000);
+    match chance.below(14) {
+        0 => Tables { codebook: vec![0; CODEBOOK], thresholds: vec![0; THRESHOLDS] },
+        1 => Tables { codebook: small(chance), thresholds: around(chance, 1410) },
+        2 | 3 => Tables { codebook: small(chance), thresholds: around(chance, 920) },
+        4..=6 => Tables { codebook: small(chance), thresholds: numbers(THRESHOLDS, || chance.below(600) as i32) },
+        7 => Tables { codebook: numbers(CODEBOOK, || chance.below(3) as i32 - 1), thresholds: vec![0; THRESHOLDS] },
+        8 => Tables { codebook: numbers(CODEBOOK, || chance.pick(&ends)), thresholds: numbers(THRESHOLDS, || chance.pick(&limits)) },
+        9 => Tables { codebook: numbers(CODEBOOK, || chance.pick(&ends)), thresholds: vec![chance.pick(&limits); THRESHOLDS] },
+        10 => Steps::any(chance).tables,
+        11 => {
+            let threshold = chance.pick(&limits);
+            Steps::at_the_ends(chance, threshold).tables
+        }
+        12 => one_element(chance),
+        _ => zero_apart(chance),
     }
+}
+
+fn numbers(count: usize, draw: impl FnMut() -> i32) -> Vec<i32> {
+    std::iter::repeat_with(draw).take(count).collect()
+}
+
+fn one_element(chance: &mut Chance) -> Tables {
+    let alive: [usize; FRAME] = std::array::from_fn(|_| chance.below(2));
+    let threshold = chance.below(1000) as i32;
+    let mut number = |i: usize| if i % 2 == alive[(i / 128).min(FRAME - 1)] { chance.below(2001) as i32 - 1000 } else { 7 };
+    Tables { codebook: (0..CODEBOOK).map(&mut number).collect(), thresholds: vec![threshold; THRESHOLDS] }
+}
+
+fn zero_apart(chance: &mut Chance) -> Tables {
+    let threshold = chance.pick(&[0, 1, 1000, i32::MAX - 1, i32::MAX]);
+    let (high, zero_is_high) = (chance.pick(&[threshold, threshold, threshold - 1]), chance.once_in(2));
+    let entry = |i: usize| if i < 768 { i % 128 / 2 } else { (i - 768) / 2 };
+    let number = |i: usize| if (entry(i) == 0) == zero_is_high { high } else { -1 };
+    Tables { codebook: (0..CODEBOOK).map(number).collect(), thresholds: vec![threshold; THRESHOLDS] }
+}
+
+/// A number that no threshold may be.
+pub fn negative(chance: &mut Chance) -> i32 {
+    let any = -1 - chance.below(1 << 31) as i32;
+    chance.pick(&[-1, i32::MIN, i32::MIN + 1, any])
+}
+
+/// One or more of the thresholds negative: 10.
+pub fn turn_negative(chance: &mut Chance, thresholds: &mut [i32]) {
+    let any = 1 + chance.below(thresholds.len());
+    let count = chance.pick(&[1, 1, 1, any.min(2), any]);
+    for number in chance.places(count, thresholds.len()) {
+        thresholds[number] = negative(chance);
+    }
+}
+
+/// As fit_tables, but one in ten has negative thresholds.
+pub fn tables(chance: &mut Chance) -> Tables {
+    let mut tables = fit_tables(chance);
+    if chance.once_in(10) {
+        turn_negative(chance, &mut tables.thresholds);
+    }
+    tables
+}
+
+/// Tables of another length (11), with negative thresholds (10), with both or with neither.
+pub fn faulty_tables(chance: &mut Chance, of_other_length: bool, with_negative: bool) -> Tables {
+    let mut tables = fit_tables(chance);
+    let (codebook, thresholds) = chance.pick(&[(0, 14), (1279, 14), (1281, 14), (1280, 1), (1280, 13), (1280, 15), (1279, 13), (1281, 15)]);
+    if of_other_length {
+        tables.codebook.resize(codebook, 0);
+        tables.thresholds.resize(thresholds, 0);
+    }
+    if with_negative {
+        turn_negative(chance, &mut tables.thresholds);
+    }
+    tables
 }

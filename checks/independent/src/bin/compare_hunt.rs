@@ -5,9 +5,10 @@ use independent::driver::{DEFAULT, KNOWN_CHOICES, ONE_HEADER_SETTLES};
 use independent::header::{encode, Code};
 use independent::hunting::{bits_of, hunt, octets_of, read_bits, HEADER_BITS, MULTIFRAME_BITS, SYNC_BITS};
 use independent::reading::{CODEBOOK, MOST, REPORT, THRESHOLDS};
+use independent::steps::{every_two_steps, every_two_steps_shuffled, Beside, Steps};
 use independent::stream::{INDICES, PAIRS};
-use independent::utterance::{bad_packet, damage_anywhere, estrange, forbid, image, only_headers, set_header, spoil, tables};
-use independent::utterance::{unsettle, utterance, Part, Tables};
+use independent::utterance::{bad_packet, damage_anywhere, estrange, faulty_tables, fit_tables, forbid, image, negative, only_headers};
+use independent::utterance::{set_header, spoil, tables, unsettle, utterance, Part, Tables};
 use independent::writing::{Refusal, INVERSE, MULTIFRAME, SYNC};
 
 type Bits = Vec<bool>;
@@ -239,13 +240,23 @@ impl Check {
         }
     }
 
-    /// With room to spare for as many multiframes as could be there.
     fn read_roomy(&mut self, name: &str, search: &Search) {
+        let tables = tables(&mut self.chance);
+        self.read_roomy_by(name, search, tables);
+    }
+
+    /// With room to spare for as many multiframes as could be there.
+    fn read_roomy_by(&mut self, name: &str, search: &Search, tables: Tables) {
         let m = search.octets.len() / MULTIFRAME;
         let spare = self.chance.below(3);
-        let tables = tables(&mut self.chance);
         let lent = Lent { tables, index: INDICES * m + 20 * spare, report: REPORT * m + 20 * spare, answer: ANSWER + spare };
         self.read(name, search, &lent);
+    }
+
+    /// As read_roomy, with no threshold negative.
+    fn read_fit(&mut self, name: &str, search: &Search) {
+        let tables = fit_tables(&mut self.chance);
+        self.read_roomy_by(name, search, tables);
     }
 
     fn both(&mut self, name: &str, search: &Search) {
@@ -502,7 +513,7 @@ impl Check {
                         let bits = spread(&mut self.chance, &parts, 1, 9);
                         let search = Search::new(&whole(&mut self.chance, &bits), 0, 15);
                         let (index, report) = (INDICES * m - short_index, REPORT * m - short_report);
-                        let lent = Lent { tables: tables(&mut self.chance), index, report, answer };
+                        let lent = Lent { tables: fit_tables(&mut self.chance), index, report, answer };
                         self.read("buffers exact, one short, one multiframe short, empty", &search, &lent);
                     }
                 }
@@ -558,7 +569,7 @@ impl Check {
                     self.damage_pairs(&mut parts, 40);
                     let bits = spread(&mut self.chance, &parts, 16 - least as usize, longest);
                     let octets = whole(&mut self.chance, &bits);
-                    self.read_roomy("254 to 257 multiframes, also with gaps", &Search::new(&octets, 0, least));
+                    self.read_fit("254 to 257 multiframes, also with gaps", &Search::new(&octets, 0, least));
                 }
             }
         }
@@ -583,7 +594,7 @@ impl Check {
                 _ => {}
             }
             let (octets, least) = (whole(&mut self.chance, &bits), self.least());
-            self.read_roomy("one thing amiss in each of 255 multiframes", &Search::new(&octets, 0, least));
+            self.read_fit("one thing amiss in each of 255 multiframes", &Search::new(&octets, 0, least));
         }
     }
 
@@ -601,14 +612,14 @@ impl Check {
             let (flips, longest) = (self.chance.pick(&[0, 0, 3]), self.chance.pick(&[0, 0, 9, 70]));
             let bits = spread(&mut self.chance, &parts, flips, longest);
             let (octets, least) = (whole(&mut self.chance, &bits), self.least());
-            self.read_roomy("damage and settings anywhere in long utterances", &Search::new(&octets, 0, least));
+            self.read_fit("damage and settings anywhere in long utterances", &Search::new(&octets, 0, least));
         }
     }
 
     /// Every set of refusals that can apply at once, by both rules and with a choice that there is not, each with an answer that is too
     /// short and with one that is not. By the default rule an only multiframe is unsettled whatever its header.
     fn every_set(&mut self) {
-        for set in 0..3 * 3 * 32 {
+        for set in 0..3 * 3 * 64 {
             for turn in 0..4 {
                 let (met, settings) = ([0, 22, 15][set % 3], set / 3 % 3);
                 let has = |fault: usize| set / 9 >> fault & 1 == 1;
@@ -629,12 +640,121 @@ impl Check {
                 let octets = [&zeros[..], &if met == 22 { self.chance.octets(143) } else { image(&parts) }].concat();
                 let from = self.chance.below(8 * zeros.len() + 1) as u64;
                 let least = if has(1) { self.chance.pick(&[0, 11, 17, 1 << 32 | 12, u64::MAX]) } else { 16 };
-                let lent = self.lend_faulty(m, [has(2), has(3), has(4)], turn % 2 == 1);
+                let lent = self.lend_faulty(m, [has(2), has(3), has(4), has(5)], turn % 2 == 1);
                 let search = Search::new(&octets, from, least);
                 self.hunt("every set of refusals at once", &search);
                 for choices in [DEFAULT, ONE_HEADER_SETTLES, self.chance.pick(&unknown_choices())] {
                     self.read_chosen("every set of refusals at once", &search, choices, &lent);
                 }
+            }
+        }
+    }
+
+    /// A search and rooms that are refused with the number if the tables are fit, or read if it is 0.
+    fn refused_with(&mut self, number: u32) -> (Search, usize, usize) {
+        let m = if number == 15 { MOST + 1 } else { 2 + self.chance.below(2) };
+        let mut parts = utterance(&mut self.chance, m);
+        match number {
+            16 => unsettle_found(&mut self.chance, &mut parts),
+            17 => forbid(&mut self.chance, &mut parts),
+            20 => spoil(&mut self.chance, &mut parts),
+            _ => {}
+        }
+        let shift = self.chance.below(20);
+        let bits = [vec![false; shift], bits_of(&image(&parts))].concat();
+        let octets = whole(&mut self.chance, &bits);
+        let beyond = [8 * octets.len() as u64, (8 * octets.len() + 1) as u64, 1 << 40, u64::MAX];
+        let from = if number == 22 { self.chance.pick(&beyond) } else { 0 };
+        let least = if number == 21 { self.chance.pick(&[0, 11, 17, 1 << 32 | 12, u64::MAX]) } else { 16 };
+        (Search::new(&octets, from, least), INDICES * m - (number == 18) as usize, REPORT * m - (number == 19) as usize)
+    }
+
+    /// Each threshold negative alone, every two of them and all from each on, and 0 at each place, which is not negative: with numbers that
+    /// are all 0 and with any, and whatever else would be refused.
+    fn negative_thresholds(&mut self) {
+        let zeros = Tables { codebook: vec![0; CODEBOOK], thresholds: vec![0; THRESHOLDS] };
+        for number in [0].into_iter().chain(15..=22) {
+            let (search, index, report) = self.refused_with(number);
+            for place in 0..THRESHOLDS {
+                for value in [-1, -2, -256, i32::MIN, i32::MIN + 1, negative(&mut self.chance)] {
+                    for mut tables in [zeros.clone(), fit_tables(&mut self.chance)] {
+                        tables.thresholds[place] = value;
+                        let lent = Lent { tables, index, report, answer: ANSWER };
+                        self.read("each threshold negative, whatever else is refused", &search, &lent);
+                    }
+                }
+                let mut tables = fit_tables(&mut self.chance);
+                tables.thresholds[place..].fill_with(|| negative(&mut self.chance));
+                self.read("all thresholds from each on negative", &search, &Lent { tables, index, report, answer: ANSWER });
+            }
+        }
+        let (search, index, report) = self.refused_with(0);
+        for value in [-1, -2, i32::MIN, i32::MIN + 1, negative(&mut self.chance)] {
+            for tables in [zeros.clone(), fit_tables(&mut self.chance)] {
+                let tables = Tables { thresholds: vec![value; THRESHOLDS], ..tables };
+                self.read("all thresholds negative and alike", &search, &Lent { tables, index, report, answer: ANSWER });
+            }
+        }
+        for place in 0..THRESHOLDS {
+            let mut tables = fit_tables(&mut self.chance);
+            tables.thresholds.iter_mut().for_each(|threshold| *threshold = (*threshold).max(1));
+            tables.thresholds[place] = 0;
+            self.read("each threshold 0 and the others above it", &search, &Lent { tables, index, report, answer: ANSWER });
+            for first in 0..place {
+                let any = (negative(&mut self.chance), negative(&mut self.chance));
+                for (one, two) in [(-1, -1), (-1, i32::MIN), (i32::MIN, -1), any] {
+                    let mut tables = fit_tables(&mut self.chance);
+                    (tables.thresholds[first], tables.thresholds[place]) = (one, two);
+                    self.read("every two thresholds negative", &search, &Lent { tables, index, report, answer: ANSWER });
+                }
+            }
+        }
+        let nothing = Search::new(&[], 5, 12);
+        for (codebook, thresholds) in [0, 1279, 1280, 1281].into_iter().flat_map(|codebook| [1, 13, 14, 15, 28].map(|n| (codebook, n))) {
+            for place in 0..thresholds {
+                for search in [&search, &nothing] {
+                    let mut tables = Tables { codebook: vec![0; codebook], thresholds: vec![0; thresholds] };
+                    tables.thresholds[place] = negative(&mut self.chance);
+                    self.read("tables of other lengths with a negative threshold", search, &Lent { tables, index, report, answer: ANSWER });
+                }
+            }
+        }
+    }
+
+    /// The multiframes, a gap before them, read by the tables.
+    fn read_steps(&mut self, name: &str, parts: &[Part], steps: &Steps) {
+        let shift = self.chance.below(20);
+        let bits = [vec![false; shift], bits_of(&image(parts))].concat();
+        let octets = whole(&mut self.chance, &bits);
+        self.read_roomy_by(name, &Search::new(&octets, shift as u64, 16), steps.tables.clone());
+    }
+
+    /// Rises and falls of one element in each of two index pairs, by the threshold, by one more and by more than that: of every two index
+    /// pairs, elements, directions and sizes, all over 255 multiframes and alone among calm ones.
+    fn rises_and_falls(&mut self) {
+        let mut tables: Vec<Steps> = (0..4).map(|_| Steps::any(&mut self.chance)).collect();
+        tables.extend([i32::MAX, i32::MAX - 1, 1, 0].map(|threshold| Steps::at_the_ends(&mut self.chance, threshold)));
+        for (turn, steps) in tables.iter().enumerate() {
+            let twos = every_two_steps_shuffled(&mut self.chance);
+            for (first, half) in twos.chunks(1512).enumerate() {
+                let parts = steps.dense(&mut self.chance, MOST, first, half);
+                self.read_steps("rises and falls in each second of 3,060 pairs", &parts, steps);
+            }
+            for start in 0..5 {
+                let parts = steps.chain(&mut self.chance, MOST, &twos[600 * start..]);
+                self.read_steps("rises and falls in long runs of 3,060 pairs", &parts, steps);
+            }
+            let places = [0, 1399, 1400, 3059].map(|q| if self.chance.once_in(3) { self.chance.below(3060) } else { q });
+            for (q, two) in places.into_iter().zip(&twos) {
+                let beside = self.chance.pick(&[Beside::NextFails, Beside::OneBeforeIsBad]);
+                let parts = steps.alone(&mut self.chance, MOST, q, two, beside);
+                self.read_steps("rises and falls of one pair of 3,060", &parts, steps);
+            }
+            for two in every_two_steps().iter().skip(turn).step_by(8) {
+                let m = 1 + self.chance.below(3);
+                let (q, beside) = (self.chance.below(PAIRS * m), self.chance.pick(&[Beside::NextFails, Beside::OneBeforeIsBad]));
+                let parts = steps.alone(&mut self.chance, m, q, two, beside);
+                self.read_steps("rises and falls of one pair of up to 36", &parts, steps);
             }
         }
     }
@@ -723,14 +843,11 @@ impl Check {
         }
     }
 
-    /// Tables of another length, short index and report buffers, a short answer: those that are said.
-    fn lend_faulty(&mut self, m: usize, faults: [bool; 3], short_answer: bool) -> Lent {
-        let mut tables = tables(&mut self.chance);
-        if faults[0] {
-            tables.thresholds.resize(self.chance.pick(&[0, 13, 15]), 0);
-        }
-        let index = if faults[1] { self.chance.pick(&[0, INDICES * m.min(MOST) - 1]) } else { INDICES * m };
-        let report = if faults[2] { self.chance.pick(&[0, REPORT * m.min(MOST) - 1]) } else { REPORT * m };
+    /// Tables of another length, negative thresholds, short index and report buffers, a short answer: those that are said.
+    fn lend_faulty(&mut self, m: usize, faults: [bool; 4], short_answer: bool) -> Lent {
+        let tables = faulty_tables(&mut self.chance, faults[0], faults[1]);
+        let index = if faults[2] { self.chance.pick(&[0, INDICES * m.min(MOST) - 1]) } else { INDICES * m };
+        let report = if faults[3] { self.chance.pick(&[0, REPORT * m.min(MOST) - 1]) } else { REPORT * m };
         let answer = if short_answer { self.chance.below(ANSWER) } else { ANSWER + self.chance.below(3) };
         Lent { tables, index, report, answer }
     }
@@ -776,11 +893,11 @@ impl Check {
             let whole = bits_of(&image(&utterance(&mut self.chance, MOST)));
             let octets = octets_of(&[gap(&mut self.chance, shift), whole, end].concat());
             let from = self.chance.pick(&[0, shift as u64]);
-            self.read_roomy("255 multiframes and a match, or nearly one", &Search::new(&octets, from, least));
+            self.read_fit("255 multiframes and a match, or nearly one", &Search::new(&octets, from, least));
         }
         let octets = image(&utterance(&mut self.chance, MOST));
         for (index, report) in [(42839, 3315), (42840, 3314), (42840, 3315), (42841, 3316), (0, 0)] {
-            let lent = Lent { tables: tables(&mut self.chance), index, report, answer: ANSWER };
+            let lent = Lent { tables: fit_tables(&mut self.chance), index, report, answer: ANSWER };
             self.read("255 multiframes, buffers one short, exact, one more", &Search::new(&octets, 0, 16), &lent);
         }
     }
@@ -802,7 +919,7 @@ impl Check {
                 }
                 let octets = image(&parts);
                 for octets in [&octets[..], &octets[..octets.len() - 1]] {
-                    let lent = Lent { tables: tables(&mut self.chance), index, report, answer: ANSWER };
+                    let lent = Lent { tables: fit_tables(&mut self.chance), index, report, answer: ANSWER };
                     self.read("256 multiframes, whole and cut, of which 255 would be refused", &Search::new(octets, 0, 16), &lent);
                 }
             }
@@ -828,7 +945,7 @@ impl Check {
             self.hunt("bits beyond 2^32 in number", search);
         }
         for search in &searches {
-            self.read_roomy("bits beyond 2^32 in number, also a 256th multiframe", search);
+            self.read_fit("bits beyond 2^32 in number, also a 256th multiframe", search);
         }
     }
 
@@ -840,6 +957,8 @@ impl Check {
 
 fn main() {
     let mut check = Check { driver: Driver::start(), chance: Chance::new(seed()), code: Code::new() };
+    check.negative_thresholds();
+    check.rises_and_falls();
     check.every_set();
     check.only_multiframe();
     check.more_than_one();

@@ -4,9 +4,10 @@ use independent::driver::{over, rule_of, unknown_choices, Call, Driver, ANSWER_S
 use independent::driver::{DEFAULT, KNOWN_CHOICES, ONE_HEADER_SETTLES};
 use independent::header::{encode, Code};
 use independent::reading::{read, Rule, CODEBOOK, REPORT, THRESHOLDS};
+use independent::steps::{every_two_steps, every_two_steps_shuffled, Beside, Steps};
 use independent::stream::{packet_of, packets_of, INDICES, PAIRS};
-use independent::utterance::{bad_packet, damage_anywhere, estrange, forbid, image, only_headers, set_header, spoil, tables};
-use independent::utterance::{unsettle, utterance, Part, Tables};
+use independent::utterance::{bad_packet, damage_anywhere, estrange, faulty_tables, fit_tables, forbid, image, negative, only_headers};
+use independent::utterance::{set_header, spoil, tables, unsettle, utterance, Part, Tables};
 use independent::writing::{INVERSE, MULTIFRAME, SYNC};
 
 const ANSWER: usize = 6;
@@ -150,7 +151,7 @@ impl Check {
             }
         }
         let parts = utterance(&mut self.chance, 3);
-        let tables = tables(&mut self.chance);
+        let tables = fit_tables(&mut self.chance);
         for a in 0..32 {
             for b in a..32 {
                 for k in 0..3 {
@@ -173,7 +174,7 @@ impl Check {
                             part.header ^= 0b111 << self.chance.below(30);
                         }
                     }
-                    let tables = tables(&mut self.chance);
+                    let tables = fit_tables(&mut self.chance);
                     self.compare_roomy("all headers lost but two, and but one", &image(&parts), &tables);
                 }
             }
@@ -200,7 +201,7 @@ impl Check {
                 let mut parts = utterance(&mut self.chance, 2);
                 let (k, p) = (self.chance.below(2), self.chance.below(PAIRS));
                 parts[k].packets[p] ^= 1 << at | 1 << (at + distance);
-                let tables = tables(&mut self.chance);
+                let tables = fit_tables(&mut self.chance);
                 self.compare_roomy("double flips at every distance", &image(&parts), &tables);
             }
         }
@@ -244,7 +245,7 @@ impl Check {
             for p in (0..3060).filter(|p| !good.contains(p)) {
                 parts[p / PAIRS].packets[p % PAIRS] ^= 1;
             }
-            let tables = tables(&mut self.chance);
+            let tables = fit_tables(&mut self.chance);
             self.compare_roomy("255 multiframes with one or two good pairs", &image(&parts), &tables);
         }
     }
@@ -260,7 +261,7 @@ impl Check {
         for _ in 0..12 {
             let m = 1 + self.chance.below(3);
             let octets = self.spread(m);
-            let tables = tables(&mut self.chance);
+            let tables = fit_tables(&mut self.chance);
             for end in 0..=octets.len() {
                 self.compare_roomy("cut at every octet", &octets[..end], &tables);
             }
@@ -283,14 +284,14 @@ impl Check {
 
     fn few_octets(&mut self) {
         for first in 0..=255u8 {
-            let tables = tables(&mut self.chance);
+            let tables = fit_tables(&mut self.chance);
             self.compare_roomy("every single octet", &[first], &tables);
             for second in [0x00, 0x4D, 0xB2, 0xFF] {
                 self.compare_roomy("every first octet with 00, 4D, B2, FF", &[first, second], &tables);
             }
         }
         for second in 0..=255u8 {
-            let tables = tables(&mut self.chance);
+            let tables = fit_tables(&mut self.chance);
             for first in [0x87, 0x78] {
                 self.compare_roomy("87 and 78 with every second octet", &[first, second], &tables);
             }
@@ -319,7 +320,7 @@ impl Check {
 
     /// 255 multiframes and what can follow them.
     fn most(&mut self) {
-        let tables = tables(&mut self.chance);
+        let tables = fit_tables(&mut self.chance);
         let parts = utterance(&mut self.chance, 256);
         let whole = image(&parts[..255]);
         let last = parts[255].octets();
@@ -341,14 +342,14 @@ impl Check {
             for short_index in [0, 1, INDICES, INDICES * m] {
                 for short_report in [0, 1, REPORT, REPORT * m] {
                     let parts = utterance(&mut self.chance, m);
-                    let tables = tables(&mut self.chance);
+                    let tables = fit_tables(&mut self.chance);
                     let rooms = (INDICES * m - short_index, REPORT * m - short_report);
                     self.compare("buffers exact, one octet short, one multiframe short, empty", &image(&parts), &tables, rooms);
                 }
             }
         }
         let parts = utterance(&mut self.chance, 255);
-        let tables = tables(&mut self.chance);
+        let tables = fit_tables(&mut self.chance);
         for rooms in [(42839, 3315), (42840, 3314), (42840, 3315), (42841, 3316), (0, 0)] {
             self.compare("255 multiframes, buffers one octet short, exact, one more", &image(&parts), &tables, rooms);
         }
@@ -404,7 +405,7 @@ impl Check {
             let m = if round % 3 == 0 { 20 + self.chance.below(236) } else { 255 };
             let mut parts = utterance(&mut self.chance, m);
             damage_anywhere(&mut self.chance, &mut parts);
-            let tables = tables(&mut self.chance);
+            let tables = fit_tables(&mut self.chance);
             self.compare_roomy("damage anywhere in long utterances", &image(&parts), &tables);
         }
     }
@@ -420,7 +421,7 @@ impl Check {
                 let settings = encode(self.chance.pick(&[0u16, 1, 3, 4, 5, 7, 2, 128]) | 8);
                 self.chance.places(2, 255).into_iter().for_each(|k| parts[k].header = settings);
             }
-            let tables = tables(&mut self.chance);
+            let tables = fit_tables(&mut self.chance);
             self.compare_roomy("settings settled by two headers anywhere of 255", &image(&parts), &tables);
         }
     }
@@ -428,7 +429,7 @@ impl Check {
     /// One multiframe of 255 damaged or with another header, each by turns.
     fn one_amiss(&mut self) {
         let parts = utterance(&mut self.chance, 255);
-        let tables = tables(&mut self.chance);
+        let tables = fit_tables(&mut self.chance);
         let whole = image(&parts);
         for k in 0..255 {
             let mut part = parts[k].clone();
@@ -463,7 +464,7 @@ impl Check {
     /// Every set of refusals that can apply at once, by both rules and with a choice that there is not, each with an answer that is too
     /// short and with one that is not. By the default rule an only multiframe is unsettled whatever its header.
     fn every_set(&mut self) {
-        for set in 0..5 * 3 * 16 {
+        for set in 0..5 * 3 * 32 {
             for turn in 0..6 {
                 for choices in [DEFAULT, ONE_HEADER_SETTLES, self.chance.pick(&unknown_choices())] {
                     self.one_set(set, turn, choices);
@@ -475,7 +476,7 @@ impl Check {
     fn one_set(&mut self, set: usize, turn: usize, choices: u64) {
         let (cut, settings) = ([0, 12, 13, 14, 15][set % 5], set / 5 % 3);
         let short = [1, 2, 3 + self.chance.below(3)][turn / 2];
-        let m = if cut == 15 || turn == 4 && set % 4 == 0 { 255 } else { short };
+        let m = if cut == 15 || turn == 4 && set % 8 == 0 { 255 } else { short };
         if cut == 15 && turn > 1 {
             return;
         }
@@ -490,14 +491,108 @@ impl Check {
             spoil(&mut self.chance, &mut parts);
         }
         let octets = self.cut_off(cut, if cut == 14 { &[] } else { &parts });
-        let mut tables = tables(&mut self.chance);
-        if has(1) {
-            tables.codebook.resize(self.chance.pick(&[0, 1279, 1281]), 0);
-        }
+        let tables = faulty_tables(&mut self.chance, has(1), has(4));
         let short = |chance: &mut Chance, short, room| if short { chance.pick(&[0, room - 1]) } else { room };
         let rooms = (short(&mut self.chance, has(2), INDICES * m), short(&mut self.chance, has(3), REPORT * m));
         let numbers = if turn % 2 == 0 { ANSWER + self.chance.below(5) } else { self.chance.below(ANSWER) };
         self.compare_asked("every set of refusals at once", &octets, &tables, Asked { rooms, numbers, choices });
+    }
+
+    /// Octets and rooms that are refused with the number if the tables are fit, or read if it is 0.
+    fn refused_with(&mut self, number: u32) -> (Vec<u8>, (usize, usize)) {
+        let m = if number == 15 { 255 } else { 2 + self.chance.below(2) };
+        let mut parts = utterance(&mut self.chance, m);
+        match number {
+            16 => unsettle(&mut self.chance, &mut parts),
+            17 => forbid(&mut self.chance, &mut parts),
+            20 => spoil(&mut self.chance, &mut parts),
+            _ => {}
+        }
+        let octets = self.cut_off(number, if number == 14 { &[] } else { &parts });
+        (octets, (INDICES * m - (number == 18) as usize, REPORT * m - (number == 19) as usize))
+    }
+
+    /// Each threshold negative alone, every two of them and all from each on, and 0 at each place, which is not negative: with numbers that
+    /// are all 0 and with any, and whatever else would be refused.
+    fn negative_thresholds(&mut self) {
+        let zeros = Tables { codebook: vec![0; CODEBOOK], thresholds: vec![0; THRESHOLDS] };
+        for number in [0].into_iter().chain(12..=20) {
+            let (octets, rooms) = self.refused_with(number);
+            for place in 0..THRESHOLDS {
+                for value in [-1, -2, -256, i32::MIN, i32::MIN + 1, negative(&mut self.chance)] {
+                    for mut tables in [zeros.clone(), fit_tables(&mut self.chance)] {
+                        tables.thresholds[place] = value;
+                        self.compare("each threshold negative, whatever else is refused", &octets, &tables, rooms);
+                    }
+                }
+                let mut tables = fit_tables(&mut self.chance);
+                tables.thresholds[place..].fill_with(|| negative(&mut self.chance));
+                self.compare("all thresholds from each on negative", &octets, &tables, rooms);
+                let mut tables = fit_tables(&mut self.chance);
+                tables.thresholds.iter_mut().for_each(|threshold| *threshold = (*threshold).max(1));
+                tables.thresholds[place] = 0;
+                self.compare("each threshold 0 and the others above it", &octets, &tables, rooms);
+            }
+        }
+        let (octets, rooms) = self.refused_with(0);
+        for value in [-1, -2, i32::MIN, i32::MIN + 1, negative(&mut self.chance)] {
+            for tables in [zeros.clone(), fit_tables(&mut self.chance)] {
+                let alike = Tables { thresholds: vec![value; THRESHOLDS], ..tables };
+                self.compare("all thresholds negative and alike", &octets, &alike, rooms);
+            }
+        }
+        for second in 0..THRESHOLDS {
+            for first in 0..second {
+                let any = (negative(&mut self.chance), negative(&mut self.chance));
+                for (one, two) in [(-1, -1), (-1, i32::MIN), (i32::MIN, -1), any] {
+                    let mut tables = fit_tables(&mut self.chance);
+                    (tables.thresholds[first], tables.thresholds[second]) = (one, two);
+                    self.compare("every two thresholds negative", &octets, &tables, rooms);
+                }
+            }
+        }
+        for (codebook, thresholds) in [0, 1279, 1280, 1281].into_iter().flat_map(|codebook| [1, 13, 14, 15, 28].map(|n| (codebook, n))) {
+            for place in 0..thresholds {
+                let mut tables = Tables { codebook: vec![0; codebook], thresholds: vec![0; thresholds] };
+                tables.thresholds[place] = negative(&mut self.chance);
+                for octets in [&octets[..], &[]] {
+                    self.compare("tables of other lengths with a negative threshold", octets, &tables, rooms);
+                }
+            }
+        }
+    }
+
+    /// Tables for which steps can be made: any, and those at the ends of 32 bits.
+    fn steps(&mut self) -> Vec<Steps> {
+        let any = (0..8).map(|_| Steps::any(&mut self.chance)).collect::<Vec<_>>();
+        let ends = [i32::MAX, i32::MAX - 1, 1, 0].map(|threshold| Steps::at_the_ends(&mut self.chance, threshold));
+        any.into_iter().chain(ends).collect()
+    }
+
+    /// Rises and falls of one element in each of two index pairs, by the threshold, by one more and by more than that: of every two index
+    /// pairs, elements, directions and sizes, all over 255 multiframes and alone among calm ones.
+    fn rises_and_falls(&mut self) {
+        for (turn, steps) in self.steps().iter().enumerate() {
+            let twos = every_two_steps_shuffled(&mut self.chance);
+            for (first, half) in twos.chunks(1512).enumerate() {
+                let parts = steps.dense(&mut self.chance, 255, first, half);
+                self.compare_roomy("rises and falls in each second of 3,060 pairs", &image(&parts), &steps.tables);
+            }
+            let parts = steps.chain(&mut self.chance, 255, &twos);
+            self.compare_roomy("rises and falls in long runs of 3,060 pairs", &image(&parts), &steps.tables);
+            let ends = [0, 1, 11, 12, 1399, 1400, 3058, 3059].map(|q| if self.chance.once_in(3) { self.chance.below(3060) } else { q });
+            for (q, two) in ends.into_iter().zip(&twos) {
+                let beside = self.chance.pick(&[Beside::NextFails, Beside::OneBeforeIsBad]);
+                let parts = steps.alone(&mut self.chance, 255, q, two, beside);
+                self.compare_roomy("rises and falls of one pair of 3,060", &image(&parts), &steps.tables);
+            }
+            for two in every_two_steps().iter().skip(turn % 8).step_by(8) {
+                let m = 1 + self.chance.below(3);
+                let (q, beside) = (self.chance.below(PAIRS * m), self.chance.pick(&[Beside::NextFails, Beside::OneBeforeIsBad]));
+                let parts = steps.alone(&mut self.chance, m, q, two, beside);
+                self.compare_roomy("rises and falls of one pair of up to 36", &image(&parts), &steps.tables);
+            }
+        }
     }
 
     fn compare_by_both(&mut self, name: &str, octets: &[u8], tables: &Tables, rooms: (usize, usize)) {
@@ -527,7 +622,7 @@ impl Check {
             }
         }
         let parts = utterance(&mut self.chance, 1);
-        let tables = tables(&mut self.chance);
+        let tables = fit_tables(&mut self.chance);
         for a in 0..32 {
             for b in a..32 {
                 let mut flipped = parts.clone();
@@ -579,7 +674,7 @@ impl Check {
                 let parts = utterance(&mut self.chance, m);
                 let near = self.cut_off(number, if number == 14 { &[] } else { &parts });
                 let between = [&parts[0].octets()[..], &far, &near].concat();
-                let tables = tables(&mut self.chance);
+                let tables = fit_tables(&mut self.chance);
                 for octets in [[&far[..], &near].concat(), between] {
                     self.compare("places beyond 65,536", &octets, &tables, (INDICES * 255, REPORT * 255));
                 }
@@ -662,6 +757,8 @@ impl Check {
 fn main() {
     let mut check = Check { driver: Driver::start(), chance: Chance::new(seed()), code: Code::new() };
     check.examples();
+    check.negative_thresholds();
+    check.rises_and_falls();
     check.every_set();
     check.only_multiframe();
     check.more_than_one();
