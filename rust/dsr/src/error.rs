@@ -66,6 +66,7 @@ refusals! {
     WriteIndexValue = 4, "one of the first six indices of a frame above 63", "first such frame, from 1";
     WriteZeroFrame = 5, "an all-zero frame that is the last, or whose number is a multiple of 24", "first such frame, from 1";
     WriteOutputShort = 6, "output shorter than 144m", "octets needed";
+    ReadThreshold = 10, "a negative threshold", "the first one's number, from 0";
     ReadTables = 11, "codebook not 1,280 or thresholds not 14", "0";
     ReadUnknown = 12, "octets at p begin nothing known", "p";
     ReadCut = 13, "sync with too few octets, or a lone last 87 or 78", "p";

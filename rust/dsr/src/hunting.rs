@@ -51,8 +51,8 @@ pub struct BitsReading<B> {
 /// `read_bits_into` hunts from bit `from` on, takes the 1,152 bits found, hunts on right behind them, and so on to the end. What it found
 /// is read as [`read_into`](crate::read_into) does it, with its syncs taken as whole, into lent buffers.
 ///
-/// Refusals: 21, 22 and 15 to 20, and neither buffer is touched. [`Error::ReadTooMany`] (15) is here a match after 255 multiframes, a cut
-/// one is none, and its place a bit. By [`Choices::DEFAULT`] a multiframe that alone was found is refused with 16.
+/// Refusals: 10, 21, 22 and 15 to 20, in that order, and neither buffer is touched. [`Error::ReadTooMany`] (15) is here a match after 255
+/// multiframes, a cut one is none, and its place a bit. By [`Choices::DEFAULT`] a multiframe that alone was found is refused with 16.
 ///
 /// ```
 /// use dsr::{read_bits_into, write_into, Choices, FrontEnd, Rate, Settings, Tables};
@@ -77,8 +77,8 @@ pub fn read_bits_into<'b>(
     Ok(BitsReading { utterance: lent_part(reading, index, report), outside, tested })
 }
 
-/// `read_bits` hunts and reads as [`read_bits_into`] does, and gives the utterance in vectors of its own. Refusals: 21, 22, 15 to 17 and
-/// 20; there is always room.
+/// `read_bits` hunts and reads as [`read_bits_into`] does, and gives the utterance in vectors of its own. Refusals: 10, 21, 22, 15 to 17
+/// and 20; there is always room.
 ///
 /// ```
 /// use dsr::{read_bits, write, Choices, FrontEnd, Rate, Settings, Tables};

@@ -5,8 +5,8 @@ use crate::{Choices, Error, Reading, Tables, Utterance, MULTIFRAME_INDICES, MULT
 /// `read_into` reads received octets into lent buffers: all frames to `index`, 168 octets a multiframe, and a header note and twelve pair
 /// notes to `report`, 13 octets a multiframe. Octets beyond them stay.
 ///
-/// Refusals: 12 to 20, and neither buffer is touched. (11 is given by [`Tables::new`].) By [`Choices::DEFAULT`] an only multiframe is
-/// refused with 16. A caller who cannot know the number of multiframes lends buffers for
+/// Refusals: 10 and 12 to 20, and neither buffer is touched. (11 is given by [`Tables::new`].) By [`Choices::DEFAULT`] an only multiframe
+/// is refused with 16. A caller who cannot know the number of multiframes lends buffers for
 /// [`most_multiframes`](crate::most_multiframes).
 ///
 /// ```
@@ -30,8 +30,8 @@ pub fn read_into<'b>(
     Ok(lent_part(reading, index, report))
 }
 
-/// `read` reads received octets as [`read_into`] does, and gives the utterance in vectors of its own. Refusals: 12 to 17 and 20; there is
-/// always room.
+/// `read` reads received octets as [`read_into`] does, and gives the utterance in vectors of its own. Refusals: 10, 12 to 17 and
+/// 20; there is always room.
 ///
 /// ```
 /// use dsr::{read, write, Choices, FrontEnd, PairNote, Rate, Settings, Tables};

@@ -31,7 +31,7 @@ fn settings_come_by_codes_or_are_refused() {
 
 #[test]
 fn tables_have_the_right_lengths_or_are_refused() {
-    let (codebook, thresholds) = ([7; 1281], [-1; 15]);
+    let (codebook, thresholds) = ([7; 1281], [-1; 15]); // what is negative a reading refuses
     let tables = Tables::new(&codebook[1..], &thresholds[1..]).unwrap();
     assert_eq!((tables.codebook(), tables.thresholds()), (&[7; 1280], &[-1; 14]));
     assert_eq!(tables, Tables::from_arrays(&[7; 1280], &[-1; 14]));
@@ -74,7 +74,7 @@ fn pair_notes_and_their_octets() {
 #[test]
 fn every_refusal_has_number_place_and_words() {
     let numbers: Vec<u32> = (0..=100).filter(|number| Error::new(*number, 7).is_some()).collect();
-    assert_eq!(numbers, (1..=6).chain(11..=22).collect::<Vec<u32>>());
+    assert_eq!(numbers, (1..=6).chain(10..=22).collect::<Vec<u32>>());
     for number in numbers {
         let refusal = Error::new(number, 7).unwrap();
         assert_eq!((refusal.number(), refusal.place()), (number, 7));
@@ -83,6 +83,8 @@ fn every_refusal_has_number_place_and_words() {
         let boxed: Box<dyn std::error::Error> = refusal.into();
         assert_eq!(boxed.to_string(), words);
     }
+    let negative = Error::new(10, 13).unwrap();
+    assert_eq!(negative.to_string(), "refused 10 13: a negative threshold (place: the first one's number, from 0)");
 }
 
 /// An image has room for exactly what a reading of it needs, whatever its size; beyond 255 multiframes nothing is read.

@@ -1,6 +1,6 @@
 //! The iterators over frames, pairs and multiframes, and each note.
 mod shared;
-use dsr::{read_bits_into, read_into, write_into, Choices, HeaderNote, PairNote, Tables, Utterance};
+use dsr::{read_bits_into, read_into, write_into, Choices, Error, HeaderNote, PairNote, Tables, Utterance};
 use shared::{flip, multiframe, speech, SETTINGS};
 
 /// The header notes of an utterance: flips, whether out of step, whether the settings differ; or nothing for a lost one.
@@ -92,11 +92,11 @@ fn header_notes_are_named() {
     });
 }
 
-/// Each pair rises from its first frame to its second in every index; the CRC of pair 5 fails.
-fn rising() -> Vec<u8> {
-    let said: Vec<u8> = (0..59).flat_map(|frame| [if frame % 2 == 0 { 1 } else { 9 }; 7]).collect();
+/// Each of 29 pairs goes from its first frame to its second in every index by the same; the CRC of pair 5 fails.
+fn going(from: u8, to: u8) -> Vec<u8> {
+    let said = [[from; 7], [to; 7]].repeat(29);
     let mut image = vec![0; 432];
-    write_into(SETTINGS, &said, &mut image).unwrap();
+    write_into(SETTINGS, said.as_flattened(), &mut image).unwrap();
     flip(&mut image, 48 + 92 * 5);
     image
 }
@@ -110,19 +110,66 @@ fn notes_by_both(octets: &[u8], tables: &Tables) -> [Vec<PairNote>; 2] {
     [notes, by_bits.utterance.pairs().map(|pair| pair.note).collect()]
 }
 
-/// A rise flags an index pair if the codebook's numbers rise with the index by more than the threshold. The pair before the bad one is
-/// judged, and each one behind a bad one; the last pair with speech is a frame and a zero frame, which falls.
+/// The codebook's numbers rise with the index, by two an index. A rise and a fall flag an index pair alike if they are longer than the
+/// threshold. The pair before the bad one is judged, and each one behind a bad one; behind the speech both frames are zero.
 #[test]
 fn both_readers_judge_by_the_tables() {
     let codebook: [i32; 1280] = std::array::from_fn(|i| i as i32 % 128);
-    let rise = 16;
-    for notes in notes_by_both(&rising(), &Tables::from_arrays(&codebook, &[rise - 1; 14])) {
-        assert_eq!(notes[..4], [PairNote::Good; 4]);
-        assert_eq!((notes[4], notes[5]), (PairNote::BadOtherwise, PairNote::CrcFailed));
-        assert_eq!((&notes[6..29], &notes[29..]), (&[PairNote::BadOtherwise; 23][..], &[PairNote::Good; 7][..]));
-    }
-    for notes in notes_by_both(&rising(), &Tables::from_arrays(&codebook, &[rise; 14])) {
-        assert_eq!(notes.iter().filter(|note| note.is_bad()).count(), 1);
-        assert_eq!(notes[5], PairNote::CrcFailed);
+    for (from, to) in [(1, 9), (9, 1)] {
+        for notes in notes_by_both(&going(from, to), &Tables::from_arrays(&codebook, &[15; 14])) {
+            assert_eq!(notes[..4], [PairNote::Good; 4]);
+            assert_eq!((notes[4], notes[5]), (PairNote::BadOtherwise, PairNote::CrcFailed));
+            assert_eq!((&notes[6..29], &notes[29..]), (&[PairNote::BadOtherwise; 23][..], &[PairNote::Good; 7][..]));
+        }
+        for notes in notes_by_both(&going(from, to), &Tables::from_arrays(&codebook, &[16; 14])) {
+            assert_eq!(notes.iter().filter(|note| note.is_bad()).count(), 1);
+            assert_eq!(notes[5], PairNote::CrcFailed);
+        }
     }
 }
+
+/// From one end of 32 bits to the other, up and down: the difference is of 33 bits, and exceeds any threshold.
+#[test]
+fn the_exact_difference_is_meant() {
+    let ends: [i32; 1280] = std::array::from_fn(|i| if i % 128 / 2 == 9 { i32::MAX } else { i32::MIN });
+    for (from, to) in [(1, 9), (9, 1)] {
+        for notes in notes_by_both(&going(from, to), &Tables::from_arrays(&ends, &[i32::MAX; 14])) {
+            assert_eq!(notes.iter().filter(|note| **note == PairNote::BadOtherwise).count(), 24);
+        }
+    }
+}
+
+/// Tables take it, and both readers refuse it before they look at what is received; the first of several is the place.
+#[test]
+fn a_negative_threshold_is_refused_by_both_readers() {
+    let (mut index, mut report) = ([0xEE; 504], [0xEE; 39]);
+    for first in 0..14 {
+        for value in [-1, i32::MIN] {
+            let mut thresholds = [0; 14];
+            thresholds[13] = i32::MIN;
+            thresholds[first] = value;
+            let tables = Tables::from_arrays(&[0; 1280], &thresholds);
+            assert_eq!(Tables::new(&[0; 1280], &thresholds), Ok(tables));
+            let refusal = Error::ReadThreshold { place: first as u64 };
+            for octets in [&going(1, 9)[..], &[0], &[]] {
+                let by_octets = read_into(octets, &tables, Choices::DEFAULT, &mut index, &mut report);
+                assert_eq!(by_octets, Err(refusal));
+                for least in [16, 11] {
+                    let by_bits = read_bits_into(octets, 0, least, &tables, Choices::DEFAULT, &mut index, &mut report);
+                    assert_eq!(by_bits, Err(refusal));
+                }
+                assert_eq!((index, report), ([0xEE; 504], [0xEE; 39]));
+                by_vectors(octets, &tables, refusal);
+            }
+        }
+    }
+}
+
+#[cfg(feature = "alloc")]
+fn by_vectors(octets: &[u8], tables: &Tables, refusal: Error) {
+    assert_eq!(dsr::read(octets, tables, Choices::DEFAULT), Err(refusal));
+    assert_eq!(dsr::read_bits(octets, 0, 16, tables, Choices::DEFAULT), Err(refusal));
+}
+
+#[cfg(not(feature = "alloc"))]
+fn by_vectors(_: &[u8], _: &Tables, _: Error) {}
