@@ -11,7 +11,7 @@ Octets may be bytes, bytearray, memoryview, array.array('B'), a numpy array of u
 of Python's own library is needed; numpy is imported only by Reading.frames_numpy and Reading.report_numpy. A refusal is the exception
 Refused, with number, place and words of document 01 (the specification) or 02 (its changes). Calls in several threads do not meet.
 
-The library is the file that the environment variable DSR_LIBRARY names; else the installed libdsr.so.0.3; else the one that `make lib` made
+The library is the file that the environment variable DSR_LIBRARY names; else the installed libdsr.so.0.4; else the one that `make lib` made
 beside this file's folder. c/dsr.h says of every number and octet what it means.
 """
 import array
@@ -24,7 +24,7 @@ import pathlib
 import platform
 import typing
 
-__version__ = "0.3.1"
+__version__ = "0.4.0"
 __all__ = ["BitsReading", "FrontEnd", "Header", "HeaderNote", "Hunted", "PairNote", "Rate", "Reading", "Refused", "Settled", "Status",
            "Tables", "header_encode", "header_read", "hunt", "pack", "read", "read_bits", "settle", "unpack", "write"]
 
@@ -44,7 +44,7 @@ _MOST_64 = 2**64 - 1
 # dsr.h's numbers of the choices.
 _DEFAULT_CHOICES, _ONE_HEADER_SETTLES = 0, 1
 # The Makefile's rule: the major number, and while it is 0 the minor one too.
-_SONAME = "libdsr.so.0.3"
+_SONAME = "libdsr.so.0.4"
 
 
 class Status(enum.IntEnum):
@@ -64,6 +64,7 @@ class Status(enum.IntEnum):
     WRITE_INDEX_VALUE = 4, "one of the first six indices of a frame above 63"
     WRITE_ZERO_FRAME = 5, "an all-zero frame that is the last, or whose number is a multiple of 24"
     WRITE_OUTPUT_SHORT = 6, "output shorter than 144m"
+    READ_THRESHOLD = 10, "a negative threshold"
     READ_TABLES = 11, "codebook not 1,280 or thresholds not 14"
     READ_UNKNOWN = 12, "octets at p begin nothing known"
     READ_CUT = 13, "sync with too few octets, or a lone last 87 or 78"
@@ -206,8 +207,9 @@ class Header:
 class Tables:
     """The codebook and the thresholds that a reading judges pairs by; c/dsr.h says how they are laid out.
 
-    Each is a list of numbers, or an array of them (array.array, numpy), signed and of 32 bits. A reading refuses other lengths than 1,280
-    and 14. Make it once and use it for many readings."""
+    Each is a list of numbers, or an array of them (array.array, numpy), signed and of 32 bits. A pair of frames is inconsistent if at least
+    two of its seven indices rise or fall by more than a threshold. A reading refuses other lengths than 1,280 and 14 with 11, and then a
+    negative threshold with 10, its number from 0 as the place; here any are taken. Make it once and use it for many readings."""
 
     def __init__(self, codebook, thresholds):
         self.codebook, self.thresholds = _numbers(codebook), _numbers(thresholds)
@@ -239,7 +241,7 @@ def read(octets, tables, *, one_header_settles=False):
     With `one_header_settles` it is read if its header is itself a codeword, for whoever has to read one and knows the line, as at a bench.
     For two multiframes or more that changes nothing.
 
-    Refused: 11 to 17 and 20."""
+    Refused: 10 to 17 and 20."""
     received = _octets(octets)
     lent = _Lent(len(received), 6)
     choices = _choices(one_header_settles)
@@ -267,7 +269,7 @@ def read_bits(octets, tables, *, least, start=0, one_header_settles=False):
     """Reads bits with no octet boundary: hunts from bit `start` on, with at least `least` (12 to 16) of a sync's bits matching.
 
     Bit t is in octet t // 8, with value 2 ** (t % 8). Gives a BitsReading. A multiframe that alone was found is an only one, and
-    `one_header_settles` is as in `read`. Refused: 11, 15 (its place is here a bit) to 17 and 20 to 22."""
+    `one_header_settles` is as in `read`. Refused: 10, 11, 15 (its place is here a bit) to 17 and 20 to 22."""
     received = _octets(octets)
     lent = _Lent(len(received), 8)
     choices = _choices(one_header_settles)
@@ -414,7 +416,7 @@ def _declare(library):
     }
     for name, types in arguments.items():
         function = getattr(library, "dsr_" + name, None)
-        if function is None:  # a library of 0.3.0 has the same soname
+        if function is None:  # DSR_LIBRARY can name any
             raise ImportError(f"this is dsr.py {__version__}, and the library has no dsr_{name}: install the same version of both")
         function.argtypes, function.restype = types, ctypes.c_uint32
     return library

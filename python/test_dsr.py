@@ -24,6 +24,8 @@ HEADER_FILE = pathlib.Path(__file__).resolve().parent.parent / "c" / "dsr.h"
 ZERO = dsr.Tables.zero()
 # 01's example: one frame, 1 0 0 0 0 0 0, at 8 kHz.
 EXAMPLE = bytes.fromhex("87B208000EEE01") + bytes(10) + b"\x04" + bytes(126)
+# A codebook whose numbers rise with the index up to 63, by two an index.
+RISING = [i % 128 for i in range(1280)]
 
 
 def frames(count):
@@ -122,11 +124,38 @@ class Reading(Case):
         self.assertEqual((reading.speech, reading.end), (48, False))
 
     def test_tables_are_lent(self):
-        strict = dsr.Tables([0] * 1280, [-1] * 14)
+        strict = dsr.Tables(RISING, [0] * 14)
         notes = dsr.read(flipped(self.image, 48 + 92 * 3), strict).pair_notes()
         self.assertEqual(notes[2:5], [dsr.PairNote.BAD_OTHERWISE, dsr.PairNote.CRC_FAILED, dsr.PairNote.BAD_OTHERWISE])
         patient = dsr.Tables([-i for i in range(1280)], [2000] * 14)
         self.assertEqual(dsr.read(flipped(self.image, 48 + 92 * 3), patient).bad, 1)
+
+    def test_falls_count_as_rises(self):
+        """Each pair goes up or down by eight indices, the numbers with it by 16; or from one end of 32 bits to the other."""
+        ends = [2**31 - 1 if i % 128 // 2 == 9 else -2**31 for i in range(1280)]
+        for first, second in ((1, 9), (9, 1)):
+            image = flipped(dsr.write(0, 0, (7 * [first] + 7 * [second]) * 20), 48 + 92 * 3)
+            for numbers, threshold, bad in ((RISING, 15, 18), (RISING, 16, 1), (ends, 2**31 - 1, 18)):
+                tables = dsr.Tables(numbers, [threshold] * 14)
+                for reading in (dsr.read(image, tables), dsr.read_bits(delayed(image, 3), tables, least=16)):
+                    self.assertEqual(reading.bad, bad)
+                    self.assertEqual(reading.pair_notes()[1:5], [0, 2 * (bad > 1), 1, 2 * (bad > 1)])
+
+    def test_a_negative_threshold(self):
+        """Its number is the place. Only 11 comes before it."""
+        for place in range(14):
+            for value in (-1, -2**31):
+                thresholds = place * [0] + [value] + (13 - place) * [-2**31]
+                tables = dsr.Tables([0] * 1280, thresholds)
+                for octets in (self.image, self.image[:-1], b"\0", b"", EXAMPLE, 2 * multiframe(2)):
+                    self.refused(10, place, dsr.read, octets, tables)
+                    for named in ({"least": 16}, {"least": 11}, {"least": 12, "start": 2**40}):
+                        self.refused(10, place, dsr.read_bits, octets, tables, **named)
+                for short in (dsr.Tables([0] * 1279, thresholds), dsr.Tables([0] * 1280, thresholds[:-1]), dsr.Tables([], thresholds + [0])):
+                    self.refused(11, 0, dsr.read, b"\0", short)
+                    self.refused(11, 0, dsr.read_bits, b"\0", short, least=11)
+        refusal = self.refused(10, 3, dsr.read, b"", dsr.Tables([0] * 1280, [0, 0, 0, -5] + 10 * [0]))
+        self.assertEqual(str(refusal), "refused 10 3: a negative threshold")
 
     def test_refusals(self):
         image = self.image
@@ -449,9 +478,10 @@ class Inputs(Case):
     def test_tables(self):
         image = dsr.write(0, 0, frames(30))
         for code in "bhilq":
-            tables = dsr.Tables(array.array(code, [-1] * 1280), memoryview(array.array(code, [-1] * 14)))
+            tables = dsr.Tables(array.array(code, [-1] * 1280), memoryview(array.array(code, [7] * 14)))
             self.assertEqual(dsr.read(image, tables).bad, 0)
-            self.assertEqual(list(tables.codebook), [-1] * 1280)
+            self.assertEqual((list(tables.codebook), list(tables.thresholds)), ([-1] * 1280, [7] * 14))
+            self.refused(10, 0, dsr.read, image, dsr.Tables(tables.codebook, array.array(code, [-1] * 14)))
         for wide in (2**31, -2**31 - 1):
             self.assertRaises(OverflowError, dsr.Tables, [wide], [])
             self.assertRaises(OverflowError, dsr.Tables, array.array("q", [wide]), [])
@@ -477,9 +507,10 @@ class Numpy(Case):
     def test_tables(self):
         image = flipped(dsr.write(0, 0, frames(30)), 48 + 92 * 3)
         for kind in (numpy.int16, numpy.int32, numpy.int64):
-            tables = dsr.Tables(numpy.zeros((640, 2), dtype=kind), numpy.full((7, 2), -1, dtype=kind))
-            self.assertEqual(list(tables.thresholds), [-1] * 14)
+            tables = dsr.Tables(-numpy.array(RISING, dtype=kind).reshape(-1, 2), numpy.full((7, 2), 1, dtype=kind))
+            self.assertEqual((tables.codebook[5], list(tables.thresholds)), (-5, [1] * 14))
             self.assertEqual(dsr.read(image, tables).report_numpy()[0, 3:5].tolist(), [2, 1])
+            self.refused(10, 0, dsr.read, image, dsr.Tables(tables.codebook, numpy.full((7, 2), -1, dtype=kind)))
         self.assertRaises(TypeError, dsr.Tables, numpy.zeros(1280), numpy.zeros(14))
         self.assertRaises(TypeError, dsr.Tables, numpy.zeros(1280, dtype=">i4"), numpy.zeros(14, dtype=int))
 
