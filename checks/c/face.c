@@ -353,7 +353,7 @@ static void expect_negative_in_turn(uint64_t rule) {
     EXPECT(negative_read_bits(rule, c, t, eight - 1) == DSR_READ_ANSWER_SHORT && marks_stay());
 }
 
-/* An only multiframe is refused by default, however clean; 16 comes behind 11 and before 18. */
+/* An only multiframe is refused by default, however clean; 16 comes behind 11 and 10 and before 18. */
 static void expect_only_refused(void) {
     const size_t one = DSR_MULTIFRAME_OCTETS, h = sizeof heard, p = sizeof report;
     const uint64_t rule = DSR_DEFAULT_CHOICES;

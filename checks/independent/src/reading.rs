@@ -277,6 +277,7 @@ mod tests {
         assert_eq!(answered(&image(1), Rule::OneHeaderSettles, (167, 12)), Err((18, 168)));
         assert_eq!(answered(&image(1), Rule::OneHeaderSettles, (168, 12)), Err((19, 13)));
     }
+
     /// Codebooks in which index 1 stands for `low` and index 2 for `high` in the elements named, and all else for 0.
     fn codebook(elements: &[(usize, usize)], low: i32, high: i32) -> Vec<i32> {
         let mut numbers = vec![0; CODEBOOK];

@@ -258,6 +258,7 @@ mod tests {
             }
         }
     }
+
     static CODE: LazyLock<Code> = LazyLock::new(Code::new);
 
     /// The pair notes of an utterance.

@@ -52,8 +52,8 @@ fn is_negative_at(thresholds: &[i32], k: usize) -> bool
     is_negative(t)
 }
 
-// admit says whether a reading may use the tables: refusal 11 for wrong sizes, then 10 for the first negative threshold, which every pair would
-// exceed (02, C-12).
+// admit says whether a reading may use the tables: refusal 11 for wrong sizes, then 10 for the first negative threshold, which every index
+// pair of its codebook would exceed (02, C-12).
 pub fn admit(codebook: &[i32], thresholds: &[i32]) -> Admission
     ensures { λ r. ⌜ r ≡ admission (tablesIn codebook thresholds) ⌝ }
 {

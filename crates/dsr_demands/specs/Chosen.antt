@@ -137,7 +137,7 @@ module _ (octets : List ℕ) (tables : Tables) (index report answer : List ℕ) 
   c-bits-zero-chose from least (For ch) e = (ch, refl)
   c-bits-zero-chose from least NoSuchChoice e = absurd (never-0 countedNumbers e)
 
-  -- ---- BY DEFAULT AN ONLY MULTIFRAME IS REFUSED: 16, place 0, and all else stays, whatever its header is, where none of 11 to 15 comes before
+  -- ---- BY DEFAULT AN ONLY MULTIFRAME IS REFUSED: 16, place 0, and all else stays, whatever its header is, where none of 10 to 15 comes before
   pub c-one-refused : answerNumbers ≤ length answer → CutUp octets tables → length (cutting octets .places) ≡ 1
       → dsrRead octets (asked 0) tables index report answer place ≡ returned 16 index report answer 0
   unfolding asked

@@ -5,12 +5,13 @@ use mathlib.Core.Path.{_≡_, refl, sym, ap, _∙_, subst}
 use mathlib.Core.Bool.{Bool, true, false}
 use mathlib.Core.List.{List, []}
 use mathlib.Core.Logic.{inl, inr}
-use Prim.Native.Nat.{ℕ, _≤_}
+use Prim.Native.Nat.{ℕ, _≤_, _<_}
 use native.Mathlib.Omega.{arith}
 use lib.Dec.{ltb}
 use lib.ListN.{length}
 use borrow.Author.Tests.{ltb-false}
 use Rattle.lists.specs.Tests.{when}
+use Rattle.layout.specs.Layout.{thresholdNumbers}
 use Rattle.choices.specs.declared.Choices.{Choices}
 use Rattle.choices.specs.declared.Asked.the-variants.{For}
 use Rattle.consistency.specs.Tables.{Tables, RightSizes, RightTables, FirstNegative}
@@ -92,6 +93,11 @@ module _ (ch : Choices) (octets : List ℕ) (tables : Tables) (index report answ
           let g = refused-exactly ch octets tables index report (RV.NegativeThreshold (readingPlace x)) .0 (ex ∙ ap Refused (of-number x (n .0))) in
           (g .0, subst (FirstNegative tables) (n .1 ∙ sym ep) (g .1))
 
+  -- so its place is the number of a threshold
+  pub c-ten-place : dsrRead octets (For ch) tables index report answer place .number ≡ 10
+      → dsrRead octets (For ch) tables index report answer place .place < thresholdNumbers
+  c-ten-place e = c-ten-only e .1 .0
+
   -- 0 only with right tables
   pub c-zero-right : dsrRead octets (For ch) tables index report answer place .number ≡ 0 → RightTables tables
   c-zero-right e =
@@ -134,6 +140,10 @@ module _ (ch : Choices) (s : List ℕ) (from least : ℕ) (tables : Tables) (ind
           let n = number-of (sym (ap bitsTold ex) ∙ et) in
           let g = of x ex (n .0) in
           (g .0, subst (FirstNegative tables) (n .1 ∙ sym ep) (g .1))
+
+  pub c-bits-ten-place : dsrReadBits s from least (For ch) tables index report answer place .number ≡ 10
+      → dsrReadBits s from least (For ch) tables index report answer place .place < thresholdNumbers
+  c-bits-ten-place e = c-bits-ten-only e .1 .0
 
   pub c-bits-zero-right : dsrReadBits s from least (For ch) tables index report answer place .number ≡ 0 → RightTables tables
   c-bits-zero-right e =

@@ -168,7 +168,7 @@ module _ (l : List Bool) (from at least m : ℕ) (r : InARow l from at least m) 
 -- ---- the reading
 module _ (ch : Choices) (s : List ℕ) (from least : ℕ) (tables : Tables) (index report : List ℕ) (low : fewestMatches ≤ least) (high : least ≤ syncBits)
     (right : RightTables tables) where
-  -- past 11 and 21 what is found decides
+  -- past 11, 10 and 21 what is found decides
   found-next : (ps : List ℕ) (e : Ending) (n : ℕ) → gathering (bits s) least mostMultiframes from ≡ record { places = ps; ending = e; tested = n }
       → huntingReading ch s from least tables index report ≡ readingBy ch s from least tables index report ps n e
   unfolding huntingReading readingFound

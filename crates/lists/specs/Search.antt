@@ -37,9 +37,6 @@ first-says f k zero = λ i a b. absurd (omega arith)
 first-says f k (suc n) =
     by-test (Says f k (suc n)) (f k) (λ e. (omega arith, omega arith, e, λ i a b. absurd (omega arith))) (λ e. one-more f k n (firstFrom f (k + 1) n) e (first-says f (k + 1) n))
 
-pub first-at : (f : ℕ → Bool) (k n j : ℕ) → firstFrom f k n ≡ at j → Says f k n (at j)
-first-at f k n j e = subst (Says f k n) e (first-says f k n)
-
 pub first-nowhere : (f : ℕ → Bool) (k n : ℕ) → firstFrom f k n ≡ nowhere → (i : ℕ) → k ≤ i → i < k + n → f i ≡ false
 first-nowhere f k n e = subst (Says f k n) e (first-says f k n)
 

@@ -61,13 +61,17 @@ pub record Consistency : Type 0 where
   pub past-threshold-7 : elementExceeds (tablesOf (upTo 1280) (upTo 14)) 3 0 4 1 ≡ true
   pub threshold-11 : elementExceeds (tablesOf (upTo 1280) (upTo 14)) 5 0 5 1 ≡ false
   pub past-threshold-11 : elementExceeds (tablesOf (upTo 1280) (upTo 14)) 5 0 6 1 ≡ true
-  -- "the absolute difference exceeds the threshold" (02, C-12): 2 does not exceed 2, and exceeds 1, up and down; nothing is 0 apart and exceeds 0
+  -- "the absolute difference exceeds the threshold" (02, C-12): 2 does not exceed 2, and exceeds 1, up and down; what is 0 apart does not exceed 0
   pub two-not-two : exceeding (pos 2) (pos 5) (pos 7) ≡ false
   pub two-past-one : exceeding (pos 1) (pos 5) (pos 7) ≡ true
   pub fall-not-two : exceeding (pos 2) (pos 7) (pos 5) ≡ false
   pub fall-past-one : exceeding (pos 1) (pos 7) (pos 5) ≡ true
   pub fall-past-zero : exceeding (pos 0) (pos 7) (pos 6) ≡ true
   pub still : exceeding (pos 0) (pos 7) (pos 7) ≡ false
+  -- "A negative threshold then flags everything": a rise, a fall, and nothing at all
+  pub rise-past-minus-1 : exceeding (negsuc 0) (pos 5) (pos 7) ≡ true
+  pub fall-past-minus-1 : exceeding (negsuc 0) (pos 7) (pos 5) ≡ true
+  pub still-past-minus-1 : exceeding (negsuc 0) (pos 7) (pos 7) ≡ true
   -- from -1 to 1 and back are 2
   pub through-zero : exceeding (pos 1) (negsuc 0) (pos 1) ≡ true
   pub fall-through-zero : exceeding (pos 1) (pos 1) (negsuc 0) ≡ true
@@ -114,6 +118,9 @@ consistency = record {
   fall-past-one = refl;
   fall-past-zero = refl;
   still = refl;
+  rise-past-minus-1 = refl;
+  fall-past-minus-1 = refl;
+  still-past-minus-1 = refl;
   through-zero = refl;
   fall-through-zero = refl;
   through-zero-not-two = refl;

@@ -1,4 +1,4 @@
--- One definition of what a reading answers and leaves in both buffers, for every input (01, "Reading"; 02, C-20). ch is what the caller chose.
+-- One definition of what a reading answers and leaves in both buffers, for every input (01, "Reading"; 02, C-12 and C-20). ch is what the caller chose.
 -- Frames, pairs and multiframes count from 0.
 -- Assumes nothing.
 use Prim.Native.Nat.{ℕ, _*_}

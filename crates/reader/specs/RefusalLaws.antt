@@ -1,5 +1,5 @@
 -- When each refusal is given (01, the reader's table): the answer is that refusal exactly if its own condition holds and that of none before it in
--- 01's order, 10 behind 11 (02, C-12). `Given` has a line for each of 10 to 20, in 01's words; of 12, 13 and 15 it speaks by where cutting gets to and what stands there,
+-- 01's order, 10 behind 11 (02, C-12). `Given` has a line for each of 10 to 20, in 01's words, of 10 in 02's; of 12, 13 and 15 it speaks by where cutting gets to and what stands there,
 -- not by cutting's answer.
 -- Assumes nothing.
 use Prim.Native.Nat.{ℕ, _*_, _≤_, _<_}

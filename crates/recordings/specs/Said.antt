@@ -64,7 +64,7 @@ pub zero-22 : frameAt gap 21 ≡ replicate frameIndices 0
 unfolding row
 zero-22 = refl
 
--- ---- frames that rise: one of ones, one of twos, and so on, 2n + 1 of them; behind the last, of ones, stands padding
+-- ---- frames whose indices rise: one of ones, one of twos, and so on, 2n + 1 of them; behind the last, of ones, stands padding
 abbrev pub rising : ℕ → List ℕ
 rising zero = replicate frameIndices 1
 rising (suc n) = replicate frameIndices 1 ++ (replicate frameIndices 2 ++ rising n)
