@@ -3,18 +3,21 @@
 -- Assumes nothing.
 use mathlib.Core.Path.{_≡_, refl, sym, ap, _∙_, subst}
 use mathlib.Core.Bool.{Bool, true, false}
-use mathlib.Core.List.{List, []}
+use mathlib.Core.List.{List, [], _∷_, _++_}
 use mathlib.Core.Logic.{inl, inr}
 use Prim.Native.Nat.{ℕ, _≤_, _<_}
 use native.Mathlib.Omega.{arith}
 use lib.Dec.{ltb}
-use lib.ListN.{length}
+use lib.IntN.{pos, negsuc}
+use lib.ListN.{length, replicate}
 use borrow.Author.Tests.{ltb-false}
-use Rattle.lists.specs.Tests.{when}
+use Rattle.lists.specs.Tests.{when, true-false}
+use Rattle.lists.specs.Search.{firstFrom}
 use Rattle.layout.specs.Layout.{thresholdNumbers}
 use Rattle.choices.specs.declared.Choices.{Choices}
 use Rattle.choices.specs.declared.Asked.the-variants.{For}
-use Rattle.consistency.specs.Tables.{Tables, RightSizes, RightTables, FirstNegative}
+use Rattle.consistency.specs.Tables.{Tables, tablesOf, at as numberAt, negative, RightSizes, RightTables, FirstNegative, sizesRight, admission}
+use Rattle.consistency.specs.Admitted.{ten-exactly}
 use Rattle.refusals.specs.Refusals.{noRoom, readingNumber, readingPlace, huntingNumber, huntingPlace}
 use Rattle.refusals.specs.declared.Reading.{Reading as Refusal}
 use Rattle.refusals.specs.declared.Reading.the-variants as RV
@@ -31,8 +34,9 @@ use Rattle.hunting.specs.Says as F
 use Rattle.hunting.specs.declared.Counted.{Counted}
 use Rattle.hunting.specs.declared.Answer as GA
 use Rattle.hunting.specs.declared.Answer.the-variants as GW
+use Rattle.writer.specs.Utterance.{Utterance, imageOf}
 use Rattle.demands.specs.WritesAgain as A
-use Rattle.entries.specs.Entries.{answerNumbers, Told, numbers, refusal, Given, returned, answered, returning, toldOf, givenOf, dsrRead}
+use Rattle.entries.specs.Entries.{answerNumbers, Told, numbers, refusal, Given, Returned, returned, answered, returning, toldOf, givenOf, dsrRead}
 use Rattle.entries.specs.Bits.{countedNumbers, bitsTold, bitsGiven, dsrReadBits}
 use Rattle.dsr_demands.specs.Calls.{read-zero, read-refused, bits-zero, bits-refused}
 
@@ -161,3 +165,38 @@ module _ (ch : Choices) (s : List ℕ) (from least : ℕ) (tables : Tables) (ind
       by c f (F.nowhere t r n q) = t
       by c f (F.many p t r x b q) = t
       by c f (F.read t r n w q) = t
+
+-- ---- where they only just hold: of 14 thresholds the last alone is negative, by 1
+abbrev pub lastNegative : Tables
+lastNegative = tablesOf (replicate 1280 (pos 0)) (replicate 13 (pos 0) ++ (negsuc 0 ∷ []))
+
+last-first : RightSizes lastNegative × FirstNegative lastNegative 13
+unfolding admission sizesRight firstFrom
+last-first = ten-exactly lastNegative 13 .0 refl
+
+-- every written utterance, which with right tables is read, is 10 at 13; and 10 tells which it was, and that none before it is negative
+module _ (ch : Choices) (u : Utterance) (index report answer : List ℕ) (place : ℕ) (room : answerNumbers ≤ length answer) where
+  pub written-10 : dsrRead (imageOf u) (For ch) lastNegative index report answer place ≡ returned 10 index report answer 13
+  written-10 = c-negative ch (imageOf u) lastNegative index report answer place room (last-first .0) 13 (last-first .1)
+
+  pub written-10-tells : (negative (numberAt (lastNegative .thresholds) (dsrRead (imageOf u) (For ch) lastNegative index report answer place .place)) ≡ true)
+      × ((i : ℕ) → i < dsrRead (imageOf u) (For ch) lastNegative index report answer place .place → negative (numberAt (lastNegative .thresholds) i) ≡ false)
+  written-10-tells =
+      let t = c-ten-only ch (imageOf u) lastNegative index report answer place (ap (λ (x : Returned). x .number) written-10) in (t .1 .1, t .1 .2)
+
+-- and nothing received is read with it, at any bit neither
+pub never-done : (ch : Choices) (octets index report answer : List ℕ) (place : ℕ) → dsrRead octets (For ch) lastNegative index report answer place .number ≡ 0 → ⊥
+never-done ch octets index report answer place e =
+    true-false (sym (last-first .1 .1) ∙ c-zero-right ch octets lastNegative index report answer place e .1 13 (last-first .1 .0))
+
+module _ (ch : Choices) (s : List ℕ) (from least : ℕ) (index report answer : List ℕ) (place : ℕ) where
+  pub bits-never-done : dsrReadBits s from least (For ch) lastNegative index report answer place .number ≡ 0 → ⊥
+  bits-never-done e =
+      true-false (sym (last-first .1 .1) ∙ c-bits-zero-right ch s from least lastNegative index report answer place e .1 13 (last-first .1 .0))
+
+  pub bits-always-10 : countedNumbers ≤ length answer
+      → (dsrReadBits s from least (For ch) lastNegative index report answer place ≡ returned 10 index report answer 13)
+      × (negative (numberAt (lastNegative .thresholds) (dsrReadBits s from least (For ch) lastNegative index report answer place .place)) ≡ true)
+  bits-always-10 room =
+      let e = c-bits-negative ch s from least lastNegative index report answer place room (last-first .0) 13 (last-first .1) in
+      (e, c-bits-ten-only ch s from least lastNegative index report answer place (ap (λ (x : Returned). x .number) e) .1 .1)

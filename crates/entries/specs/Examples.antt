@@ -203,6 +203,9 @@ pub record Negative : Type 0 where
       ≡ record { number = 99; index = 5 ∷ []; report = 6 ∷ []; answer = replicate 5 90; place = 8 }
   pub bits-10 : dsrReadBits [] 5 17 (asked 0) (tablesOf book third) (5 ∷ []) (6 ∷ []) nine 8 ≡ record { number = 10; index = 5 ∷ []; report = 6 ∷ []; answer = nine; place = 2 }
   pub bits-10-last : dsrReadBits [] 5 16 (asked 0) (tablesOf book last) (5 ∷ []) (6 ∷ []) nine 8 ≡ record { number = 10; index = 5 ∷ []; report = 6 ∷ []; answer = nine; place = 13 }
+  pub bits-96 : dsrReadBits [] 5 17 (asked 2) (tablesOf book third) (5 ∷ []) (6 ∷ []) nine 8 ≡ record { number = 96; index = 5 ∷ []; report = 6 ∷ []; answer = nine; place = 8 }
+  pub bits-99 : dsrReadBits [] 5 17 (asked 0) (tablesOf book third) (5 ∷ []) (6 ∷ []) (replicate 7 90) 8
+      ≡ record { number = 99; index = 5 ∷ []; report = 6 ∷ []; answer = replicate 7 90; place = 8 }
   pub bits-11 : dsrReadBits [] 5 17 (asked 0) (tablesOf book (pos 0 ∷ third)) (5 ∷ []) (6 ∷ []) nine 8 ≡ record { number = 11; index = 5 ∷ []; report = 6 ∷ []; answer = nine; place = 0 }
 
 pub negative : Negative
@@ -215,5 +218,7 @@ negative = record {
   read-99 = refl;
   bits-10 = refl;
   bits-10-last = refl;
+  bits-96 = refl;
+  bits-99 = refl;
   bits-11 = refl;
 }

@@ -50,6 +50,7 @@ pub record Table (ch : Choices) : Type 0 where
   pub first-11-too : huntingReading ch [] 5 17 (tablesOf [] limits) [] [] ≡ outcome (Refused (Octets RR.WrongTables)) [] []
   pub first-11-still : huntingReading ch [] 5 17 (tablesOf [] fallen) [] [] ≡ outcome (Refused (Octets RR.WrongTables)) [] []
   pub then-10 : huntingReading ch [] 5 17 (tablesOf book fallen) [] [] ≡ outcome (Refused (Octets (RR.NegativeThreshold 5))) [] []
+  pub then-10-low : huntingReading ch [] 5 11 (tablesOf book fallen) [] [] ≡ outcome (Refused (Octets (RR.NegativeThreshold 5))) [] []
   pub ten-before-22 : huntingReading ch [] 5 16 (tablesOf book (replicate 13 (pos 0) ++ (negsuc 0 ∷ []))) [] [] ≡ outcome (Refused (Octets (RR.NegativeThreshold 13))) [] []
   pub then-21 : huntingReading ch [] 5 17 (tablesOf book limits) [] [] ≡ outcome (Refused (MatchRange 17)) [] []
   pub then-22 : huntingReading ch [] 5 16 (tablesOf book limits) [] [] ≡ outcome (Refused (Nowhere 5 0)) [] []
@@ -78,6 +79,7 @@ table ch = record {
   first-11-too = refl;
   first-11-still = refl;
   then-10 = refl;
+  then-10-low = refl;
   ten-before-22 = refl;
   then-21 = refl;
   then-22 = refl;

@@ -25,6 +25,7 @@ use Rattle.replacing.specs.Replacing.{source, sourceBy, runStart, leading}
 use Rattle.replacing.specs.Examples.{standIns}
 use Rattle.replacing.specs.Speech.{lastNonzero, speechOf, endOf}
 use Rattle.consistency.specs.Tables.{tablesOf}
+use Rattle.consistency.specs.Laws.{inconsistent-turned}
 
 -- ---- tables
 -- k, k + 1, .., n of them: the number at place p of `upTo` is p
@@ -42,6 +43,10 @@ nineAt k = replicate k (pos 0) ++ (pos 9 ∷ [])
 unfoldable pub all14 : ℕ → List ℤ
 all14 n = replicate 14 (pos n)
 
+-- in codebook 2 entry 0 is 0, 9 and entry 1 is 9, 0
+unfoldable pub crossed : List ℤ
+crossed = replicate 256 (pos 0) ++ (pos 0 ∷ pos 9 ∷ pos 9 ∷ pos 0 ∷ [])
+
 -- the two thresholds of each codebook
 unfoldable pub pairs14 : ℕ → ℕ → List ℤ
 pairs14 a b = (pos a ∷ pos b ∷ pos a ∷ pos b ∷ []) ++ ((pos a ∷ pos b ∷ pos a ∷ pos b ∷ []) ++ (pos a ∷ pos b ∷ pos a ∷ pos b ∷ pos a ∷ pos b ∷ []))
@@ -55,12 +60,20 @@ pub record Consistency : Type 0 where
   pub seventh : elementExceeds (tablesOf (nineAt 768) (all14 0)) 6 5 0 0 ≡ true
   pub last-number : elementExceeds (tablesOf (nineAt 1279) (all14 0)) 6 0 255 1 ≡ true
   pub not-before-last : elementExceeds (tablesOf (nineAt 1279) (all14 0)) 6 0 254 1 ≡ false
+  -- the same of falls: the first number of codebook 1, and the last of the seventh
+  pub codebook-1-falls : elementExceeds (tablesOf (nineAt 128) (all14 0)) 1 0 5 0 ≡ true
+  pub last-number-falls : elementExceeds (tablesOf (nineAt 1279) (all14 0)) 6 255 0 1 ≡ true
   -- "2c and 2c+1 for the two elements of codebook c": of thresholds 0 to 13 those of codebook 3 are 6 and 7. The difference is 6, then 8
   pub threshold-6 : elementExceeds (tablesOf (upTo 1280) (upTo 14)) 3 0 3 0 ≡ false
   pub past-threshold-6 : elementExceeds (tablesOf (upTo 1280) (upTo 14)) 3 0 4 0 ≡ true
   pub past-threshold-7 : elementExceeds (tablesOf (upTo 1280) (upTo 14)) 3 0 4 1 ≡ true
   pub threshold-11 : elementExceeds (tablesOf (upTo 1280) (upTo 14)) 5 0 5 1 ≡ false
   pub past-threshold-11 : elementExceeds (tablesOf (upTo 1280) (upTo 14)) 5 0 6 1 ≡ true
+  -- and the same thresholds hold for falls
+  pub fall-threshold-6 : elementExceeds (tablesOf (upTo 1280) (upTo 14)) 3 3 0 0 ≡ false
+  pub fall-past-threshold-6 : elementExceeds (tablesOf (upTo 1280) (upTo 14)) 3 4 0 0 ≡ true
+  pub fall-threshold-11 : elementExceeds (tablesOf (upTo 1280) (upTo 14)) 5 5 0 1 ≡ false
+  pub fall-past-threshold-11 : elementExceeds (tablesOf (upTo 1280) (upTo 14)) 5 6 0 1 ≡ true
   -- "the absolute difference exceeds the threshold" (02, C-12): 2 does not exceed 2, and exceeds 1, up and down; what is 0 apart does not exceed 0
   pub two-not-two : exceeding (pos 2) (pos 5) (pos 7) ≡ false
   pub two-past-one : exceeding (pos 1) (pos 5) (pos 7) ≡ true
@@ -90,16 +103,22 @@ pub record Consistency : Type 0 where
   pub neither : flagged (tablesOf (upTo 1280) (pairs14 100 100)) 2 0 1 ≡ false
   pub first-element-falls : flagged (tablesOf (upTo 1280) (pairs14 0 100)) 2 1 0 ≡ true
   pub second-element-falls : flagged (tablesOf (upTo 1280) (pairs14 100 0)) 2 1 0 ≡ true
-  -- "if at least two of its seven index pairs are flagged": two, one, the last two; two that fall, one that falls, and one that rises with one that falls
+  -- and one that rises does not make up for one that falls
+  pub rises-and-falls : flagged (tablesOf crossed (all14 1)) 2 0 1 ≡ true
+  pub falls-and-rises : flagged (tablesOf crossed (all14 1)) 2 1 0 ≡ true
+  -- "if at least two of its seven index pairs are flagged": two, one, the last two; two that fall, wherever they stand, one that falls, and one that rises with
+  -- one that falls
   pub two-flagged : inconsistent (tablesOf (upTo 1280) (all14 1)) (replicate 7 0) (1 ∷ 1 ∷ 0 ∷ 0 ∷ 0 ∷ 0 ∷ 0 ∷ []) ≡ true
   pub one-flagged : inconsistent (tablesOf (upTo 1280) (all14 1)) (replicate 7 0) (1 ∷ 0 ∷ 0 ∷ 0 ∷ 0 ∷ 0 ∷ 0 ∷ []) ≡ false
   pub last-two-flagged : inconsistent (tablesOf (upTo 1280) (all14 1)) (replicate 7 0) (0 ∷ 0 ∷ 0 ∷ 0 ∷ 0 ∷ 1 ∷ 1 ∷ []) ≡ true
   pub two-fallen : inconsistent (tablesOf (upTo 1280) (all14 1)) (1 ∷ 1 ∷ 0 ∷ 0 ∷ 0 ∷ 0 ∷ 0 ∷ []) (replicate 7 0) ≡ true
+  pub middle-two-fallen : inconsistent (tablesOf (upTo 1280) (all14 1)) (0 ∷ 0 ∷ 0 ∷ 1 ∷ 1 ∷ 0 ∷ 0 ∷ []) (replicate 7 0) ≡ true
+  pub last-two-fallen : inconsistent (tablesOf (upTo 1280) (all14 1)) (0 ∷ 0 ∷ 0 ∷ 0 ∷ 0 ∷ 1 ∷ 1 ∷ []) (replicate 7 0) ≡ true
   pub one-fallen : inconsistent (tablesOf (upTo 1280) (all14 1)) (0 ∷ 0 ∷ 0 ∷ 0 ∷ 0 ∷ 0 ∷ 1 ∷ []) (replicate 7 0) ≡ false
   pub one-of-each : inconsistent (tablesOf (upTo 1280) (all14 1)) (0 ∷ 1 ∷ 0 ∷ 0 ∷ 0 ∷ 0 ∷ 0 ∷ []) (1 ∷ 0 ∷ 0 ∷ 0 ∷ 0 ∷ 0 ∷ 0 ∷ []) ≡ true
 
 pub consistency : Consistency
-unfolding numbersFrom upTo nineAt all14 pairs14 flagged flags inconsistent
+unfolding numbersFrom upTo nineAt all14 crossed pairs14 flagged flags inconsistent
 consistency = record {
   codebook-1 = refl;
   entry-1-first = refl;
@@ -107,11 +126,17 @@ consistency = record {
   seventh = refl;
   last-number = refl;
   not-before-last = refl;
+  codebook-1-falls = refl;
+  last-number-falls = refl;
   threshold-6 = refl;
   past-threshold-6 = refl;
   past-threshold-7 = refl;
   threshold-11 = refl;
   past-threshold-11 = refl;
+  fall-threshold-6 = refl;
+  fall-past-threshold-6 = refl;
+  fall-threshold-11 = refl;
+  fall-past-threshold-11 = refl;
   two-not-two = refl;
   two-past-one = refl;
   fall-not-two = refl;
@@ -135,13 +160,21 @@ consistency = record {
   neither = refl;
   first-element-falls = refl;
   second-element-falls = refl;
+  rises-and-falls = refl;
+  falls-and-rises = refl;
   two-flagged = refl;
   one-flagged = refl;
   last-two-flagged = refl;
   two-fallen = refl;
+  middle-two-fallen = refl;
+  last-two-fallen = refl;
   one-fallen = refl;
   one-of-each = refl;
 }
+
+-- what falls is what rises turned round, by the law
+pub fallen-is-risen : inconsistent (tablesOf (upTo 1280) (all14 1)) (0 ∷ 0 ∷ 0 ∷ 0 ∷ 0 ∷ 1 ∷ 1 ∷ []) (replicate 7 0) ≡ true
+fallen-is-risen = inconsistent-turned (tablesOf (upTo 1280) (all14 1)) (0 ∷ 0 ∷ 0 ∷ 0 ∷ 0 ∷ 1 ∷ 1 ∷ []) (replicate 7 0) ∙ consistency .last-two-flagged
 
 -- ---- replacing, frames counted from 1
 pub record Replacing : Type 0 where

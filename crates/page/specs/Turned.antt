@@ -25,6 +25,9 @@ pub record Table (ch : Choices) : Type 0 where
   pub number-0 : Turns ch 1280 (negsuc 0 ∷ replicate 13 (pos 0)) 10 0
   pub number-6 : Turns ch 1280 (replicate 6 (pos 2147483647) ++ (negsuc 2147483647 ∷ replicate 7 (pos 2147483647))) 10 6
   pub number-13 : Turns ch 1280 (replicate 13 (pos 0) ++ (negsuc 0 ∷ [])) 10 13
+  -- any negative number, not -1 and the least alone
+  pub minus-2 : Turns ch 1280 (replicate 4 (pos 0) ++ (negsuc 1 ∷ replicate 9 (pos 0))) 10 4
+  pub minus-65536 : Turns ch 1280 (replicate 12 (pos 0) ++ (negsuc 65535 ∷ pos 0 ∷ [])) 10 12
   -- "the first one's number": of 3 and 9 it is 3, whichever is lower; of all 14 it is 0
   pub first-of-two : Turns ch 1280 (replicate 3 (pos 5) ++ (negsuc 0 ∷ replicate 5 (pos 5) ++ (negsuc 2147483647 ∷ replicate 4 (pos 5)))) 10 3
   pub first-not-last : Turns ch 1280 (replicate 3 (pos 5) ++ (negsuc 2147483647 ∷ replicate 5 (pos 5) ++ (negsuc 0 ∷ replicate 4 (pos 5)))) 10 3
@@ -54,6 +57,8 @@ table ch = record {
   number-0 = turned ch _ 0 refl refl;
   number-6 = turned ch _ 6 refl refl;
   number-13 = turned ch _ 13 refl refl;
+  minus-2 = turned ch _ 4 refl refl;
+  minus-65536 = turned ch _ 12 refl refl;
   first-of-two = turned ch _ 3 refl refl;
   first-not-last = turned ch _ 3 refl refl;
   all-negative = turned ch _ 0 refl refl;

@@ -7,13 +7,15 @@ use mathlib.Core.List.{List, [], _∷_, _++_}
 use mathlib.Core.Logic.{inr}
 use Prim.Native.Nat.{ℕ, _+_, _-_, _*_, _≤_}
 use native.Mathlib.Omega.{arith}
+use lib.IntN.{pos, negsuc}
 use lib.ListN.{length, take, drop, replicate}
 use lib.Seq.{take-at}
 use Rattle.lists.specs.Parts.{over, length-over}
+use Rattle.lists.specs.Search.{firstFrom}
 use Rattle.layout.specs.Layout.{indexOctets, reportOctets, codebookNumbers}
 use Rattle.choices.specs.Choices.{oneHeaderSettles}
-use Rattle.consistency.specs.Tables.{Tables, tablesOf, zeroTables, RightSizes, FirstNegative}
-use Rattle.consistency.specs.Admitted.{wrong-sizes, negative-refused}
+use Rattle.consistency.specs.Tables.{Tables, tablesOf, zeroTables, RightSizes, FirstNegative, sizesRight, admission}
+use Rattle.consistency.specs.Admitted.{wrong-sizes, negative-refused, ten-exactly}
 use Rattle.settings.specs.declared.Settings.{Settings}
 use Rattle.settings.specs.Settings.{settings}
 use Rattle.writer.specs.Writing as W
@@ -272,6 +274,15 @@ negative-threshold u tables out index report room sized k first =
 pub unread-1 : trip (settings 0 0) (lone 1) (tablesOf [] (zeroTables .thresholds)) (replicate 145 255) (indexFor 1) (reportFor 1)
     ≡ made (NotRead WrongTables) (imageOf says1 ++ (255 ∷ [])) (indexFor 1) (reportFor 1)
 unread-1 = wrong-tables says1 (tablesOf [] (zeroTables .thresholds)) (replicate 145 255) (indexFor 1) (reportFor 1) (omega arith) (λ e. omega arith)
+
+-- and with the last of 14 thresholds negative
+pub unread-10 : trip (settings 0 0) (lone 1) (tablesOf (zeroTables .codebook) (replicate 13 (pos 0) ++ (negsuc 0 ∷ []))) (replicate 145 255) (indexFor 1) (reportFor 1)
+    ≡ made (NotRead (NegativeThreshold 13)) (imageOf says1 ++ (255 ∷ [])) (indexFor 1) (reportFor 1)
+unfolding admission sizesRight firstFrom
+unread-10 =
+    let tables = tablesOf (zeroTables .codebook) (replicate 13 (pos 0) ++ (negsuc 0 ∷ [])) in
+    let t = ten-exactly tables 13 .0 refl in
+    negative-threshold says1 tables (replicate 145 255) (indexFor 1) (reportFor 1) (omega arith) (t .0) 13 (t .1)
 
 -- and a rate of 2 is not written
 pub unwritten-2 : trip (settings 2 0) (lone 1) zeroTables (replicate 145 255) (indexFor 1) (reportFor 1)
