@@ -51,6 +51,12 @@ pub fn every_two_steps_shuffled(chance: &mut Chance) -> Vec<[Step; 2]> {
     twos
 }
 
+/// Those of which both steps exceed: where both fall, where both rise, and all of them.
+pub fn falling_rising_and_all(twos: &[[Step; 2]]) -> [Vec<[Step; 2]>; 3] {
+    let ways: [fn(&Step) -> bool; 3] = [|step| step.falls, |step| !step.falls, |_| true];
+    ways.map(|way| twos.iter().filter(|two| two.iter().all(|step| step.exceeds() && way(step))).copied().collect())
+}
+
 /// The entries of a codebook are of seven kinds: both elements low, or one of them higher by a size.
 const KINDS: usize = 1 + 2 * SIZES.len();
 const LOW: usize = 0;
@@ -184,6 +190,16 @@ impl Steps {
         parts
     }
 
+    /// Only the CRC of pair `failing` fails, and each pair behind it makes two steps that exceed: all of those are bad, up to the last.
+    pub fn to_the_end(&self, chance: &mut Chance, m: usize, failing: usize, exceeding: &[[Step; 2]]) -> Vec<Part> {
+        let mut parts = self.quiet(chance, m, false);
+        put(&mut parts, failing, self.failed(chance));
+        for (q, two) in (failing + 1..PAIRS * m).zip(exceeding.iter().cycle()) {
+            put(&mut parts, q, self.packet(chance, two, false));
+        }
+        parts
+    }
+
     /// Only pair q makes steps, and only one CRC fails: that of the pair behind it or before it, if there is one.
     pub fn alone(&self, chance: &mut Chance, m: usize, q: usize, two: &[Step], beside: Beside) -> Vec<Part> {
         let mut parts = self.quiet(chance, m, true);
@@ -283,6 +299,10 @@ mod tests {
         let chained = notes(&made.chain(&mut chance, 255, &twos), &made);
         let [good, failed, bad] = [0, 1, 2].map(|note| chained.iter().filter(|&&n| n == note).count());
         assert!(bad > 2700 && (good..=good + 1).contains(&failed), "{good} {failed} {bad}");
+        for exceeding in falling_rising_and_all(&twos) {
+            let ended = notes(&made.to_the_end(&mut chance, 255, 7, &exceeding), &made);
+            assert_eq!(ended, [&[0; 7][..], &[1], &[2; 3052]].concat());
+        }
         for (q, two) in [0, 1, 17, 34, 35].into_iter().flat_map(|q| twos[..40].iter().map(move |two| (q, two))) {
             let next = notes(&made.alone(&mut chance, 3, q, two, Beside::NextFails), &made);
             let before = notes(&made.alone(&mut chance, 3, q, two, Beside::OneBeforeIsBad), &made);

@@ -5,7 +5,7 @@ use independent::driver::{DEFAULT, KNOWN_CHOICES, ONE_HEADER_SETTLES};
 use independent::header::{encode, Code};
 use independent::hunting::{bits_of, hunt, octets_of, read_bits, HEADER_BITS, MULTIFRAME_BITS, SYNC_BITS};
 use independent::reading::{CODEBOOK, MOST, REPORT, THRESHOLDS};
-use independent::steps::{every_two_steps, every_two_steps_shuffled, Beside, Steps};
+use independent::steps::{every_two_steps, every_two_steps_shuffled, falling_rising_and_all, Beside, Steps};
 use independent::stream::{INDICES, PAIRS};
 use independent::utterance::{bad_packet, damage_anywhere, estrange, faulty_tables, fit_tables, forbid, image, negative, only_headers};
 use independent::utterance::{set_header, spoil, tables, unsettle, utterance, Part, Tables};
@@ -719,14 +719,36 @@ impl Check {
                 }
             }
         }
+        self.negative_and_many_octets();
     }
 
-    /// The multiframes, a gap before them, read by the tables.
+    /// More octets than 255 multiframes have: inverse syncs, and multiframes behind them or none, searched from anywhere and also for a
+    /// number of bits that is refused.
+    fn negative_and_many_octets(&mut self) {
+        let image = image(&utterance(&mut self.chance, 2));
+        for length in [36_722, 40_001, 40_002, 65_537, 65_538, 80_000, 131_074, 1 << 18, 1_000_000] {
+            let inverse: Vec<u8> = INVERSE.into_iter().cycle().take(length).collect();
+            for octets in [[&inverse[..], &image].concat(), inverse] {
+                for (place, least) in [(0, 16), (1 + self.chance.below(THRESHOLDS - 2), 17), (THRESHOLDS - 1, 12)] {
+                    let from = self.chance.pick(&[0, 8 * length as u64, 8 * octets.len() as u64, u64::MAX]);
+                    let mut tables = fit_tables(&mut self.chance);
+                    tables.thresholds[place] = negative(&mut self.chance);
+                    let lent = Lent { tables, index: 2 * INDICES, report: 2 * REPORT, answer: ANSWER };
+                    self.read("a negative threshold and many octets", &Search::new(&octets, from, least), &lent);
+                }
+            }
+        }
+    }
+
+    /// The multiframes, a gap before them, read by the tables; once in a while there are gaps between and behind them too.
     fn read_steps(&mut self, name: &str, parts: &[Part], steps: &Steps) {
         let shift = self.chance.below(20);
-        let bits = [vec![false; shift], bits_of(&image(parts))].concat();
+        let (bits, from) = match self.chance.below(3) {
+            0 => (spread(&mut self.chance, parts, 0, 40), 0),
+            _ => ([vec![false; shift], bits_of(&image(parts))].concat(), shift as u64),
+        };
         let octets = whole(&mut self.chance, &bits);
-        self.read_roomy_by(name, &Search::new(&octets, shift as u64, 16), steps.tables.clone());
+        self.read_roomy_by(name, &Search::new(&octets, from, 16), steps.tables.clone());
     }
 
     /// Rises and falls of one element in each of two index pairs, by the threshold, by one more and by more than that: of every two index
@@ -743,6 +765,11 @@ impl Check {
             for start in 0..5 {
                 let parts = steps.chain(&mut self.chance, MOST, &twos[600 * start..]);
                 self.read_steps("rises and falls in long runs of 3,060 pairs", &parts, steps);
+            }
+            for exceeding in falling_rising_and_all(&twos) {
+                let failing = self.chance.pick(&[1, 2, 11, 12, 35]);
+                let parts = steps.to_the_end(&mut self.chance, MOST, failing, &exceeding);
+                self.read_steps("rises and falls in a run to the last of 3,060 pairs", &parts, steps);
             }
             let places = [0, 1399, 1400, 3059].map(|q| if self.chance.once_in(3) { self.chance.below(3060) } else { q });
             for (q, two) in places.into_iter().zip(&twos) {

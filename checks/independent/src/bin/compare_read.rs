@@ -4,7 +4,7 @@ use independent::driver::{over, rule_of, unknown_choices, Call, Driver, ANSWER_S
 use independent::driver::{DEFAULT, KNOWN_CHOICES, ONE_HEADER_SETTLES};
 use independent::header::{encode, Code};
 use independent::reading::{read, Rule, CODEBOOK, REPORT, THRESHOLDS};
-use independent::steps::{every_two_steps, every_two_steps_shuffled, Beside, Steps};
+use independent::steps::{every_two_steps, every_two_steps_shuffled, falling_rising_and_all, Beside, Steps};
 use independent::stream::{packet_of, packets_of, INDICES, PAIRS};
 use independent::utterance::{bad_packet, damage_anywhere, estrange, faulty_tables, fit_tables, forbid, image, negative, only_headers};
 use independent::utterance::{set_header, spoil, tables, unsettle, utterance, Part, Tables};
@@ -560,6 +560,22 @@ impl Check {
                 }
             }
         }
+        self.negative_and_many_octets();
+    }
+
+    /// More octets than 255 multiframes have: inverse syncs, cut or not, and multiframes behind them or none.
+    fn negative_and_many_octets(&mut self) {
+        let (whole, rooms) = self.refused_with(0);
+        for length in [36_722, 40_001, 40_002, 65_537, 65_538, 80_000, 131_074, 1 << 18, 1_000_000] {
+            let inverse: Vec<u8> = INVERSE.into_iter().cycle().take(length).collect();
+            for octets in [[&inverse[..], &whole].concat(), inverse] {
+                for place in [0, 1 + self.chance.below(THRESHOLDS - 2), THRESHOLDS - 1] {
+                    let mut tables = fit_tables(&mut self.chance);
+                    tables.thresholds[place] = negative(&mut self.chance);
+                    self.compare("a negative threshold and many octets", &octets, &tables, rooms);
+                }
+            }
+        }
     }
 
     /// Tables for which steps can be made: any, and those at the ends of 32 bits.
@@ -567,6 +583,23 @@ impl Check {
         let any = (0..8).map(|_| Steps::any(&mut self.chance)).collect::<Vec<_>>();
         let ends = [i32::MAX, i32::MAX - 1, 1, 0].map(|threshold| Steps::at_the_ends(&mut self.chance, threshold));
         any.into_iter().chain(ends).collect()
+    }
+
+    /// The multiframes with inverse syncs before them, between two of them, behind them or anywhere, so that the octets are mostly no
+    /// multiple of a multiframe's.
+    fn with_inverses(&mut self, parts: &[Part], anywhere: usize) -> Vec<u8> {
+        let between = 1 + self.chance.below(parts.len() - 1);
+        let mut octets = vec![];
+        for k in 0..=parts.len() {
+            let some = self.chance.pick(&[1, 2, 5, 71, 73, 100]);
+            let count = match anywhere % 4 {
+                3 => self.chance.below(3),
+                only => some * (k == [0, between, parts.len()][only]) as usize,
+            };
+            octets.extend(INVERSE.repeat(count));
+            octets.extend(parts.get(k).map_or(vec![], Part::octets));
+        }
+        octets
     }
 
     /// Rises and falls of one element in each of two index pairs, by the threshold, by one more and by more than that: of every two index
@@ -577,9 +610,18 @@ impl Check {
             for (first, half) in twos.chunks(1512).enumerate() {
                 let parts = steps.dense(&mut self.chance, 255, first, half);
                 self.compare_roomy("rises and falls in each second of 3,060 pairs", &image(&parts), &steps.tables);
+                let octets = self.with_inverses(&parts, turn + first);
+                self.compare_roomy("rises and falls of 3,060 pairs among inverse syncs", &octets, &steps.tables);
             }
             let parts = steps.chain(&mut self.chance, 255, &twos);
             self.compare_roomy("rises and falls in long runs of 3,060 pairs", &image(&parts), &steps.tables);
+            for (way, exceeding) in falling_rising_and_all(&twos).iter().enumerate() {
+                let failing = self.chance.pick(&[1, 2, 11, 12, 35]);
+                let parts = steps.to_the_end(&mut self.chance, 255, failing, exceeding);
+                self.compare_roomy("rises and falls in a run to the last of 3,060 pairs", &image(&parts), &steps.tables);
+                let octets = self.with_inverses(&parts, turn + way);
+                self.compare_roomy("rises and falls of 3,060 pairs among inverse syncs", &octets, &steps.tables);
+            }
             let ends = [0, 1, 11, 12, 1399, 1400, 3058, 3059].map(|q| if self.chance.once_in(3) { self.chance.below(3060) } else { q });
             for (q, two) in ends.into_iter().zip(&twos) {
                 let beside = self.chance.pick(&[Beside::NextFails, Beside::OneBeforeIsBad]);
