@@ -51,6 +51,21 @@ module _ (tables : Tables) where
   Shown (Refused (R.ReportShort n)) = ⊥
   Shown (Refused R.AllBad) = ⊥
 
+  -- so what holds of 11 and of 10 holds of every refusal that is shown
+  pub by-shown : (P : Reading → Type 0) → ((RightSizes tables → ⊥) → P R.WrongTables)
+      → ((k : ℕ) → RightSizes tables × FirstNegative tables k → P (R.NegativeThreshold k)) → (r : Reading) → Shown (Refused r) → P r
+  by-shown P eleven ten R.WrongTables h = eleven h
+  by-shown P eleven ten (R.NegativeThreshold k) h = ten k h
+  by-shown P eleven ten (R.Unknown p) h = absurd h
+  by-shown P eleven ten (R.CutShort p) h = absurd h
+  by-shown P eleven ten (R.Empty n) h = absurd h
+  by-shown P eleven ten (R.TooMany p) h = absurd h
+  by-shown P eleven ten R.Unsettled h = absurd h
+  by-shown P eleven ten R.Unfit h = absurd h
+  by-shown P eleven ten (R.IndexShort n) h = absurd h
+  by-shown P eleven ten (R.ReportShort n) h = absurd h
+  by-shown P eleven ten R.AllBad h = absurd h
+
   shown-sign : RightSizes tables → (s : S.Search) → S.Says test 0 thresholdNumbers s → Shown (signAdmission s)
   shown-sign h (S.at k) e = (h, (omega (arith, e .1), e .2, λ i l. e .3 i (omega arith) l))
   shown-sign h S.nowhere e = (h, λ k l. e k (omega arith) (omega arith))

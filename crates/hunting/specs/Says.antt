@@ -15,7 +15,7 @@ use Rattle.lists.specs.Tests.{by-test, true-false}
 use Rattle.layout.specs.Layout.{multiframeOctets, mostMultiframes, indexOctets, reportOctets, syncFirst, syncSecond}
 use Rattle.choices.specs.declared.Choices.{Choices}
 use Rattle.consistency.specs.Tables.{Tables, RightSizes, RightTables, FirstNegative, admission}
-use Rattle.consistency.specs.Admitted.{Shown, shown, right-passes}
+use Rattle.consistency.specs.Admitted.{Shown, shown, by-shown, right-passes}
 use Rattle.consistency.specs.declared.Admission.{Admission}
 use Rattle.consistency.specs.declared.Admission.the-variants as A
 use Rattle.bits.specs.Bits.{bits}
@@ -176,21 +176,12 @@ module _ (ch : Choices) (s : List ℕ) (from least : ℕ) (tables : Tables) (ind
   unfolding huntingReading readingFound
   fate = by (admission tables) (inRange least) refl refl (shown tables)
     where
-      turned : (r : OctetRefusal) → admission tables ≡ A.Refused r → Shown tables (A.Refused r) → Fate
-      turned RR.WrongTables e h = wrongTables h (rw e)
-      turned (RR.NegativeThreshold k) e h = negativeThreshold k (h .0) (h .1) (rw e)
-      turned (RR.Unknown p) e h = absurd h
-      turned (RR.CutShort p) e h = absurd h
-      turned (RR.Empty n) e h = absurd h
-      turned (RR.TooMany p) e h = absurd h
-      turned RR.Unsettled e h = absurd h
-      turned RR.Unfit e h = absurd h
-      turned (RR.IndexShort n) e h = absurd h
-      turned (RR.ReportShort n) e h = absurd h
-      turned RR.AllBad e h = absurd h
+      turned : (r : OctetRefusal) → Shown tables (A.Refused r) → admission tables ≡ A.Refused r → Fate
+      turned =
+          by-shown tables (λ (q : OctetRefusal). admission tables ≡ A.Refused q → Fate) (λ n e. wrongTables n (rw e)) (λ k n e. negativeThreshold k (n .0) (n .1) (rw e))
 
       by : (a : Admission) (r : Bool) → admission tables ≡ a → inRange least ≡ r → Shown tables a → Fate
-      by (A.Refused q) r ea er h = turned q ea h
+      by (A.Refused q) r ea er h = turned q h ea
       by A.Admitted false ea er h = range h er (rw (ea, er))
       by A.Admitted true ea er h = found-fate h er (rw (ea, er))
 
@@ -293,20 +284,9 @@ module _ (ch : Choices) (s : List ℕ) (from least : ℕ) (tables : Tables) (ind
   number-comes (MatchRange k) l = (λ e. omega arith, λ e. omega arith, λ e. omega arith)
   number-comes (Nowhere f n) l = (λ e. omega arith, λ e. omega arith, λ e. omega arith)
   number-comes (TooMany p) l = (λ e. omega arith, λ e. omega arith, λ e. omega arith)
-  number-comes (Octets q) (inl h) = of-tables q h
-    where
-      of-tables : (q : OctetRefusal) → Shown tables (A.Refused q) → (readingNumber q ≡ 12 → ⊥) × (readingNumber q ≡ 13 → ⊥) × (readingNumber q ≡ 14 → ⊥)
-      of-tables RR.WrongTables h = (λ e. omega arith, λ e. omega arith, λ e. omega arith)
-      of-tables (RR.NegativeThreshold k) h = (λ e. omega arith, λ e. omega arith, λ e. omega arith)
-      of-tables (RR.Unknown p) h = absurd h
-      of-tables (RR.CutShort p) h = absurd h
-      of-tables (RR.Empty n) h = absurd h
-      of-tables (RR.TooMany p) h = absurd h
-      of-tables RR.Unsettled h = absurd h
-      of-tables RR.Unfit h = absurd h
-      of-tables (RR.IndexShort n) h = absurd h
-      of-tables (RR.ReportShort n) h = absurd h
-      of-tables RR.AllBad h = absurd h
+  number-comes (Octets q) (inl h) =
+      by-shown tables (λ (r : OctetRefusal). (readingNumber r ≡ 12 → ⊥) × (readingNumber r ≡ 13 → ⊥) × (readingNumber r ≡ 14 → ⊥))
+      (λ n. (λ e. omega arith, λ e. omega arith, λ e. omega arith)) (λ k n. (λ e. omega arith, λ e. omega arith, λ e. omega arith)) q h
   number-comes (Octets q) (inr l) = of-late q l
     where
       of-late : (q : OctetRefusal) → Late q → (readingNumber q ≡ 12 → ⊥) × (readingNumber q ≡ 13 → ⊥) × (readingNumber q ≡ 14 → ⊥)

@@ -14,7 +14,7 @@ use Rattle.lists.specs.Tests.{by-test}
 use Rattle.layout.specs.Layout.{indexOctets, reportOctets}
 use Rattle.choices.specs.declared.Choices.{Choices}
 use Rattle.consistency.specs.Tables.{Tables, RightSizes, RightTables, FirstNegative, admission, ifAdmitted}
-use Rattle.consistency.specs.Admitted.{Shown, shown, right-passes, wrong-sizes, negative-refused}
+use Rattle.consistency.specs.Admitted.{Shown, shown, by-shown, right-passes, wrong-sizes, negative-refused}
 use Rattle.consistency.specs.declared.Admission.{Admission}
 use Rattle.consistency.specs.declared.Admission.the-variants as A
 use Rattle.refusals.specs.declared.Reading.{Reading as Refusal}
@@ -201,23 +201,10 @@ module _ (ch : Choices) (octets : List ℕ) (tables : Tables) (index report : �
   unfolding verdict
   shows = by (admission tables) (shown tables)
     where
-      -- what turns the tables away is 11 or 10
-      turned : (r : Refusal) → Shown tables (A.Refused r) → Given r
-      turned WrongTables h = h
-      turned (NegativeThreshold k) h = h
-      turned (Unknown p) h = absurd h
-      turned (CutShort p) h = absurd h
-      turned (Empty n) h = absurd h
-      turned (TooMany p) h = absurd h
-      turned Unsettled h = absurd h
-      turned Unfit h = absurd h
-      turned (IndexShort n) h = absurd h
-      turned (ReportShort n) h = absurd h
-      turned AllBad h = absurd h
-
       by : (a : Admission) → Shown tables a → Shows (ifAdmitted a Refuse (endVerdict ch octets tables index report places (cutting octets .ending)))
       by A.Admitted t = shows-end t (cutting octets .ending) refl
-      by (A.Refused r) h = turned r h
+      -- what turns the tables away is 11 or 10
+      by (A.Refused r) h = by-shown tables Given (λ n. n) (λ k n. n) r h
 
   pub decided-exactly : (r : Refusal) → (verdict ch octets tables index report ≡ Refuse r) ↔ Given r
   decided-exactly r = (λ e. subst Shows e shows, given-refused r)
