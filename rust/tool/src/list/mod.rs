@@ -1,0 +1,151 @@
+//! dsr list: what came of each recording, in words, as JSON or as dsrlist's lines.
+mod json;
+mod notes;
+mod numbers;
+mod progress;
+mod queue;
+mod words;
+
+use std::ffi::{OsStr, OsString};
+
+use dsr::Utterance;
+
+use crate::arguments::Arguments;
+use crate::failure::{Failure, Outcome, CLEAN, REFUSED, TROUBLE, WARNED};
+use crate::input;
+use crate::output;
+use crate::reader::{Heard, Reader, Rooms};
+use progress::Progress;
+
+/// How a recording is shown.
+#[derive(Debug, Clone, Copy, PartialEq, Eq)]
+enum Form {
+    Words,
+    Json,
+    Numbers,
+}
+
+/// What is said of one file, and the exit status that it asks for.
+struct Listed {
+    text: String,
+    /// The line for standard error, if the file could not be read.
+    trouble: Option<String>,
+    status: u8,
+}
+
+/// How all files of a call are listed.
+struct Listing {
+    reader: Reader,
+    form: Form,
+    /// Whether dsrlist's lines, which name no file, need a line that does.
+    several: bool,
+}
+
+/// dsr list.
+pub fn run(arguments: &Arguments) -> Outcome<u8> {
+    arguments.not_both("json", "numbers")?;
+    let files = &arguments.operands;
+    if files.iter().filter(|file| *file == input::STANDARD).count() > 1 {
+        return Err(arguments.wrong("standard input can be read only once"));
+    }
+    let jobs = jobs(arguments)?;
+    let form = match (arguments.has("json"), arguments.has("numbers")) {
+        (true, _) => Form::Json,
+        (_, true) => Form::Numbers,
+        _ => Form::Words,
+    };
+    let listing = Listing { reader: Reader::new(arguments)?, form, several: files.len() > 1 };
+    list_all(&listing, files, jobs)
+}
+
+fn jobs(arguments: &Arguments) -> Outcome<usize> {
+    let processors = std::thread::available_parallelism().map_or(1, usize::from);
+    match arguments.number("jobs", processors)? {
+        0 => Err(arguments.wrong("--jobs 0: at least one file is read at a time")),
+        jobs => Ok(jobs),
+    }
+}
+
+/// Lists the files in their order, and gives the largest of their exit statuses.
+fn list_all(listing: &Listing, files: &[OsString], jobs: usize) -> Outcome<u8> {
+    let mut progress = Progress::new(files.len());
+    let mut worst = CLEAN;
+    queue::in_order(
+        files,
+        jobs,
+        || (Vec::new(), Rooms::new()),
+        |(octets, rooms), file| listing.list(file, octets, rooms),
+        |listed| {
+            let mut text = String::new();
+            for one in listed {
+                worst = worst.max(one.status);
+                text += &one.text;
+                progress.one_more();
+                if let Some(trouble) = one.trouble {
+                    progress.make_way();
+                    output::put_standard(std::mem::take(&mut text).as_bytes())?;
+                    eprintln!("dsr: {trouble}");
+                }
+            }
+            progress.make_way();
+            output::put_standard(text.as_bytes())?;
+            progress.show();
+            Ok(())
+        },
+    )?;
+    Ok(worst)
+}
+
+impl Listing {
+    /// One file, read into memory that is used again for the next.
+    fn list(&self, file: &OsStr, octets: &mut Vec<u8>, rooms: &mut Rooms) -> Listed {
+        let came = input::octets_until(file, octets, |beginning| self.reader.has_enough(beginning));
+        if let Err(failure) = came {
+            return self.unreadable(file, failure);
+        }
+        match self.reader.read(octets, rooms) {
+            Ok(heard) => self.read(file, &heard),
+            Err(refusal) => self.refused(file, refusal),
+        }
+    }
+
+    fn read(&self, file: &OsStr, heard: &Heard) -> Listed {
+        let status = if is_without_warning(&heard.utterance) { CLEAN } else { WARNED };
+        let text = match self.form {
+            Form::Words => words::read(&input::shown(file), heard),
+            Form::Json => json::read(file, status, heard),
+            Form::Numbers => self.titled(file, numbers::read(&heard.utterance)),
+        };
+        Listed { text, trouble: None, status }
+    }
+
+    fn refused(&self, file: &OsStr, refusal: dsr::Error) -> Listed {
+        let text = match self.form {
+            Form::Words => words::refused(&input::shown(file), refusal),
+            Form::Json => json::refused(file, REFUSED, refusal),
+            Form::Numbers => self.titled(file, numbers::refused(refusal)),
+        };
+        Listed { text, trouble: None, status: REFUSED }
+    }
+
+    fn unreadable(&self, file: &OsStr, failure: Failure) -> Listed {
+        let text = match self.form {
+            Form::Json => json::unreadable(file, TROUBLE, failure.line.trim_start_matches(&format!("{}: ", input::shown(file)))),
+            _ => String::new(),
+        };
+        Listed { text, trouble: Some(failure.line), status: TROUBLE }
+    }
+
+    /// dsrlist's lines under the name of their file, if there are several.
+    fn titled(&self, file: &OsStr, lines: String) -> String {
+        if self.several {
+            return format!("{}:\n{lines}", input::shown(file));
+        }
+        lines
+    }
+}
+
+/// Without a warning, as docs/TRUST.md has it: no note, and the end was seen.
+fn is_without_warning<B: AsRef<[u8]>>(utterance: &Utterance<B>) -> bool {
+    !utterance.has_notes() && utterance.reading.end
+}

@@ -1,0 +1,70 @@
+//! A reading's notes as runs: neighbours with the same note are said together.
+use dsr::{HeaderNote, PairNote, Utterance};
+
+/// Neighbours with the same note: the first and the last of them, counted from 0.
+#[derive(Debug, Clone, Copy, PartialEq, Eq)]
+pub struct Run<N> {
+    pub first: usize,
+    pub last: usize,
+    pub note: N,
+}
+
+/// The multiframes whose header is not clean.
+pub fn headers<B: AsRef<[u8]>>(utterance: &Utterance<B>) -> Vec<Run<HeaderNote>> {
+    runs_of(utterance, utterance.multiframes().map(|multiframe| multiframe.header()), |note| !note.is_clean())
+}
+
+/// The pairs that were replaced.
+pub fn replaced<B: AsRef<[u8]>>(utterance: &Utterance<B>) -> Vec<Run<PairNote>> {
+    runs_of(utterance, utterance.pairs().map(|pair| pair.note), |note| note.is_bad())
+}
+
+/// Most recordings have no note: then nothing is gone through.
+fn runs_of<N: PartialEq, B: AsRef<[u8]>>(
+    utterance: &Utterance<B>,
+    notes: impl Iterator<Item = N>,
+    is_noted: impl Fn(&N) -> bool,
+) -> Vec<Run<N>> {
+    if !utterance.has_notes() {
+        return Vec::new();
+    }
+    let mut runs = runs(notes);
+    runs.retain(|run| is_noted(&run.note));
+    runs
+}
+
+fn runs<N: PartialEq>(notes: impl Iterator<Item = N>) -> Vec<Run<N>> {
+    let mut runs: Vec<Run<N>> = Vec::new();
+    for (at, note) in notes.enumerate() {
+        match runs.last_mut() {
+            Some(run) if run.note == note => run.last = at,
+            _ => runs.push(Run { first: at, last: at, note }),
+        }
+    }
+    runs
+}
+
+/// A time in seconds, of hundredths: a frame lasts one, a pair two, a multiframe 24.
+pub fn seconds(hundredths: usize) -> String {
+    format!("{}.{:02}", hundredths / 100, hundredths % 100)
+}
+
+pub const PAIR_HUNDREDTHS: usize = 2;
+pub const MULTIFRAME_HUNDREDTHS: usize = 24;
+
+#[cfg(test)]
+mod tests {
+    use super::{runs, seconds, Run};
+
+    #[test]
+    fn neighbours_are_said_together() {
+        let run = |first, last, note| Run { first, last, note };
+        assert_eq!(runs([0, 0, 1, 2, 2, 0].into_iter()), [run(0, 1, 0), run(2, 2, 1), run(3, 4, 2), run(5, 5, 0)]);
+        assert_eq!(runs::<u8>([].into_iter()), []);
+    }
+
+    #[test]
+    fn a_time_has_two_decimals() {
+        assert_eq!([0, 2, 24, 100, 6119].map(seconds), ["0.00", "0.02", "0.24", "1.00", "61.19"]);
+    }
+}

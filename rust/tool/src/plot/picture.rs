@@ -1,0 +1,149 @@
+//! A recording as it is drawn: what the library noted, column by column, and the words that go with it.
+use dsr::{HeaderNote, PairNote, Reading, MULTIFRAME_FRAMES, MULTIFRAME_PAIRS};
+
+use crate::explain;
+use crate::reader::{Found, Heard};
+
+/// The time of a multiframe, in thousandths of a second.
+pub const MULTIFRAME_TIME: usize = FRAME_TIME * MULTIFRAME_FRAMES;
+const FRAME_TIME: usize = 10;
+
+/// A recording to be drawn.
+pub struct Picture {
+    /// Its file's name, without characters that are no signs.
+    pub name: String,
+    pub columns: Vec<Column>,
+    reading: Reading,
+    found: Option<Found>,
+}
+
+/// A multiframe.
+pub struct Column {
+    pub header: HeaderNote,
+    pub pairs: Vec<Pair>,
+}
+
+/// A pair of frames.
+#[derive(Debug, Clone, Copy, PartialEq, Eq)]
+pub struct Pair {
+    pub note: PairNote,
+    /// Whether a frame of it is speech, as the reading counts it.
+    pub spoken: bool,
+}
+
+impl Picture {
+    pub fn of(name: &str, heard: &Heard) -> Picture {
+        let reading = heard.utterance.reading;
+        let mut pairs = heard.utterance.pairs().enumerate().map(|(number, pair)| {
+            let spoken = 2 * number < reading.speech;
+            Pair { note: pair.note, spoken }
+        });
+        let columns = heard
+            .utterance
+            .multiframes()
+            .map(|multiframe| Column { header: multiframe.header(), pairs: pairs.by_ref().take(MULTIFRAME_PAIRS).collect() });
+        Picture { name: signs(name), columns: columns.collect(), reading, found: heard.found }
+    }
+
+    /// What the reading says of the whole, in a line.
+    pub fn facts(&self) -> String {
+        let Reading { settings, speech, multiframes, bad, end, .. } = self.reading;
+        let spoken = seconds(FRAME_TIME * speech);
+        let (multiframes, bad) = (counted(multiframes as u64, "multiframe"), counted(bad as u64, "bad pair"));
+        let end = if end { "end seen" } else { "end missing" };
+        let outside = self.found.map_or(String::new(), |found| format!("; {} outside", counted(found.outside, "bit")));
+        format!("{settings}; {spoken} of speech; {multiframes}; {bad}; {end}{outside}")
+    }
+
+    /// What stands in a header, in words.
+    pub fn header_words(&self, column: usize) -> String {
+        let words = explain::header_words(self.columns[column].header).join(", ");
+        format!("multiframe {}, header, {}: {words}", column + 1, seconds(MULTIFRAME_TIME * column))
+    }
+
+    /// What stands in a pair, in words; pairs are counted from 0 here, and from 1 in the words.
+    pub fn pair_words(&self, column: usize, pair: usize) -> String {
+        let Pair { note, spoken } = self.columns[column].pairs[pair];
+        let begins = MULTIFRAME_TIME * column + 2 * FRAME_TIME * pair;
+        let time = format!("{} to {}", seconds(begins), seconds(begins + 2 * FRAME_TIME));
+        let replaced = if note.is_bad() { ", replaced" } else { "" };
+        let padding = if spoken { "" } else { ", padding" };
+        format!("multiframe {}, pair {}, {time}: {}{replaced}{padding}", column + 1, pair + 1, explain::pair_words(note))
+    }
+
+    fn bad_pairs(&self) -> impl Iterator<Item = bool> + '_ {
+        self.columns.iter().flat_map(|column| &column.pairs).map(|pair| pair.note.is_bad())
+    }
+}
+
+/// How the bad pairs of two recordings lie to each other, pair by pair from the first on.
+#[derive(Debug, Clone, Copy, PartialEq, Eq, Default)]
+pub struct Comparison {
+    /// The pairs that both have.
+    pairs: usize,
+    first_only: usize,
+    second_only: usize,
+    both: usize,
+}
+
+impl Comparison {
+    pub fn of(first: &Picture, second: &Picture) -> Comparison {
+        Comparison::count(first.bad_pairs().zip(second.bad_pairs()))
+    }
+
+    fn count(bad: impl Iterator<Item = (bool, bool)>) -> Comparison {
+        bad.fold(Comparison::default(), |so_far, (first, second)| Comparison {
+            pairs: so_far.pairs + 1,
+            first_only: so_far.first_only + usize::from(first && !second),
+            second_only: so_far.second_only + usize::from(second && !first),
+            both: so_far.both + usize::from(first && second),
+        })
+    }
+
+    /// The counts in a line.
+    pub fn words(self) -> String {
+        let Comparison { pairs, first_only, second_only, both } = self;
+        let only = format!("bad in the first only: {first_only}; in the second only: {second_only}");
+        format!("Of the {pairs} pairs that both have, {only}; in both: {both}.")
+    }
+}
+
+/// Thousandths of a second, as seconds.
+fn seconds(thousandths: usize) -> String {
+    format!("{}.{:02} s", thousandths / 1000, thousandths % 1000 / 10)
+}
+
+/// A number of things, of which there may be one.
+fn counted(number: u64, thing: &str) -> String {
+    format!("{number} {thing}{}", if number == 1 { "" } else { "s" })
+}
+
+/// A name without the characters that are no signs: a terminal would obey them, and XML forbids some.
+fn signs(name: &str) -> String {
+    let unseen = |sign: char| {
+        let turns = matches!(sign, '\u{200E}' | '\u{200F}' | '\u{202A}'..='\u{202E}' | '\u{2066}'..='\u{2069}');
+        sign.is_control() || turns || matches!(sign, '\u{2028}' | '\u{2029}' | '\u{FFFE}' | '\u{FFFF}')
+    };
+    name.replace(unseen, "?")
+}
+
+#[cfg(test)]
+mod tests {
+    use super::*;
+
+    #[test]
+    fn names_lose_what_is_no_sign() {
+        assert_eq!(signs("a\u{1b}[2Jb\n\u{202e}c\u{ffff} \u{fc}.dsr"), "a?[2Jb??c? \u{fc}.dsr");
+    }
+
+    #[test]
+    fn times_have_two_decimals() {
+        assert_eq!([0, 10, 990, 61_200].map(seconds), ["0.00 s", "0.01 s", "0.99 s", "61.20 s"]);
+    }
+
+    #[test]
+    fn bad_pairs_are_counted_over_what_both_have() {
+        let bad = [(true, false), (true, true), (false, true), (false, false), (true, false)];
+        assert_eq!(Comparison::count(bad.into_iter()), Comparison { pairs: 5, first_only: 2, second_only: 1, both: 1 });
+    }
+}

@@ -1,0 +1,115 @@
+//! How recordings are to be read, as the options say it, and the calls of the library that read them.
+use std::ffi::OsStr;
+
+use dsr::{Choices, Error, Tables, Utterance, MOST_MULTIFRAMES, MULTIFRAME_INDICES, MULTIFRAME_REPORT};
+
+use crate::arguments::Arguments;
+use crate::failure::{Failure, Outcome};
+use crate::{input, numbers};
+
+/// The matching bits of a sync that a hunt asks for if nothing is said: 14 forgives two flips.
+pub const USUAL_MATCH: u64 = 14;
+
+/// How recordings are to be read.
+pub struct Reader {
+    codebook: Vec<i32>,
+    thresholds: Vec<i32>,
+    choices: Choices,
+    /// The first bit and the matches asked for, if the recording is bits with no octet boundary.
+    hunt: Option<(u64, u64)>,
+}
+
+/// What a reading gives.
+pub struct Heard<'b> {
+    pub utterance: Utterance<&'b [u8]>,
+    /// Of a hunting reading alone.
+    pub found: Option<Found>,
+}
+
+/// What a hunting reading says of the bits around what it found.
+#[derive(Debug, Clone, Copy, PartialEq, Eq)]
+pub struct Found {
+    pub outside: u64,
+    pub tested: u64,
+}
+
+/// Memory for any one reading, used again and again.
+pub struct Rooms {
+    index: Vec<u8>,
+    report: Vec<u8>,
+}
+
+impl Rooms {
+    pub fn new() -> Rooms {
+        Rooms { index: vec![0; MOST_MULTIFRAMES * MULTIFRAME_INDICES], report: vec![0; MOST_MULTIFRAMES * MULTIFRAME_REPORT] }
+    }
+}
+
+impl Reader {
+    /// The reader that a command's options ask for. Tables, or a T, that the library refuses whatever is read are told here, once.
+    pub fn new(arguments: &Arguments) -> Outcome<Reader> {
+        arguments.only_with("from", "bits")?;
+        arguments.only_with("match", "bits")?;
+        arguments.only_with("codebook", "thresholds")?;
+        arguments.only_with("thresholds", "codebook")?;
+        let asked = arguments.has("one-header-settles");
+        let hunt = match arguments.has("bits") {
+            true => Some((arguments.number("from", 0)?, arguments.number("match", USUAL_MATCH)?)),
+            false => None,
+        };
+        let reader = Reader {
+            codebook: table(arguments.value("codebook"), Tables::ZEROS.codebook(), "a codebook")?,
+            thresholds: table(arguments.value("thresholds"), Tables::ZEROS.thresholds(), "a file of thresholds")?,
+            choices: if asked { Choices::ONE_HEADER_SETTLES } else { Choices::DEFAULT },
+            hunt,
+        };
+        reader.admitted(arguments)
+    }
+
+    /// Reads octets, or bits, by one call of the library.
+    pub fn read<'b>(&self, octets: &[u8], rooms: &'b mut Rooms) -> Result<Heard<'b>, Error> {
+        let tables = Tables::new(&self.codebook, &self.thresholds)?;
+        let Rooms { index, report } = rooms;
+        match self.hunt {
+            None => {
+                let utterance = dsr::read_into(octets, &tables, self.choices, index, report)?;
+                Ok(Heard { utterance, found: None })
+            }
+            Some((from, least)) => {
+                let bits = dsr::read_bits_into(octets, from, least, &tables, self.choices, index, report)?;
+                let found = Some(Found { outside: bits.outside, tested: bits.tested });
+                Ok(Heard { utterance: bits.utterance, found })
+            }
+        }
+    }
+
+    /// Whether octets that begin so are refused with 12 or 15 whatever follows them, so that the rest need not be read. It is proved that
+    /// these two answers of `settle` stay however a recording grows, and that a full reading then refuses alike.
+    pub fn has_enough(&self, beginning: &[u8]) -> bool {
+        let settled = dsr::settle(beginning, self.choices);
+        self.hunt.is_none() && matches!(settled, Err(Error::ReadUnknown { .. } | Error::ReadTooMany { .. }))
+    }
+
+    /// The library is asked with no octets at all: what it then says of tables or T it says of every recording.
+    fn admitted(self, arguments: &Arguments) -> Outcome<Reader> {
+        let refusal = self.read(&[], &mut Rooms::new()).err();
+        let file = |option| arguments.value(option).map_or(String::new(), input::shown);
+        match refusal {
+            Some(refusal @ Error::ReadThreshold { .. }) => Err(Failure::refused(&file("thresholds"), refusal)),
+            Some(refusal @ Error::ReadTables { .. }) => Err(Failure::refused(&file("codebook"), refusal)),
+            Some(refusal @ Error::HuntMatch { .. }) => Err(Failure::refused("--match", refusal)),
+            _ => Ok(self),
+        }
+    }
+}
+
+/// The numbers of a table's file, as many as `usual` has; `usual` itself if no file is named.
+fn table(name: Option<&OsStr>, usual: &[i32], what: &str) -> Outcome<Vec<i32>> {
+    let Some(name) = name else { return Ok(usual.to_vec()) };
+    let file = input::shown(name);
+    let read: Vec<i32> = numbers::all(&file, &input::text(name)?, "a whole number of 32 bits")?;
+    if read.len() == usual.len() {
+        return Ok(read);
+    }
+    Err(Failure::trouble(format!("{file}: {} numbers, and {what} has {}", read.len(), usual.len())))
+}
