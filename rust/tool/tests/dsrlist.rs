@@ -1,0 +1,218 @@
+//! dsr list says of a file exactly what dsrlist prints: its lines, its words and its JSON, each turned back into dsrlist's lines. dsrlist
+//! asks that one header settles, and so does dsr here.
+mod shared;
+
+use std::fs::File;
+use std::path::{Path, PathBuf};
+use std::process::Command;
+
+use dsr::Settings;
+use shared::{sample, Chance, Room};
+
+/// So many files.
+const FILES: usize = 1500;
+const INVERSE_SYNC: [u8; 2] = [0x78, 0x4D];
+
+fn dsrlist() -> PathBuf {
+    let built = Path::new(env!("CARGO_MANIFEST_DIR")).join("../../target/bin").join(std::env::consts::ARCH).join("dsrlist");
+    let path = std::env::var_os("DSRLIST").map_or(built, PathBuf::from);
+    assert!(path.exists(), "there is no {}: run make dsrlist", path.display());
+    path
+}
+
+/// A recording with damage of one kind or another, or with none.
+fn recording(chance: &mut Chance) -> Vec<u8> {
+    let rates = [0, 1, 3];
+    let settings = Settings::from_codes(rates[chance.below(3) as usize], chance.below(2)).unwrap();
+    let most = if chance.below(20) == 0 { 6119 } else { 200 };
+    let count = chance.below(most + 1) as usize;
+    let mut image = dsr::write(settings, &chance.frames(count)).unwrap();
+    for _ in 0..chance.below(4) {
+        damage(chance, &mut image);
+    }
+    image
+}
+
+fn damage(chance: &mut Chance, image: &mut Vec<u8>) {
+    let multiframes = (image.len() as u64 / 144).max(1);
+    let start = 144 * chance.below(multiframes) as usize;
+    match chance.below(8) {
+        0 => (0..1 + chance.below(4)).for_each(|_| flip(image, 8 * start + 16 + chance.below(32) as usize)),
+        1..=3 => (0..chance.below(60)).for_each(|_| {
+            flip(image, chance.below(8 * multiframes * 144) as usize / 1152 * 1152 + 48 + chance.below(1104) as usize)
+        }),
+        4 => (0..30).for_each(|k| flip(image, 8 * start + 48 + 31 * k)),
+        5 => drop(image.splice(start.min(image.len())..start.min(image.len()), INVERSE_SYNC.repeat(chance.below(4) as usize))),
+        6 => image.truncate(chance.below(image.len() as u64 + 1) as usize),
+        _ => image.truncate(start.max(144).min(image.len())),
+    }
+}
+
+fn flip(image: &mut [u8], bit: usize) {
+    if let Some(octet) = image.get_mut(bit / 8) {
+        *octet ^= 1 << (bit % 8);
+    }
+}
+
+/// What dsrlist prints of a file.
+fn listed(dsrlist: &Path, file: &Path) -> String {
+    let output = Command::new(dsrlist).stdin(File::open(file).unwrap()).output().unwrap();
+    String::from_utf8(output.stdout).unwrap()
+}
+
+/// The exit status that dsrlist's lines stand for.
+fn status_of(lines: &str) -> i32 {
+    let notes = lines
+        .lines()
+        .filter(|line| !line.starts_with("rate"))
+        .any(|line| line.contains(['1', '2', '3', '4', '5', '6', '8', '9']));
+    match lines.starts_with("refused") {
+        true => 2,
+        false => i32::from(notes || !lines.ends_with("end 1\n")),
+    }
+}
+
+/// dsrlist's lines, put together from the numbers of a total and runs of notes.
+struct Lines {
+    total: [u64; 6],
+    headers: Vec<u64>,
+    pairs: Vec<u64>,
+}
+
+impl Lines {
+    fn new(total: [u64; 6]) -> Lines {
+        let multiframes = total[2] as usize;
+        Lines { total, headers: vec![0; multiframes], pairs: vec![0; 12 * multiframes] }
+    }
+
+    fn text(&self) -> String {
+        let notes = self.headers.iter().zip(self.pairs.chunks(12));
+        let line =
+            |(header, pairs): (&u64, &[u64])| format!("{header} {}\n", pairs.iter().map(u64::to_string).collect::<String>());
+        let [rate, kind, multiframes, speech, bad, end] = self.total;
+        notes.map(line).collect::<String>()
+            + &format!("rate {rate} type {kind} multiframes {multiframes} speech {speech} bad {bad} end {end}\n")
+    }
+}
+
+/// The whole number that stands between two texts, without its decimal point: of a time, hundredths.
+fn between(text: &str, before: &str, after: &str) -> u64 {
+    let begin = text.find(before).unwrap_or_else(|| panic!("no '{before}' in: {text}")) + before.len();
+    let end = begin + text[begin..].find(after).unwrap_or_else(|| panic!("no '{after}' in: {text}"));
+    text[begin..end].replace('.', "").parse().unwrap_or_else(|_| panic!("no number before '{after}' in: {text}"))
+}
+
+/// Words, of one file, as dsrlist's lines.
+fn from_words(words: &str) -> String {
+    let (first, rest) = words.split_once('\n').unwrap();
+    let first = first.split_once(": ").unwrap().1;
+    if let Some(refusal) = first.strip_prefix("refused ") {
+        return format!("refused {}\n", refusal.split(':').next().unwrap());
+    }
+    let rate = match between(first, "", " kHz") {
+        8 => 0,
+        11 => 1,
+        _ => 3,
+    };
+    let kind = u64::from(first.contains("noise robust"));
+    let bad = if first.contains(", no pair replaced, ") {
+        0
+    } else {
+        between(&first[first.find("multiframe").unwrap()..], ", ", " of ")
+    };
+    let total = [
+        rate,
+        kind,
+        between(first, " in ", " multiframe"),
+        between(first, "front end, ", " s of"),
+        bad,
+        u64::from(first.ends_with("end seen")),
+    ];
+    let mut lines = Lines::new(total);
+    for line in rest.lines() {
+        let (from, to) = (between(line, "  ", " to "), between(line, " to ", " s:"));
+        match line.contains("header") {
+            true => lines.headers[from as usize / 24..to as usize / 24].fill(header_note(line)),
+            false => {
+                lines.pairs[from as usize / 2..to as usize / 2].fill(if line.ends_with("replaced: CRC failed") { 1 } else { 2 })
+            }
+        }
+    }
+    lines.text()
+}
+
+fn header_note(line: &str) -> u64 {
+    let mended = if line.contains("1 flipped bit mended") { 1 } else { 2 * u64::from(line.contains("2 flipped bits mended")) };
+    let lost = 3 * u64::from(line.ends_with(": lost"));
+    mended + lost + 4 * u64::from(line.contains("counter out of step")) + 8 * u64::from(line.contains("names other settings"))
+}
+
+/// A line of JSON as dsrlist's lines.
+fn from_json(line: &str) -> String {
+    let field = |text: &str, name: &str| {
+        let (_, rest) = text.split_once(&format!("\"{name}\":")).unwrap_or_else(|| panic!("no {name} in: {text}"));
+        rest[..rest.find([',', '}']).unwrap()].to_string()
+    };
+    let number = |text: &str, name: &str| field(text, name).parse::<u64>().unwrap();
+    if line.contains("\"outcome\":\"refused\"") {
+        return format!("refused {} {}\n", number(line, "refusal"), number(line, "place"));
+    }
+    let rate = [8, 11, 0, 16].iter().position(|khz| *khz == number(line, "rate_khz")).unwrap() as u64;
+    let kind = u64::from(field(line, "front_end") == "\"noise-robust\"");
+    let end = u64::from(field(line, "end_seen") == "true");
+    let mut lines =
+        Lines::new([rate, kind, number(line, "multiframes"), number(line, "speech_frames"), number(line, "bad_pairs"), end]);
+    let array = |name: &str| line.split_once(&format!("\"{name}\":[")).unwrap().1.split(']').next().unwrap().to_string();
+    for run in array("headers").split('}').filter(|run| run.contains('{')) {
+        let (first, last) = (number(run, "first_multiframe") as usize, number(run, "last_multiframe") as usize);
+        lines.headers[first - 1..last].fill(number(&format!("{run},"), "note"));
+    }
+    for run in array("replaced").split('}').filter(|run| run.contains('{')) {
+        let (first, last) = (number(run, "first_pair") as usize, number(run, "last_pair") as usize);
+        lines.pairs[first - 1..last].fill(number(&format!("{run},"), "note"));
+    }
+    lines.text()
+}
+
+/// The listing of many files in words, cut where a file begins.
+fn each(text: &str) -> Vec<String> {
+    let mut each: Vec<String> = Vec::new();
+    for line in text.lines() {
+        if !line.starts_with("  ") {
+            each.push(String::new());
+        }
+        each.last_mut().unwrap().push_str(&format!("{line}\n"));
+    }
+    each
+}
+
+#[test]
+fn dsr_list_says_what_dsrlist_prints() {
+    let (room, dsrlist, mut chance) = (Room::new("dsrlist"), dsrlist(), Chance(11));
+    let octets = |at: usize, chance: &mut Chance| match at {
+        0 => Vec::new(),
+        1 => sample(),
+        2..=20 => sample()[..23 * (at - 2)].to_vec(),
+        21 => INVERSE_SYNC.repeat(32_768),
+        22 => vec![0x87; 65_536],
+        _ => recording(chance),
+    };
+    let names: Vec<String> = (0..FILES).map(|at| format!("{at:04}.dsr")).collect();
+    let wanted: Vec<String> =
+        names.iter().enumerate().map(|(at, name)| listed(&dsrlist, &room.put(name, octets(at, &mut chance)))).collect();
+    let all = |form: &str| room.dsr(&format!("list --one-header-settles {form} {}", names.join(" ")));
+    let (words, json) = (all("--jobs 2"), all("--json"));
+    let (words, json) = (each(words.text()), json.text().lines().map(String::from).collect::<Vec<_>>());
+    assert_eq!((words.len(), json.len()), (FILES, FILES));
+    for at in 0..FILES {
+        assert_eq!(from_words(&words[at]), wanted[at], "{}", words[at]);
+        assert_eq!(from_json(&json[at]), wanted[at], "{}", json[at]);
+        let said = room.dsr(&format!("list --one-header-settles --numbers {}", names[at]));
+        assert_eq!((said.text(), said.status), (wanted[at].as_str(), status_of(&wanted[at])), "{}", names[at]);
+    }
+    // the files are of every kind
+    for text in ["refused 12", "refused 13", "refused 14", "refused 16", "end 0", "3 ", "5 ", "rate 3 type 1"] {
+        let has = wanted.iter().filter(|lines| lines.lines().any(|line| line.starts_with(text) || line.contains(text))).count();
+        assert!(has >= 3, "{text}: {has} files");
+    }
+}
