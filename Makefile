@@ -38,6 +38,9 @@ MADE := target/lib/$(ARCH)
 ARCHIVE := $(MADE)/libdsr.a
 SHARED := $(MADE)/libdsr.so.$(VERSION)
 DSRLIST := target/bin/$(ARCH)/dsrlist
+# The tool is built for this machine alone: Debian has no Rust library for the other one.
+DSR := target/bin/$(MACHINE)/dsr
+DSR_HERE := $(if $(filter $(MACHINE),$(ARCH)),$(DSR))
 LITERAL := $(addprefix checks/literal/,header.c stream.c write.c read.c settle.c hunt.c)
 HEADERS := c/dsr.h checks/literal/literal.h checks/drive/drive.h checks/drive/wide.h checks/bench/bench.h
 WARN := -std=gnu11 -Wall -Wextra -Werror -Ic
@@ -58,8 +61,10 @@ INTO_BIN = $(DESTDIR)$(BINDIR)
 INTO_LIB = $(DESTDIR)$(LIBDIR)
 INTO_INCLUDE = $(DESTDIR)$(INCLUDEDIR)
 INTO_MAN = $(DESTDIR)$(MANDIR)
+# Where each shell looks for completions.
+COMPLETIONS = $(addprefix $(DESTDIR)$(PREFIX)/share/,bash-completion/completions/dsr zsh/site-functions/_dsr fish/vendor_completions.d/dsr.fish)
 
-.PHONY: help sample test outside bench lib dsrlist install uninstall clean packages
+.PHONY: help sample test outside bench bench-tool lib dsrlist dsr install uninstall clean packages
 .SECONDARY:
 # rt and cargo take all processors by themselves, and two runs of rt would write the same files.
 .NOTPARALLEL:
@@ -84,28 +89,37 @@ bench: $(foreach p,$(ENTRIES),$(BUILD)/$(LIB)/bench-$(p)) ## the library's times
 	    $(RUN) $(BUILD)/$(LIB)/bench-$$p $(if $(filter literal,$(LIB)),"the literal version against itself",$(NOT_JUDGED)) || missed=1; \
 	done; exit $$missed
 
+bench-tool: $(ARCHIVE) ## the time of dsr list over 10,000 files, against the library's readings and reading the files
+	@cd rust/tool && $(CARGO) bench --quiet --offline --locked --bench list
+
 lib: $(ARCHIVE) $(SHARED) ## the library: libdsr.a and libdsr.so in target/lib/ARCH
 
 dsrlist: $(DSRLIST) ## the program dsrlist in target/bin/ARCH
 
-install: lib dsrlist ## library, header, dsr.pc, man pages and dsrlist below PREFIX (/usr/local), in DESTDIR
+dsr: $(DSR) ## the tool dsr in target/bin, for this machine, and target/dsr, a link to it
+
+install: lib dsrlist $(DSR_HERE) ## library, header, dsr.pc, man pages, dsrlist and dsr below PREFIX (/usr/local), in DESTDIR
 	install -d $(INTO_BIN) $(INTO_LIB)/pkgconfig $(INTO_INCLUDE) $(INTO_MAN)/man1 $(INTO_MAN)/man3
-	install -m 755 $(DSRLIST) $(INTO_BIN)/
+	install -m 755 $(DSRLIST) $(DSR_HERE) $(INTO_BIN)/
 	install -m 644 $(ARCHIVE) $(INTO_LIB)/
 	install -m 755 $(SHARED) $(INTO_LIB)/
 	ln -sf $(notdir $(SHARED)) $(INTO_LIB)/$(SONAME)
 	ln -sf $(SONAME) $(INTO_LIB)/libdsr.so
 	install -m 644 c/dsr.h $(INTO_INCLUDE)/
 	sed 's|@PREFIX@|$(PREFIX)|; s|@LIBDIR@|$(LIBDIR)|; s|@INCLUDEDIR@|$(INCLUDEDIR)|; s|@VERSION@|$(VERSION)|' c/dsr.pc.in >$(INTO_LIB)/pkgconfig/dsr.pc
-	install -m 644 man/dsrlist.1 $(INTO_MAN)/man1/
+	install -m 644 man/dsrlist.1 $(if $(DSR_HERE),man/dsr.1) $(INTO_MAN)/man1/
 	install -m 644 man/dsr.3 $(INTO_MAN)/man3/
+	$(if $(DSR_HERE),install -d $(dir $(COMPLETIONS)))
+	$(if $(DSR_HERE),$(DSR) completion bash >$(word 1,$(COMPLETIONS)))
+	$(if $(DSR_HERE),$(DSR) completion zsh >$(word 2,$(COMPLETIONS)))
+	$(if $(DSR_HERE),$(DSR) completion fish >$(word 3,$(COMPLETIONS)))
 
 uninstall: ## removes what make install put there
-	rm -f $(INTO_BIN)/dsrlist $(addprefix $(INTO_LIB)/,libdsr.a libdsr.so $(SONAME) $(notdir $(SHARED)) pkgconfig/dsr.pc) \
+	rm -f $(INTO_BIN)/dsrlist $(INTO_BIN)/dsr $(INTO_MAN)/man1/dsr.1 $(COMPLETIONS) $(addprefix $(INTO_LIB)/,libdsr.a libdsr.so $(SONAME) $(notdir $(SHARED)) pkgconfig/dsr.pc) \
 	    $(INTO_INCLUDE)/dsr.h $(INTO_MAN)/man1/dsrlist.1 $(INTO_MAN)/man3/dsr.3
 
 clean: ## removes all that was made
-	rm -rf target rust/dsr/target checks/independent/target
+	rm -rf target rust/dsr/target rust/tool/target checks/independent/target
 
 # What is missing of Debian's packages.
 packages:
@@ -155,6 +169,16 @@ target/bin/aarch64/dsrlist: target/compiled/aarch64/dsrlist.o
 	@.ci/packages aarch64
 	@mkdir -p $(@D)
 	@$(TOOLS)gcc $(STATIC) $< -o $@
+
+# The tool over the proved library. cargo knows best what has changed.
+.PHONY: rust-tool
+rust-tool: target/lib/$(MACHINE)/libdsr.a
+	@cd rust/tool && $(CARGO) build --quiet --offline --locked --release
+
+$(DSR): rust-tool
+	@mkdir -p $(@D)
+	@cmp -s rust/tool/target/release/dsr $@ || install -m 755 rust/tool/target/release/dsr $@
+	@ln -sf bin/$(MACHINE)/dsr target/dsr
 
 # The writer alone as one object, for a terminal that never reads.
 writer: $(MADE)/dsr_write.o ## the writer alone as one object that wants memset only, target/lib/ARCH/dsr_write.o
@@ -249,6 +273,11 @@ wrapper: $(ARCHIVE)
 wrapper-literal: $(BUILD)/libliteral.a
 	CARGO="$(CARGO)" DSR_LIB_DIR=$(abspath $(BUILD)) DSR_LIB_NAME=literal .ci/wrapper $(abspath rust/dsr/target/literal)
 
+# The tool as a user calls it, and its source.
+.PHONY: tool
+tool: target/lib/$(MACHINE)/libdsr.a target/bin/$(MACHINE)/dsrlist
+	CARGO="$(CARGO)" .ci/tool
+
 # The C example, held to what it has to print.
 example: $(BUILD)/$(LIB)/example
 	$(RUN) $< | diff - c/example.out
@@ -291,22 +320,23 @@ readme-rust: $(README_WITH)
 	diff $(README)/rust/got $(README)/rust/output
 
 # README's commands themselves, as printed, in a copy of the repository; and errors planted in the page, which have to be noticed.
-readme-printed: lib dsrlist
+readme-printed: lib dsrlist dsr
 	.ci/printed $(BUILD)/printed
 
 # What make install puts into a folder of its own: the README's C programs are built against it as a user would.
-installed: lib dsrlist
+installed: lib dsrlist dsr
 	.ci/installed $(BUILD)/installed
 
 # The header's version is everyone's.
 versions:
 	grep -qx 'version = "$(VERSION)"' rust/dsr/Cargo.toml
+	grep -qx 'version = "$(VERSION)"' rust/tool/Cargo.toml
 	grep -qx '__version__ = "$(VERSION)"' python/dsr.py
 	grep -qx '.define DSR_VERSION_TEXT "$(VERSION)"' c/dsr.h
 	grep -qx '_SONAME = "$(SONAME)"' python/dsr.py
 
 man-pages:
-	mandoc -Tlint -W warning man/dsrlist.1 man/dsr.3
+	mandoc -Tlint -W warning man/dsrlist.1 man/dsr.1 man/dsr.3
 
 # Code and tables together. The whole is what a program that calls every function links.
 writer-size: $(MADE)/dsr_write.o $(ARCHIVE) ## octets of code and tables of the writer alone and of the whole library
