@@ -1,5 +1,5 @@
 //! What ends a command before its time: one line on standard error, and an exit status.
-use std::io;
+use std::io::{self, Write};
 
 /// Exit status: read without a warning, or done.
 pub const CLEAN: u8 = 0;
@@ -35,6 +35,16 @@ impl Failure {
     pub fn system(file: &str, error: &io::Error) -> Failure {
         Failure::trouble(format!("{file}: {}", words_of(error)))
     }
+}
+
+/// Says a line on standard error. If that is full or closed, nobody is there to be told.
+pub fn tell(line: &str) {
+    let _ = writeln!(io::stderr(), "dsr: {}", one_line(line));
+}
+
+/// A text as one line: what would end it, or disturb a terminal, becomes a question mark.
+pub fn one_line(text: &str) -> String {
+    text.chars().map(|c| if c.is_control() { '?' } else { c }).collect()
 }
 
 /// The system's words, without its number.

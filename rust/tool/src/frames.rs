@@ -4,7 +4,7 @@ use std::fmt::Write;
 use dsr::{FrontEnd, Rate, Settings, FRAME_INDICES};
 
 use crate::arguments::Arguments;
-use crate::failure::{Failure, Outcome, CLEAN, WARNED};
+use crate::failure::{self, Failure, Outcome, CLEAN, WARNED};
 use crate::reader::{Heard, Reader, Rooms};
 use crate::{input, numbers, output};
 
@@ -93,6 +93,6 @@ fn warned(file: &str, heard: &Heard) -> u8 {
     let bad = if reading.bad > 0 { format!("{} pairs replaced", reading.bad) } else { "no pair replaced".to_string() };
     let headers = heard.utterance.multiframes().filter(|multiframe| !multiframe.header().is_clean()).count();
     let end = if reading.end { "end seen" } else { "END MISSING" };
-    eprintln!("dsr: {file}: read with a warning: {bad}, notes on {headers} headers, {end}; dsr list says which");
+    failure::tell(&format!("{file}: read with a warning: {bad}, notes on {headers} headers, {end}; dsr list says which"));
     WARNED
 }

@@ -4,7 +4,7 @@ use std::fs::File;
 use std::io::{self, Read};
 
 use crate::closed;
-use crate::failure::{Failure, Outcome};
+use crate::failure::{one_line, Failure, Outcome};
 
 /// The operand that stands for standard input.
 pub const STANDARD: &str = "-";
@@ -19,7 +19,7 @@ pub fn shown(name: &OsStr) -> String {
     if name == STANDARD {
         return "standard input".to_string();
     }
-    name.to_string_lossy().chars().map(|c| if c.is_control() { '?' } else { c }).collect()
+    one_line(&name.to_string_lossy())
 }
 
 /// All octets of a file, or of standard input for `-`.

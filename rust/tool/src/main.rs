@@ -28,7 +28,7 @@ use failure::{Failure, Outcome, CLEAN};
 
 fn main() -> ExitCode {
     let status = run(std::env::args_os().skip(1)).unwrap_or_else(|failure| {
-        eprintln!("dsr: {}", failure.line);
+        failure::tell(&failure.line);
         failure.status
     });
     ExitCode::from(status)

@@ -26,9 +26,9 @@ pub fn number<N: FromStr>(file: &str, line: usize, word: &str, kind: &str) -> Ou
     word.parse().map_err(|_| Failure::trouble(format!("{file}: line {line}: '{}' is not {kind}", shortened(word))))
 }
 
-/// So much of a word as fits a message, without what would disturb a terminal.
+/// So much of a word as fits a message.
 fn shortened(word: &str) -> String {
-    let shown: String = word.chars().take(20).map(|c| if c.is_control() { '?' } else { c }).collect();
+    let shown: String = word.chars().take(20).collect();
     if word.chars().nth(20).is_some() {
         return shown + "..";
     }

@@ -182,6 +182,32 @@ fn usage_that_is_none() {
     room.dsr("completion tcsh").fails(3, "completion: SHELL is bash, zsh or fish (dsr completion --help says more)");
 }
 
+/// A line is one line, whatever stands in it.
+#[test]
+fn a_message_cannot_disturb_a_terminal() {
+    let room = Room::new("escapes");
+    for words in [["list", "--\u{1b}[31m\n"], ["list", "a\u{1b}[2J\nb"], ["\u{1b}c\n", "x"], ["explain", "\u{1b}\n7"]] {
+        let output = room.command().args(words).output().unwrap();
+        let said = String::from_utf8(output.stderr).unwrap();
+        assert_eq!((output.status.code(), said.lines().count(), said.contains('\u{1b}')), (Some(3), 1, false), "{said}");
+    }
+}
+
+/// A standard error that is full or closed changes nothing of the status.
+#[test]
+fn a_standard_error_that_nobody_reads() {
+    let room = Room::new("stderr");
+    room.put("a", sample());
+    for (call, status) in
+        [("list nowhere", 3), ("read a -o out", 1), ("damage --shift 1 a -o out", 0), ("lst", 3), ("read nowhere", 3)]
+    {
+        for to in ["2>/dev/full", "2>&-"] {
+            let output = room.command_of("sh").args(["-c", &format!("'{DSR}' {call} {to}")]).output().unwrap();
+            assert_eq!((output.status.code(), output.stdout.len()), (Some(status), 0), "{call} {to}");
+        }
+    }
+}
+
 /// The calls whose output goes to standard output.
 const CALLS: [&str; 6] = ["list a", "list --json a a a", "read a", "plot a", "explain 13", "--help"];
 

@@ -4,13 +4,12 @@ pub mod bounded;
 pub mod flips;
 
 use std::ffi::OsStr;
-use std::io::{self, Write};
 
 use dsr::{Choices, Tables, MULTIFRAME_OCTETS};
 
 use crate::arguments::Arguments;
 use crate::explain;
-use crate::failure::{Failure, Outcome, CLEAN};
+use crate::failure::{self, Failure, Outcome, CLEAN};
 use crate::random::Random;
 use crate::{input, output};
 use bits::Bits;
@@ -105,8 +104,7 @@ pub fn run(arguments: &Arguments) -> Outcome<u8> {
     let mut done = Done { flipped: wanted.flip(&mut octets), ..Done::default() };
     let moved = wanted.move_bits(arguments, Bits::of(octets), &mut done)?;
     output::put_binary(arguments.value("output"), moved.octets())?;
-    // a closed standard error changes nothing of the result
-    let _ = writeln!(io::stderr(), "{}", line(&done, wanted.seed));
+    failure::tell(&line(&done, wanted.seed));
     Ok(CLEAN)
 }
 
@@ -188,7 +186,7 @@ impl<'a> Move<'a> {
 
 fn line(done: &Done, seed: u64) -> String {
     let Done { flipped, lost, repeated, before } = done;
-    format!("dsr: damage: bits flipped {flipped}, lost {lost}, repeated {repeated}, put before {before}; seed {seed}")
+    format!("damage: bits flipped {flipped}, lost {lost}, repeated {repeated}, put before {before}; seed {seed}")
 }
 
 /// Where syncs, headers and packets stand is known of multiframes one behind the other alone. The library is asked whether these are.
@@ -228,7 +226,7 @@ mod tests {
     #[test]
     fn says_what_was_done() {
         let done = Done { flipped: 12, lost: 24, repeated: 0, before: 11 };
-        assert_eq!(line(&done, 7), "dsr: damage: bits flipped 12, lost 24, repeated 0, put before 11; seed 7");
+        assert_eq!(line(&done, 7), "damage: bits flipped 12, lost 24, repeated 0, put before 11; seed 7");
     }
 
     #[test]

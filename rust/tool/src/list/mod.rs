@@ -11,7 +11,7 @@ use std::ffi::{OsStr, OsString};
 use dsr::Utterance;
 
 use crate::arguments::Arguments;
-use crate::failure::{Failure, Outcome, CLEAN, REFUSED, TROUBLE, WARNED};
+use crate::failure::{self, Failure, Outcome, CLEAN, REFUSED, TROUBLE, WARNED};
 use crate::input;
 use crate::output;
 use crate::reader::{Heard, Reader, Rooms};
@@ -84,7 +84,7 @@ fn list_all(listing: &Listing, files: &[OsString], jobs: usize) -> Outcome<u8> {
                 if let Some(trouble) = one.trouble {
                     progress.make_way();
                     output::put_standard(std::mem::take(&mut text).as_bytes())?;
-                    eprintln!("dsr: {trouble}");
+                    failure::tell(&trouble);
                 }
             }
             progress.make_way();
