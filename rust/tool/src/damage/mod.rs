@@ -1,5 +1,5 @@
 //! dsr damage: what a bad link does to an image, drawn from a seed, the same way each time.
-mod bits;
+pub mod bits;
 pub mod bounded;
 pub mod flips;
 

@@ -9,13 +9,13 @@ mod trust;
 use std::ffi::OsStr;
 use std::thread;
 
-use dsr::{Choices, Error, Tables, MOST_FRAMES, MULTIFRAME_FRAMES, MULTIFRAME_INDICES, MULTIFRAME_REPORT};
+use dsr::{Choices, Error, Tables, MOST_FRAMES, MULTIFRAME_FRAMES};
 
 use crate::arguments::Arguments;
-use crate::damage::{self, bounded, flips::Flips, Chance};
+use crate::damage::{self, bits::Bits, bounded, flips::Flips, Chance};
 use crate::failure::{Failure, Outcome, CLEAN};
 use crate::output;
-use crate::reader::USUAL_MATCH;
+use crate::reader::{Rooms, USUAL_MATCH};
 use sent::Sent;
 use tally::Tally;
 
@@ -23,6 +23,8 @@ const USUAL_UTTERANCES: u64 = 200;
 /// Days of work: more is a slip of the pen.
 const MOST_UTTERANCES: u64 = 1_000_000_000;
 const USUAL_FRAMES: usize = 300;
+/// So many bits before each image are enough for anything that can be learnt of a hunt.
+const MOST_SHIFT: u64 = 1_000_000;
 const USUAL_RATES: [f64; 8] = [1e-5, 3e-5, 1e-4, 3e-4, 1e-3, 3e-3, 1e-2, 3e-2];
 
 /// The kind of damage, whose rate differs from row to row.
@@ -38,6 +40,8 @@ pub struct Plan {
     frames: usize,
     rates: Vec<f64>,
     kind: Kind,
+    /// So many bits by chance stand before each image.
+    shift: u64,
     /// The matching bits of a sync that the hunting reader asks for.
     least: u64,
     seed: u64,
@@ -78,6 +82,7 @@ impl Plan {
             frames: within(arguments, "frames", USUAL_FRAMES as u64, MOST_FRAMES as u64)? as usize,
             rates,
             kind,
+            shift: shift(arguments)?,
             least: arguments.number("match", USUAL_MATCH)?,
             seed: arguments.number("seed", damage::USUAL_SEED)?,
         };
@@ -109,7 +114,7 @@ impl Plan {
     /// What comes of one hand's utterances: each `hands`th, from number `hand` on.
     fn part(&self, hand: u64, hands: u64) -> Result<Vec<Row>, Error> {
         let mut rows = self.no_rows();
-        let mut rooms = Rooms::new(self.multiframes());
+        let mut rooms = Rooms::new();
         let mut number = hand;
         while number < self.utterances {
             let seed = damage::derived(self.seed, number);
@@ -117,7 +122,7 @@ impl Plan {
             for row in &mut rows {
                 let mut image = sent.image.clone();
                 self.damage(&mut image, row.rate, seed);
-                row.read(&sent, &image, self.least, &mut rooms);
+                row.read(&sent, self.shifted(image, seed).octets(), self.least, &mut rooms);
             }
             number += hands;
         }
@@ -132,6 +137,15 @@ impl Plan {
                 Flips::new(rate, burst, damage::stream(seed, Chance::Ber)).flip(image, spare_syncs)
             }
         };
+    }
+
+    /// The image behind bits by chance, if it is to be, as dsr damage shifts it.
+    fn shifted(&self, image: Vec<u8>, seed: u64) -> Bits {
+        let bits = Bits::of(image);
+        if self.shift == 0 {
+            return bits;
+        }
+        bits.behind(self.shift, &mut damage::stream(seed, Chance::Shift)).expect("there is memory for a short recording")
     }
 
     fn multiframes(&self) -> usize {
@@ -152,22 +166,11 @@ impl Plan {
 
     /// How much was tried, in a line.
     fn size(&self) -> String {
-        let Plan { utterances, frames, least, seed, .. } = self;
+        let Plan { utterances, frames, least, seed, shift, .. } = self;
         let counted = |many: u64, one: &str| format!("{many} {one}{}", if many == 1 { "" } else { "s" });
         let each = format!("{} ({})", counted(*frames as u64, "frame"), counted(self.multiframes() as u64, "multiframe"));
-        format!("{} of {each} in each row; T {least}, seed {seed}", counted(*utterances, "utterance"))
-    }
-}
-
-/// Buffers for a reading, lent again and again.
-struct Rooms {
-    index: Vec<u8>,
-    report: Vec<u8>,
-}
-
-impl Rooms {
-    fn new(multiframes: usize) -> Rooms {
-        Rooms { index: vec![0; MULTIFRAME_INDICES * multiframes], report: vec![0; MULTIFRAME_REPORT * multiframes] }
+        let behind = if *shift > 0 { format!(", behind {}", counted(*shift, "bit")) } else { String::new() };
+        format!("{} of {each}{behind} in each row; T {least}, seed {seed}", counted(*utterances, "utterance"))
     }
 }
 
@@ -211,6 +214,14 @@ fn shares(arguments: &Arguments, name: &str, value: &OsStr, most: f64) -> Outcom
     shown.split(',').map(|one| damage::share(arguments, name, OsStr::new(one.trim()), most)).collect()
 }
 
+/// The bits before each image.
+fn shift(arguments: &Arguments) -> Outcome<u64> {
+    match arguments.number("shift", 0)? {
+        shift @ 0..=MOST_SHIFT => Ok(shift),
+        shift => Err(arguments.wrong(&format!("--shift {shift}: it is a whole number from 0 to {MOST_SHIFT}"))),
+    }
+}
+
 /// A whole number from 1 to `most`.
 fn within(arguments: &Arguments, name: &str, usual: u64, most: u64) -> Outcome<u64> {
     let number = arguments.number(name, usual)?;
@@ -225,7 +236,7 @@ mod tests {
     use super::{chart, Kind, Plan, Row};
 
     fn plan(kind: Kind, rates: &[f64]) -> Plan {
-        Plan { utterances: 30, frames: 60, rates: rates.to_vec(), kind, least: 14, seed: 3 }
+        Plan { utterances: 30, frames: 60, rates: rates.to_vec(), kind, shift: 0, least: 14, seed: 3 }
     }
 
     /// It is proved: damage of this kind is named, all of it, and nothing is refused.

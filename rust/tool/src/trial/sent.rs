@@ -42,6 +42,11 @@ impl Sent {
         Ok(Sent { settings, speech, indices, image })
     }
 
+    /// The number of multiframes of the image.
+    pub fn multiframes(&self) -> usize {
+        self.image.len() / MULTIFRAME_OCTETS
+    }
+
     /// All frames in order, padding too.
     pub fn frames(&self) -> impl Iterator<Item = &Frame> {
         self.indices.chunks_exact(FRAME_INDICES).map(|frame| frame.try_into().expect("a frame has seven index octets"))

@@ -2,7 +2,7 @@
 use super::tally::Tally;
 use super::{Plan, Row};
 
-const HEADINGS: [&str; 13] = [
+const HEADINGS: [&str; 14] = [
     "rate",
     "reader",
     "refused",
@@ -10,6 +10,7 @@ const HEADINGS: [&str; 13] = [
     "clean",
     "mended",
     "lost",
+    "missing",
     "replaced",
     "wrong",
     "unnamed",
@@ -25,6 +26,7 @@ clean     utterances that were read with no note and with their end: lists witho
 All that follows is of the utterances that were read:
 mended    headers with one or two flips mended
 lost      headers with no codeword within two bits
+missing   multiframes that were sent and not read
 replaced  pairs that were bad and replaced, of all pairs
 wrong     frames that are not the frame sent at their place (zeros where it was padding), though their pair's note is 0
 unnamed   those of them in multiframes whose header note has neither + 4 nor + 8: nothing says that they are wrong
@@ -39,11 +41,11 @@ pub fn page(plan: &Plan, rows: &[Row]) -> String {
         lines.push(cells(row.rate_shown(plan), "octets", &row.octets));
         lines.push(cells(row.rate_shown(plan), "bits", &row.bits));
     }
-    format!("{}: {}\n\n{}\n{LEGEND}", plan.damage_words(), plan.size(), aligned(&lines, &[1, 12]))
+    format!("{}: {}\n\n{}\n{LEGEND}", plan.damage_words(), plan.size(), aligned(&lines, &[1, 13]))
 }
 
 fn cells(rate: String, reader: &str, tally: &Tally) -> Vec<String> {
-    let numbers = [tally.warned, tally.clean, tally.mended, tally.lost];
+    let numbers = [tally.warned, tally.clean, tally.mended, tally.lost, tally.missing];
     let ends = [tally.wrong, tally.unnamed, tally.settings, tally.untrue];
     let refused_with: Vec<String> = tally.refused.iter().map(|(number, many)| format!("{number}: {many}")).collect();
     let mut cells = vec![rate, reader.to_string(), percent(tally.refused_share())];

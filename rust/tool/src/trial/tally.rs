@@ -19,6 +19,8 @@ pub struct Tally {
     pub mended: u64,
     /// Headers with no codeword within two bits.
     pub lost: u64,
+    /// Multiframes that were sent and not read.
+    pub missing: u64,
     pub pairs: u64,
     /// Pairs that were bad, and so replaced.
     pub replaced: u64,
@@ -49,6 +51,7 @@ impl Tally {
         self.warned += u64::from(!is_clean);
         self.untrue += u64::from(is_clean && !is_as_sent);
         self.settings += u64::from(reading.settings != sent.settings);
+        self.missing += sent.multiframes().saturating_sub(reading.multiframes) as u64;
         self.pairs += heard.pairs().len() as u64;
         self.replaced += reading.bad as u64;
         let mut places = sent.frames();
@@ -82,6 +85,7 @@ impl Tally {
         self.clean += other.clean;
         self.mended += other.mended;
         self.lost += other.lost;
+        self.missing += other.missing;
         self.pairs += other.pairs;
         self.replaced += other.replaced;
         self.wrong += other.wrong;
@@ -174,7 +178,7 @@ mod tests {
     fn frames_out_of_step_are_wrong_and_named() {
         let sent = sent();
         let tally = counted(&sent, &[&sent.image[..144], &sent.image[288..]].concat());
-        assert_eq!((tally.warned, tally.wrong, tally.unnamed), (1, 24, 0));
+        assert_eq!((tally.warned, tally.missing, tally.wrong, tally.unnamed), (1, 1, 24, 0));
     }
 
     #[test]

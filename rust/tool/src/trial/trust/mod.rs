@@ -66,7 +66,7 @@ impl Finding {
 
 /// dsr trial --trust.
 pub fn run(arguments: &Arguments) -> Outcome<u8> {
-    for other in ["utterances", "frames", "ber", "burst", "bounded", "spare-syncs", "match", "output"] {
+    for other in ["utterances", "frames", "ber", "burst", "bounded", "spare-syncs", "shift", "match", "output"] {
         arguments.not_both("trust", other)?;
     }
     let seed = arguments.number("seed", damage::USUAL_SEED)?;

@@ -15,7 +15,32 @@ pub fn findings(random: &mut Random) -> Result<Vec<Finding>, Error> {
     let frames = sent::frames(MULTIFRAME_FRAMES, random);
     let indices: &[u8; MULTIFRAME_INDICES] = frames[..].try_into().expect("these are a multiframe's frames");
     let stream = dsr::pack(indices)?;
-    Ok([two_flips(&stream), vec![garbage(random)]].into_iter().flatten().collect())
+    Ok([vec![bursts(&stream)], two_flips(&stream), vec![garbage(random)]].into_iter().flatten().collect())
+}
+
+/// Every pattern of flips inside four neighbouring bits, in each of the twelve packets.
+fn bursts(stream: &[u8; STREAM_OCTETS]) -> Finding {
+    let (mut seen, mut all) = (0, 0);
+    for packet in 0..MULTIFRAME_PAIRS {
+        for (first, pattern) in (0..PACKET_BITS).flat_map(|first| (1..16).step_by(2).map(move |pattern: usize| (first, pattern)))
+        {
+            let places: Vec<usize> = (0..4).filter(|place| pattern >> place & 1 == 1).map(|place| first + place).collect();
+            if places.iter().all(|place| *place < PACKET_BITS) {
+                all += 1;
+                seen += u64::from(!passes(stream, packet, &places));
+            }
+        }
+    }
+    Finding::all("flips inside four neighbouring bits, each of 12: CRC fails", (seen, all), TRUST)
+}
+
+/// Whether the packet's CRC is right with those bits of it flipped.
+fn passes(stream: &[u8; STREAM_OCTETS], packet: usize, places: &[usize]) -> bool {
+    let mut hit = *stream;
+    for bit in places.iter().map(|place| PACKET_BITS * packet + place) {
+        hit[bit / 8] ^= 1 << (bit % 8);
+    }
+    !dsr::unpack(&hit).1[packet].is_bad()
 }
 
 /// Every two places of each of the twelve packets.
@@ -43,16 +68,8 @@ fn two_flips(stream: &[u8; STREAM_OCTETS]) -> Vec<Finding> {
 
 /// The distances of all two flips in that packet for which its CRC is right.
 fn passing_distances(stream: &[u8; STREAM_OCTETS], packet: usize) -> Vec<usize> {
-    let start = PACKET_BITS * packet;
     let places = (0..PACKET_BITS).flat_map(|second| (0..second).map(move |first| (first, second)));
-    let passes = |(first, second): &(usize, usize)| {
-        let mut hit = *stream;
-        for bit in [start + first, start + second] {
-            hit[bit / 8] ^= 1 << (bit % 8);
-        }
-        !dsr::unpack(&hit).1[packet].is_bad()
-    };
-    places.filter(passes).map(|(first, second)| second - first).collect()
+    places.filter(|(first, second)| passes(stream, packet, &[*first, *second])).map(|(first, second)| second - first).collect()
 }
 
 fn garbage(random: &mut Random) -> Finding {
