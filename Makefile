@@ -61,6 +61,9 @@ INTO_BIN = $(DESTDIR)$(BINDIR)
 INTO_LIB = $(DESTDIR)$(LIBDIR)
 INTO_INCLUDE = $(DESTDIR)$(INCLUDEDIR)
 INTO_MAN = $(DESTDIR)$(MANDIR)
+INTO_DOC = $(DESTDIR)$(PREFIX)/share/doc/dsr
+# What the man pages and help point to.
+DOCUMENTS := docs/TOOL.md docs/TRUST.md docs/FORMAT.md
 # Where each shell looks for completions.
 COMPLETIONS = $(addprefix $(DESTDIR)$(PREFIX)/share/,bash-completion/completions/dsr zsh/site-functions/_dsr fish/vendor_completions.d/dsr.fish)
 
@@ -98,8 +101,8 @@ dsrlist: $(DSRLIST) ## the program dsrlist in target/bin/ARCH
 
 dsr: $(DSR) ## the tool dsr in target/bin, for this machine, and target/dsr, a link to it
 
-install: lib dsrlist $(DSR_HERE) ## library, header, dsr.pc, man pages, dsrlist and dsr below PREFIX (/usr/local), in DESTDIR
-	install -d $(INTO_BIN) $(INTO_LIB)/pkgconfig $(INTO_INCLUDE) $(INTO_MAN)/man1 $(INTO_MAN)/man3
+install: lib dsrlist $(DSR_HERE) ## library, header, dsr.pc, man pages, documents, dsrlist and dsr below PREFIX (/usr/local), in DESTDIR
+	install -d $(INTO_BIN) $(INTO_LIB)/pkgconfig $(INTO_INCLUDE) $(INTO_MAN)/man1 $(INTO_MAN)/man3 $(INTO_DOC)
 	install -m 755 $(DSRLIST) $(DSR_HERE) $(INTO_BIN)/
 	install -m 644 $(ARCHIVE) $(INTO_LIB)/
 	install -m 755 $(SHARED) $(INTO_LIB)/
@@ -109,13 +112,14 @@ install: lib dsrlist $(DSR_HERE) ## library, header, dsr.pc, man pages, dsrlist 
 	sed 's|@PREFIX@|$(PREFIX)|; s|@LIBDIR@|$(LIBDIR)|; s|@INCLUDEDIR@|$(INCLUDEDIR)|; s|@VERSION@|$(VERSION)|' c/dsr.pc.in >$(INTO_LIB)/pkgconfig/dsr.pc
 	install -m 644 man/dsrlist.1 $(if $(DSR_HERE),man/dsr.1) $(INTO_MAN)/man1/
 	install -m 644 man/dsr.3 $(INTO_MAN)/man3/
+	install -m 644 $(DOCUMENTS) $(INTO_DOC)/
 	$(if $(DSR_HERE),install -d $(dir $(COMPLETIONS)))
 	$(if $(DSR_HERE),$(DSR) completion bash >$(word 1,$(COMPLETIONS)))
 	$(if $(DSR_HERE),$(DSR) completion zsh >$(word 2,$(COMPLETIONS)))
 	$(if $(DSR_HERE),$(DSR) completion fish >$(word 3,$(COMPLETIONS)))
 
 uninstall: ## removes what make install put there
-	rm -f $(INTO_BIN)/dsrlist $(INTO_BIN)/dsr $(INTO_MAN)/man1/dsr.1 $(COMPLETIONS) $(addprefix $(INTO_LIB)/,libdsr.a libdsr.so $(SONAME) $(notdir $(SHARED)) pkgconfig/dsr.pc) \
+	rm -f $(INTO_BIN)/dsrlist $(INTO_BIN)/dsr $(INTO_MAN)/man1/dsr.1 $(COMPLETIONS) $(addprefix $(INTO_DOC)/,$(notdir $(DOCUMENTS))) $(addprefix $(INTO_LIB)/,libdsr.a libdsr.so $(SONAME) $(notdir $(SHARED)) pkgconfig/dsr.pc) \
 	    $(INTO_INCLUDE)/dsr.h $(INTO_MAN)/man1/dsrlist.1 $(INTO_MAN)/man3/dsr.3
 
 clean: ## removes all that was made

@@ -69,6 +69,7 @@ const OUTPUT: Opt = Opt {
     letter: Some('o'),
     ..file("output", "Write there instead of to standard output. The file appears whole or not at all.")
 };
+const CHART: Opt = Opt { letter: Some('o'), ..file("output", "Write a chart of the table there too, as SVG.") };
 
 // --- how a recording is read
 
@@ -86,11 +87,17 @@ const BITS: Opt =
 const FROM: Opt = value("from", "N", "With --bits: begin at bit N (0). Bit t is in octet t / 8, with value 2^(t % 8).");
 const MATCH: Opt = value("match", "T", "With --bits: at least T of the sixteen bits match the sync, 12 to 16 (14).");
 
+const OUTSIDE: Opt = value(
+    "outside",
+    "N",
+    "With --bits: N bits outside the multiframes found are expected. Another number is a warning: exit status 1.",
+);
+
 // --- list
 
 const JSON: Opt = flag("json", "One line of JSON for each file; docs/TOOL.md has the schema.");
 const NUMBERS: Opt =
-    flag("numbers", "The lines that dsrlist prints: a header note and twelve pair notes for each multiframe, and a total.");
+    flag("numbers", "The lines that dsrlist prints: a header note and twelve pair notes for each multiframe, and a total; with --bits, one more for the bits outside.");
 const JOBS: Opt = value("jobs", "N", "Read N files at a time (as many as there are processors).");
 
 // --- write and read
@@ -112,7 +119,7 @@ const BURST: Opt = value("burst", "N", "With --ber: the flips come in bursts of 
 const BOUNDED: Opt = value(
     "bounded",
     "P",
-    "Damage of the kind for which naming is proved: each pair, with probability P, by flips inside four neighbouring bits or by two flips whose distance is no multiple of 15; up to two flips in each header; syncs whole.",
+    "Damage of the kind for which naming is proved: each pair, with probability P, by flips inside four neighbouring bits or by two flips whose distance is no multiple of 15; up to two flips in each header; syncs whole. One pair, and the header of an only multiframe, stay whole.",
 );
 const SPARE_SYNCS: Opt =
     flag("spare-syncs", "Flip no bit of a sync: one flip there, and a reading of octets is refused with 12.");
@@ -121,6 +128,7 @@ const DROP: Opt =
 const REPEAT: Opt = Opt { again: true, ..value("repeat", "AT:N", "Send the N bits from bit AT on twice.") };
 const SHIFT: Opt = value("shift", "N", "Put N bits drawn by chance before all others, so that octets begin anywhere.");
 
+const TRIAL_SHIFT: Opt = value("shift", "N", "Put N bits drawn by chance before each image (0).");
 const UTTERANCES: Opt = value("utterances", "N", "So many utterances for each row (200).");
 const FRAMES: Opt = value("frames", "N", "So many frames in each utterance, 1 to 6,119 (300: three seconds).");
 const RATES: Opt = value("ber", "P,..", "One row for each of these bit error rates (1e-5,3e-5,1e-4,3e-4,1e-3,3e-3,1e-2,3e-2).");
@@ -130,7 +138,9 @@ const BOUNDED_RATES: Opt = value(
     "Instead of --ber: one row for each of these shares of damaged pairs, by the kind of damage for which naming is proved.",
 );
 const TRUST: Opt =
-    flag("trust", "Instead: count what docs/TRUST.md says in numbers, each by calls of the library, beside the number there.");
+    flag("trust", "Instead: count by calls of the library what the tables of docs/TRUST.md and of README have counts of, beside what is said there.");
+
+const HUNT_MATCH: Opt = value("match", "T", "The hunting reader asks for at least T of a sync's sixteen bits, 12 to 16 (14).");
 
 // --- plot
 
@@ -148,8 +158,10 @@ pub const COMMANDS: &[Command] = &[
             "For each FILE (- is standard input): settings, seconds of speech, which headers were mended or lost, which stretches of time were replaced, and whether the end was seen. The files are read several at a time and listed in their order.",
             "Whatever is said of a recording is what the proved library answered: dsr itself decides of nothing whether it is bad, mended or refused.",
             "Exit status: 0 if every file was read without a warning; 1 if one has notes or its end was not seen; 2 if one was refused; 3 for wrong usage, a file that cannot be read, or an output that is full or closed. The largest of these counts.",
+            "With --bits a gap can leave no note: a recording is whole only if the bits outside the multiframes found are those that were to be expected. Whoever knows how many says so by --outside, and another number is then a warning.",
+            "Seconds are counted in what was read, ten milliseconds a frame, and speech as it is after replacing: behind a missing multiframe they are early, and speech and end may be made by replacing if a pair of the last multiframe was replaced.",
         ],
-        options: &[&JSON, &NUMBERS, &BITS, &FROM, &MATCH, &ONE_HEADER, &CODEBOOK, &THRESHOLDS, &JOBS, &HELP],
+        options: &[&JSON, &NUMBERS, &BITS, &FROM, &MATCH, &OUTSIDE, &ONE_HEADER, &CODEBOOK, &THRESHOLDS, &JOBS, &HELP],
         examples: &[
             ("dsr list yard7.dsr", "what came of one recording"),
             ("dsr list --json night/*.dsr >night.json", "a record of many for the monitoring"),
@@ -190,9 +202,9 @@ pub const COMMANDS: &[Command] = &[
         count: (1, 1),
         says: "Read a recording back into frames.",
         text: &[
-            "Gives the frames of speech as lines of text, as dsr write takes them. Frames of bad pairs are those that replace them: if there are any, or the end is missing, a line on standard error says so and the exit status is 1.",
+            "Gives the frames of speech as lines of text, as dsr write takes them. Frames of bad pairs are those that replace them. If anything was noted, or the end is missing, a line on standard error says so and the exit status is 1.",
         ],
-        options: &[&RAW_OUT, &NOTES, &OUTPUT, &BITS, &FROM, &MATCH, &ONE_HEADER, &CODEBOOK, &THRESHOLDS, &HELP],
+        options: &[&RAW_OUT, &NOTES, &OUTPUT, &BITS, &FROM, &MATCH, &OUTSIDE, &ONE_HEADER, &CODEBOOK, &THRESHOLDS, &HELP],
         examples: &[("dsr read word.dsr -o frames.csv", "")],
     },
     Command {
@@ -207,7 +219,7 @@ pub const COMMANDS: &[Command] = &[
         options: &[&SEED, &BER, &BURST, &BOUNDED, &SPARE_SYNCS, &DROP, &REPEAT, &SHIFT, &OUTPUT, &HELP],
         examples: &[
             ("dsr damage --ber 1e-3 --burst 3 --seed 7 word.dsr -o heard.dsr", ""),
-            ("dsr damage --shift 11 word.dsr -o modem.bits", "for dsr list --bits"),
+            ("dsr damage --shift 11 word.dsr -o modem.bits", "bits as a radio modem gives them"),
         ],
     },
     Command {
@@ -217,9 +229,9 @@ pub const COMMANDS: &[Command] = &[
         count: (0, 0),
         says: "Send many utterances through damage and both readers, and count.",
         text: &[
-            "Utterances are made by chance, written, damaged and read, by the reader of octets and by the hunting reader. What was sent is known, so the table says not only what was refused, noted and replaced, but also how many frames are wrong without being named. With -o a chart of it is written as an SVG file too.",
+            "Utterances are made by chance, written, damaged and read, by the reader of octets and by the hunting reader. All numbers of codebook and thresholds are 0. What was sent is known, so the table says not only what was refused, noted and replaced, but also how many frames are wrong without being named. With -o a chart of it is written as an SVG file too.",
         ],
-        options: &[&UTTERANCES, &FRAMES, &RATES, &BURST, &BOUNDED_RATES, &SPARE_SYNCS, &MATCH, &SEED, &TRUST, &OUTPUT, &HELP],
+        options: &[&UTTERANCES, &FRAMES, &RATES, &BURST, &BOUNDED_RATES, &SPARE_SYNCS, &TRIAL_SHIFT, &HUNT_MATCH, &SEED, &TRUST, &CHART, &HELP],
         examples: &[
             ("dsr trial --ber 1e-4,1e-3,1e-2 --burst 3 -o trial.svg", ""),
             ("dsr trial --trust", "the numbers of docs/TRUST.md, counted"),
@@ -227,13 +239,13 @@ pub const COMMANDS: &[Command] = &[
     },
     Command {
         name: "explain",
-        operands: "NUMBER [PLACE] | note NUMBER",
-        completes: Operands::Words(&["note"]),
+        operands: "NUMBER [PLACE] | note NUMBER | end",
+        completes: Operands::Words(&["note", "end"]),
         count: (1, 2),
         says: "Say what a refusal or a note means, and what to do.",
-        text: &["A refusal has a number and a place, as in 'refused 13 290'; a note is an octet of the report, of a header or of a pair."],
+        text: &["A refusal has a number and a place, as in 'refused 13 290'; a note is an octet of the report, of a header or of a pair; the end is seen, missing, or seen in a replaced pair."],
         options: &[&HELP],
-        examples: &[("dsr explain 13 290", ""), ("dsr explain note 12", "")],
+        examples: &[("dsr explain 13 290", ""), ("dsr explain note 12", ""), ("dsr explain end", "")],
     },
     Command {
         name: "completion",

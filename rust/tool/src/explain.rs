@@ -68,15 +68,15 @@ const REFUSALS: &[Refusal] = &[
     ),
     refusal(
         16,
-        "the settings are not settled: no two headers agree, or there is only one multiframe",
-        "the settings are not settled: no two headers agree, or there is only one multiframe",
-        "Ask for the utterance again. A word that fits one multiframe is refused each time: record 24 frames (240 ms) or more.",
+        "the settings are not settled: no two headers agree, or only one multiframe came or was found",
+        "the settings are not settled: no two headers agree, or only one multiframe came or was found",
+        "Ask for the utterance again. A word that fits one multiframe is refused each time: record 24 frames (240 ms) or more. Asked for by name (--one-header-settles), an only header settles if no bit of it was flipped.",
     ),
     refusal(
         17,
         "the settled settings are none of this link: the rate is 2, or an EXP bit is 1",
         "the settled settings are none of this link: the rate is 2, or an EXP bit is 1",
-        "Ask for the utterance again. If it stays so, this is another sender.",
+        "Another sender, or two headers with four flips or more (asked for by name, an only one with six). Ask for the utterance again; if it stays so, it is not of this link.",
     ),
     refusal(18, "the index buffer has fewer than the {} octets needed", "the index buffer is too short", LEND_MORE),
     refusal(19, "the report buffer has fewer than the {} octets needed", "the report buffer is too short", LEND_MORE),
@@ -131,7 +131,7 @@ pub fn header_words(note: HeaderNote) -> Vec<String> {
                 more => Some(format!("{more} flipped bits mended")),
             };
             let step = out_of_step.then(|| "counter out of step".to_string());
-            let other = differs.then(|| "names other settings".to_string());
+            let other = differs.then(|| "other settings named".to_string());
             mended.into_iter().chain(step).chain(other).collect()
         }
     }
@@ -152,16 +152,27 @@ pub fn run(arguments: &Arguments) -> Outcome<u8> {
     let text = match words[..] {
         ["note", number] => explain_note(arguments, number)?,
         ["note"] => return Err(arguments.wrong("which note?")),
+        ["end"] => END.to_string(),
         [number] => explain_refusal(arguments, number, None)?,
         [number, place] => {
             let place = place.parse().map_err(|_| arguments.wrong(&format!("{place}: a place is a whole number")))?;
             explain_refusal(arguments, number, Some(place))?
         }
-        _ => return Err(arguments.wrong("it takes NUMBER [PLACE] or note NUMBER")),
+        _ => return Err(arguments.wrong("it takes NUMBER [PLACE], note NUMBER or end")),
     };
     output::put_standard(text.as_bytes())?;
     Ok(CLEAN)
 }
+
+/// docs/TRUST.md's rows on the end.
+const END: &str = "\
+end seen: the last frame is zero, which marks the end of an utterance.
+Nothing to do.
+end seen in a replaced pair: the last pair has a note, so the end may have been made by replacing.
+Ask again if the end matters.
+end missing: the end did not come, or stood in a bad pair.
+Ask again.
+";
 
 fn explain_refusal(arguments: &Arguments, number: &str, place: Option<u64>) -> Outcome<String> {
     let known = || REFUSALS.iter().map(|refusal| refusal.number.to_string()).collect::<Vec<_>>().join(", ");
@@ -215,6 +226,6 @@ fn pair_advice(note: PairNote) -> &'static str {
     match note {
         PairNote::Good => "the pair stands as it was received.\nNothing to do.",
         PairNote::CrcFailed => "the pair's CRC failed, and its two frames were replaced by their good neighbours.\nWords spoken there (10 ms a frame) are a guess: ask again for those.",
-        PairNote::BadOtherwise => "the pair is bad though its CRC is right: it is inconsistent, and the next pair's CRC failed or the pair before is bad. Its two frames were replaced by their good neighbours.\nWords spoken there (10 ms a frame) are a guess: ask again for those.",
+        PairNote::BadOtherwise => "the pair is bad though its CRC is right: it is inconsistent (its values rise or fall by more than the thresholds), and the next pair's CRC failed or the pair before is bad. Its two frames were replaced by their good neighbours.\nWords spoken there (10 ms a frame) are a guess: ask again for those.",
     }
 }

@@ -42,9 +42,13 @@ pub fn tell(line: &str) {
     let _ = writeln!(io::stderr(), "dsr: {}", one_line(line));
 }
 
-/// A text as one line: what would end it, or disturb a terminal, becomes a question mark.
+/// A text as one line: what would end it, turn it round or disturb a terminal, and what XML forbids, becomes a question mark.
 pub fn one_line(text: &str) -> String {
-    text.chars().map(|c| if c.is_control() { '?' } else { c }).collect()
+    let unseen = |sign: char| {
+        let turns = matches!(sign, '\u{200E}' | '\u{200F}' | '\u{202A}'..='\u{202E}' | '\u{2066}'..='\u{2069}');
+        sign.is_control() || turns || matches!(sign, '\u{2028}' | '\u{2029}' | '\u{FFFE}' | '\u{FFFF}')
+    };
+    text.replace(unseen, "?")
 }
 
 /// The system's words, without its number.
@@ -63,4 +67,14 @@ pub fn words_of(error: &io::Error) -> String {
 fn without_number(words: &str) -> String {
     let end = words.find(" (os error").unwrap_or(words.len());
     words[..end].to_string()
+}
+
+#[cfg(test)]
+mod tests {
+    use super::one_line;
+
+    #[test]
+    fn a_line_loses_what_is_no_sign() {
+        assert_eq!(one_line("a\u{1b}[2Jb\n\u{202e}c\u{ffff} \u{fc}.dsr"), "a?[2Jb??c? \u{fc}.dsr");
+    }
 }

@@ -6,6 +6,7 @@ use dsr::{FrontEnd, Rate, Settings, FRAME_INDICES};
 use crate::arguments::Arguments;
 use crate::failure::{self, Failure, Outcome, CLEAN, WARNED};
 use crate::reader::{Heard, Reader, Rooms};
+use crate::summary::{self, is_without_warning};
 use crate::{input, numbers, output};
 
 /// dsr write.
@@ -84,15 +85,15 @@ fn lines_of(heard: &Heard, notes: bool) -> String {
     text
 }
 
-/// Says on standard error what a list would have warned of, and gives the exit status.
+/// Says on standard error what a list would have said of it, if that is a warning or of a hunt, and gives the exit status.
 fn warned(file: &str, heard: &Heard) -> u8 {
-    let reading = &heard.utterance.reading;
-    if !heard.utterance.has_notes() && reading.end {
-        return CLEAN;
+    let clean = is_without_warning(heard);
+    if !clean || heard.found.is_some() {
+        failure::tell(&format!("{file}: {}; dsr list says more", summary::line(heard)));
     }
-    let bad = if reading.bad > 0 { format!("{} pairs replaced", reading.bad) } else { "no pair replaced".to_string() };
-    let headers = heard.utterance.multiframes().filter(|multiframe| !multiframe.header().is_clean()).count();
-    let end = if reading.end { "end seen" } else { "END MISSING" };
-    failure::tell(&format!("{file}: read with a warning: {bad}, notes on {headers} headers, {end}; dsr list says which"));
-    WARNED
+    if clean {
+        CLEAN
+    } else {
+        WARNED
+    }
 }

@@ -12,7 +12,7 @@ pub const STANDARD: &str = "-";
 /// How much is read before it is asked for the first time whether more can change anything.
 const FIRST_LOOK: usize = 1 << 20;
 /// How much is read at a time: most recordings in one piece.
-const PIECE: usize = 1 << 14;
+const PIECE: usize = 1 << 13;
 
 /// The name of an operand as it is shown: on one line, and without what would disturb a terminal.
 pub fn shown(name: &OsStr) -> String {

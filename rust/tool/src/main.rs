@@ -17,6 +17,7 @@ mod output;
 mod plot;
 mod random;
 mod reader;
+mod summary;
 mod trial;
 
 use std::ffi::OsString;

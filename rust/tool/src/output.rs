@@ -9,18 +9,21 @@ use crate::failure::{Failure, Outcome};
 use crate::input::shown;
 
 const STANDARD: &str = "standard output";
+/// As many links in a row as the system follows.
+const MOST_LINKS: u32 = 40;
 
 /// Writes all of `octets` to the file of that name, or to standard output if there is none.
 pub fn put(name: Option<&OsStr>, octets: &[u8]) -> Outcome<()> {
     match name {
         None => put_standard(octets),
+        Some(name) if name == crate::input::STANDARD => put_standard(octets),
         Some(name) => put_file(Path::new(name), octets).map_err(|error| Failure::system(&shown(name), &error)),
     }
 }
 
 /// Writes octets that are no text: a terminal is no place for them.
 pub fn put_binary(name: Option<&OsStr>, octets: &[u8]) -> Outcome<()> {
-    if name.is_none() && io::stdout().is_terminal() {
+    if name.is_none_or(|name| name == crate::input::STANDARD) && io::stdout().is_terminal() {
         return Err(Failure::trouble("standard output is a terminal, and this is no text: name a file by -o"));
     }
     put(name, octets)
@@ -42,14 +45,23 @@ fn put_file(path: &Path, octets: &[u8]) -> io::Result<()> {
     if old.as_ref().is_some_and(|old| !old.is_file()) {
         return OpenOptions::new().write(true).open(path)?.write_all(octets);
     }
-    // through a link to the file that it names
-    let place = fs::canonicalize(path).unwrap_or(path.to_path_buf());
+    let place = followed(path, MOST_LINKS)?;
     let beside = beside(&place)?;
     let made = make(&beside, octets, old).and_then(|()| fs::rename(&beside, &place));
     if made.is_err() {
         let _ = fs::remove_file(&beside);
     }
     made
+}
+
+/// The file that a link names, which need not be there yet; a path that is no link itself.
+fn followed(path: &Path, links: u32) -> io::Result<PathBuf> {
+    match fs::read_link(path) {
+        Ok(_) if links == 0 => Err(io::Error::other("a link that leads to itself")),
+        // a link's own words are of the folder that it stands in
+        Ok(named) => followed(&path.parent().unwrap_or(Path::new("")).join(named), links - 1),
+        Err(_) => Ok(path.to_path_buf()),
+    }
 }
 
 fn make(beside: &Path, octets: &[u8], old: Option<fs::Metadata>) -> io::Result<()> {

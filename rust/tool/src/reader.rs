@@ -17,6 +17,8 @@ pub struct Reader {
     choices: Choices,
     /// The first bit and the matches asked for, if the recording is bits with no octet boundary.
     hunt: Option<(u64, u64)>,
+    /// The bits outside that a hunting reading is expected to have, if that was said.
+    expected: Option<u64>,
 }
 
 /// What a reading gives.
@@ -31,12 +33,21 @@ pub struct Heard<'b> {
 pub struct Found {
     pub outside: u64,
     pub tested: u64,
+    /// The bits outside that were expected, if that was said.
+    pub expected: Option<u64>,
+}
+
+impl Found {
+    /// Whether the bits outside are those expected, or nothing was said of them.
+    pub fn is_as_expected(&self) -> bool {
+        self.expected.is_none_or(|expected| expected == self.outside)
+    }
 }
 
 /// Memory for any one reading, used again and again.
 pub struct Rooms {
-    index: Vec<u8>,
-    report: Vec<u8>,
+    pub index: Vec<u8>,
+    pub report: Vec<u8>,
 }
 
 impl Rooms {
@@ -50,6 +61,7 @@ impl Reader {
     pub fn new(arguments: &Arguments) -> Outcome<Reader> {
         arguments.only_with("from", "bits")?;
         arguments.only_with("match", "bits")?;
+        arguments.only_with("outside", "bits")?;
         arguments.only_with("codebook", "thresholds")?;
         arguments.only_with("thresholds", "codebook")?;
         let asked = arguments.has("one-header-settles");
@@ -62,6 +74,7 @@ impl Reader {
             thresholds: table(arguments.value("thresholds"), Tables::ZEROS.thresholds(), "a file of thresholds")?,
             choices: if asked { Choices::ONE_HEADER_SETTLES } else { Choices::DEFAULT },
             hunt,
+            expected: arguments.value("outside").map(|value| arguments.parsed("outside", value)).transpose()?,
         };
         reader.admitted(arguments)
     }
@@ -77,7 +90,7 @@ impl Reader {
             }
             Some((from, least)) => {
                 let bits = dsr::read_bits_into(octets, from, least, &tables, self.choices, index, report)?;
-                let found = Some(Found { outside: bits.outside, tested: bits.tested });
+                let found = Some(Found { outside: bits.outside, tested: bits.tested, expected: self.expected });
                 Ok(Heard { utterance: bits.utterance, found })
             }
         }

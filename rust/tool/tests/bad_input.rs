@@ -274,5 +274,15 @@ fn an_output_file_appears_whole_or_not_at_all() {
     assert_eq!(room.dsr("read a -o /dev/null").status, 1);
     let full: Said = room.dsr("read a -o /dev/full");
     assert_eq!((full.status, full.trouble.as_str()), (3, "dsr: /dev/full: no room left\n"));
-    assert_eq!(room.names(), ["a", "cut", "link", "out.csv"]);
+    // so does a link to a file that is not there yet, and one that leads to itself is told
+    std::os::unix::fs::symlink("new.csv", room.path().join("early")).unwrap();
+    std::os::unix::fs::symlink("round", room.path().join("round")).unwrap();
+    assert_eq!(room.dsr("read a -o early").status, 1);
+    assert_eq!(room.get("new.csv"), room.get("out.csv"));
+    assert!(fs::symlink_metadata(room.path().join("early")).unwrap().is_symlink());
+    let round = room.dsr("read a -o round");
+    assert_eq!((round.status, round.text(), round.trouble.as_str()), (3, "", "dsr: round: a link that leads to itself\n"));
+    // - is standard output
+    assert_eq!(room.dsr("read a -o -").out, room.get("out.csv"));
+    assert_eq!(room.names(), ["a", "cut", "early", "link", "new.csv", "out.csv", "round"]);
 }

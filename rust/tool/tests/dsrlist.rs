@@ -126,7 +126,7 @@ fn from_words(words: &str) -> String {
         between(first, " in ", " multiframe"),
         between(first, "front end, ", " s of"),
         bad,
-        u64::from(first.ends_with("end seen")),
+        u64::from(first.contains(", end seen")),
     ];
     let mut lines = Lines::new(total);
     for line in rest.lines() {
@@ -144,7 +144,7 @@ fn from_words(words: &str) -> String {
 fn header_note(line: &str) -> u64 {
     let mended = if line.contains("1 flipped bit mended") { 1 } else { 2 * u64::from(line.contains("2 flipped bits mended")) };
     let lost = 3 * u64::from(line.ends_with(": lost"));
-    mended + lost + 4 * u64::from(line.contains("counter out of step")) + 8 * u64::from(line.contains("names other settings"))
+    mended + lost + 4 * u64::from(line.contains("counter out of step")) + 8 * u64::from(line.contains("other settings named"))
 }
 
 /// A line of JSON as dsrlist's lines.

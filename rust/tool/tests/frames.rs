@@ -52,5 +52,6 @@ fn what_was_replaced_is_told() {
     golden("read-notes.txt", &room.dsr("read --notes sample.dsr").whole());
     assert_eq!(room.dsr("read --raw --notes sample.dsr").status, 3);
     let bits = room.dsr("read --bits --match 16 sample.dsr");
-    assert_eq!(bits.whole(), room.dsr("read sample.dsr").whole());
+    assert_eq!((bits.text(), bits.status), (room.dsr("read sample.dsr").text(), 1));
+    golden("read-bits.txt", &bits.trouble);
 }

@@ -61,7 +61,44 @@ fn bits_with_no_octet_boundary() {
     let room = recordings("bits");
     golden("list-bits.txt", &room.dsr("list --bits modem.bits clean.dsr").whole());
     golden("list-bits.json", &room.dsr("list --json --bits modem.bits").whole());
+    golden("list-bits.numbers", &room.dsr("list --numbers --bits modem.bits").whole());
     golden("list-bits-from.txt", &room.dsr("list --bits --from 12 --match 16 modem.bits").whole());
+}
+
+/// Sixteen multiframes in a row are missing: no counter shows it, and no note. The bits outside do, to whoever knows how many to expect.
+#[test]
+fn a_gap_that_leaves_no_note() {
+    let room = Room::new("gap");
+    let mut image = dsr::write(Settings::new(Rate::Khz8, FrontEnd::Standard), &Chance(2).frames(720)).unwrap();
+    image[144 * 7..144 * 23].fill(0);
+    room.put("a.bits", &image);
+    golden("list-gap.txt", &room.dsr("list --bits a.bits").whole());
+    golden("list-gap-expected.txt", &room.dsr("list --bits --outside 0 a.bits").whole());
+    golden("list-gap.json", &room.dsr("list --bits --outside 0 --json a.bits").whole());
+    assert_eq!(room.dsr("list --bits --outside 18432 a.bits").status, 0);
+    golden("read-gap.txt", &room.dsr("read --bits --outside 0 --raw -o out a.bits").whole());
+    assert_eq!(room.dsr("list --outside 0 a.bits").status, 3);
+}
+
+/// Frames 41 and 42 are zero, the last multiframe did not come, and the three pairs behind them are bad: the zero frames fill their places,
+/// and so an end is seen that never came. In other recordings most headers name other settings, or are out of step.
+#[test]
+fn what_is_not_to_be_trusted_stands_in_the_first_line() {
+    let room = Room::new("first-line");
+    let mut frames = Chance(4).frames(60);
+    frames[7 * 40..7 * 42].fill(0);
+    let mut image = dsr::write(Settings::new(Rate::Khz8, FrontEnd::Standard), &frames).unwrap();
+    image.truncate(288);
+    for pair in [21, 22, 23] {
+        image[pair / 12 * 144 + 6 + pair % 12 * 92 / 8 + 1] ^= 1;
+    }
+    room.put("made-end.dsr", image);
+    let of = |rate| dsr::write(Settings::new(rate, FrontEnd::Standard), &Chance(4).frames(480)).unwrap();
+    let (eleven, eight) = (of(Rate::Khz11), of(Rate::Khz8));
+    room.put("minor.dsr", [&eleven[..288], &eight[288..]].concat());
+    room.put("missing.dsr", [&eight[..432], &eight[576..]].concat());
+    golden("list-warned.txt", &room.dsr("list made-end.dsr minor.dsr missing.dsr").whole());
+    golden("list-warned.json", &room.dsr("list --json made-end.dsr minor.dsr missing.dsr").whole());
 }
 
 /// Beside the pair of a failed CRC, a pair that jumps is bad otherwise.

@@ -12,7 +12,7 @@ const FILES: usize = 10_000;
 /// Files are listed by so many together, and the last ones wait for standard input.
 const BATCH: usize = 32;
 /// What the names of so many more files may take.
-const NAMES_KIB: u64 = 4096;
+const NAMES_KIB: u64 = 2048;
 
 /// Lists so many of the files and standard input behind them, which stays open: so the program is still there when it is asked how much
 /// memory it had at most. Gives its lines and that number of KiB.

@@ -17,6 +17,7 @@ fn every_refusal_and_every_note_is_explained() {
     golden("explain.txt", &text);
     let notes: String = (0..=16).map(|n| room.dsr(&format!("explain note {n}")).whole()).collect();
     golden("explain-notes.txt", &notes);
+    golden("explain-end.txt", &room.dsr("explain end").whole());
     let wrong: String = ["7", "x", "13 x", "note", "note x", "note 256", "13 290 5", ""]
         .map(|words| room.dsr(&format!("explain {words}")).whole())
         .concat();
@@ -83,4 +84,5 @@ fn bash_completes() {
     assert_eq!(offers("dsr write --rate 1"), "11 16");
     assert_eq!(offers("dsr completion ''"), "-h --help bash zsh fish");
     assert_eq!(offers("dsr explain n"), "note");
+    assert_eq!(offers("dsr explain e"), "end");
 }

@@ -4,9 +4,10 @@ use std::fmt::Write;
 
 use dsr::{FrontEnd, HeaderNote, PairNote, Rate};
 
-use super::notes::{headers, replaced, seconds, Run, MULTIFRAME_HUNDREDTHS, PAIR_HUNDREDTHS};
+use super::notes::{headers, replaced, Run, MULTIFRAME_HUNDREDTHS, PAIR_HUNDREDTHS};
 use crate::explain;
-use crate::reader::{Found, Heard};
+use crate::reader::Heard;
+use crate::summary::{is_end_replaced, seconds};
 
 const SCHEMA: u32 = 1;
 
@@ -24,10 +25,14 @@ pub fn read(file: &OsStr, status: u8, heard: &Heard) -> String {
     let _ = write!(line, r#","multiframes":{},"speech_frames":{}"#, reading.multiframes, reading.speech);
     let _ = write!(line, r#","speech_seconds":{}"#, seconds(reading.speech));
     let _ = write!(line, r#","bad_pairs":{},"end_seen":{}"#, reading.bad, reading.end);
+    let _ = write!(line, r#","end_replaced":{}"#, is_end_replaced(utterance));
     let _ = write!(line, r#","headers":[{}]"#, joined(&headers(utterance), header));
     let _ = write!(line, r#","replaced":[{}]"#, joined(&replaced(utterance), stretch));
-    if let Some(Found { outside, tested }) = heard.found {
-        let _ = write!(line, r#","bits_outside":{outside},"places_tested":{tested}"#);
+    if let Some(found) = heard.found {
+        let _ = write!(line, r#","bits_outside":{},"places_tested":{}"#, found.outside, found.tested);
+        if let Some(expected) = found.expected {
+            let _ = write!(line, r#","bits_expected":{expected}"#);
+        }
     }
     line + "}\n"
 }

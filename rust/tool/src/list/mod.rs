@@ -8,13 +8,12 @@ mod words;
 
 use std::ffi::{OsStr, OsString};
 
-use dsr::Utterance;
-
 use crate::arguments::Arguments;
 use crate::failure::{self, Failure, Outcome, CLEAN, REFUSED, TROUBLE, WARNED};
 use crate::input;
 use crate::output;
 use crate::reader::{Heard, Reader, Rooms};
+use crate::summary::is_without_warning;
 use progress::Progress;
 
 /// How a recording is shown.
@@ -110,11 +109,11 @@ impl Listing {
     }
 
     fn read(&self, file: &OsStr, heard: &Heard) -> Listed {
-        let status = if is_without_warning(&heard.utterance) { CLEAN } else { WARNED };
+        let status = if is_without_warning(heard) { CLEAN } else { WARNED };
         let text = match self.form {
             Form::Words => words::read(&input::shown(file), heard),
             Form::Json => json::read(file, status, heard),
-            Form::Numbers => self.titled(file, numbers::read(&heard.utterance)),
+            Form::Numbers => self.titled(file, numbers::read(heard)),
         };
         Listed { text, trouble: None, status }
     }
@@ -143,9 +142,4 @@ impl Listing {
         }
         lines
     }
-}
-
-/// Without a warning, as docs/TRUST.md has it: no note, and the end was seen.
-fn is_without_warning<B: AsRef<[u8]>>(utterance: &Utterance<B>) -> bool {
-    !utterance.has_notes() && utterance.reading.end
 }

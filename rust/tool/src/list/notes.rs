@@ -44,27 +44,18 @@ fn runs<N: PartialEq>(notes: impl Iterator<Item = N>) -> Vec<Run<N>> {
     runs
 }
 
-/// A time in seconds, of hundredths: a frame lasts one, a pair two, a multiframe 24.
-pub fn seconds(hundredths: usize) -> String {
-    format!("{}.{:02}", hundredths / 100, hundredths % 100)
-}
-
+/// How long they last, in hundredths of a second.
 pub const PAIR_HUNDREDTHS: usize = 2;
 pub const MULTIFRAME_HUNDREDTHS: usize = 24;
 
 #[cfg(test)]
 mod tests {
-    use super::{runs, seconds, Run};
+    use super::{runs, Run};
 
     #[test]
     fn neighbours_are_said_together() {
         let run = |first, last, note| Run { first, last, note };
         assert_eq!(runs([0, 0, 1, 2, 2, 0].into_iter()), [run(0, 1, 0), run(2, 2, 1), run(3, 4, 2), run(5, 5, 0)]);
         assert_eq!(runs::<u8>([].into_iter()), []);
-    }
-
-    #[test]
-    fn a_time_has_two_decimals() {
-        assert_eq!([0, 2, 24, 100, 6119].map(seconds), ["0.00", "0.02", "0.24", "1.00", "61.19"]);
     }
 }

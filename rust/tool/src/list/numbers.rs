@@ -1,11 +1,11 @@
 //! A reading as dsrlist prints it.
 use std::fmt::Write;
 
-use dsr::Utterance;
+use crate::reader::Heard;
 
-/// A line of notes for each multiframe, and the total.
-pub fn read<B: AsRef<[u8]>>(utterance: &Utterance<B>) -> String {
-    let mut text = String::new();
+/// A line of notes for each multiframe, and the total; of a hunting reading, which dsrlist has not, its two more numbers behind them.
+pub fn read(heard: &Heard) -> String {
+    let (mut text, utterance) = (String::new(), &heard.utterance);
     for multiframe in utterance.multiframes() {
         let notes: String = multiframe.pairs().map(|pair| pair.note.to_string()).collect();
         let _ = writeln!(text, "{} {notes}", multiframe.header());
@@ -14,6 +14,9 @@ pub fn read<B: AsRef<[u8]>>(utterance: &Utterance<B>) -> String {
     let (rate, kind) = (reading.settings.rate.code(), reading.settings.front_end.code());
     let (multiframes, speech, bad, end) = (reading.multiframes, reading.speech, reading.bad, u8::from(reading.end));
     let _ = writeln!(text, "rate {rate} type {kind} multiframes {multiframes} speech {speech} bad {bad} end {end}");
+    if let Some(found) = heard.found {
+        let _ = writeln!(text, "outside {} tested {}", found.outside, found.tested);
+    }
     text
 }
 

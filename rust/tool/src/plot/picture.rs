@@ -1,8 +1,9 @@
 //! A recording as it is drawn: what the library noted, column by column, and the words that go with it.
-use dsr::{HeaderNote, PairNote, Reading, MULTIFRAME_FRAMES, MULTIFRAME_PAIRS};
+use dsr::{HeaderNote, PairNote, MULTIFRAME_FRAMES, MULTIFRAME_PAIRS};
 
 use crate::explain;
-use crate::reader::{Found, Heard};
+use crate::reader::Heard;
+use crate::summary;
 
 /// The time of a multiframe, in thousandths of a second.
 pub const MULTIFRAME_TIME: usize = FRAME_TIME * MULTIFRAME_FRAMES;
@@ -10,11 +11,11 @@ const FRAME_TIME: usize = 10;
 
 /// A recording to be drawn.
 pub struct Picture {
-    /// Its file's name, without characters that are no signs.
+    /// Its file's name, as it is shown.
     pub name: String,
     pub columns: Vec<Column>,
-    reading: Reading,
-    found: Option<Found>,
+    /// What the reading says of the whole, in a line.
+    pub facts: String,
 }
 
 /// A multiframe.
@@ -42,17 +43,7 @@ impl Picture {
             .utterance
             .multiframes()
             .map(|multiframe| Column { header: multiframe.header(), pairs: pairs.by_ref().take(MULTIFRAME_PAIRS).collect() });
-        Picture { name: signs(name), columns: columns.collect(), reading, found: heard.found }
-    }
-
-    /// What the reading says of the whole, in a line.
-    pub fn facts(&self) -> String {
-        let Reading { settings, speech, multiframes, bad, end, .. } = self.reading;
-        let spoken = seconds(FRAME_TIME * speech);
-        let (multiframes, bad) = (counted(multiframes as u64, "multiframe"), counted(bad as u64, "bad pair"));
-        let end = if end { "end seen" } else { "end missing" };
-        let outside = self.found.map_or(String::new(), |found| format!("; {} outside", counted(found.outside, "bit")));
-        format!("{settings}; {spoken} of speech; {multiframes}; {bad}; {end}{outside}")
+        Picture { name: name.to_string(), columns: columns.collect(), facts: summary::line(heard) }
     }
 
     /// What stands in a header, in words.
@@ -113,28 +104,9 @@ fn seconds(thousandths: usize) -> String {
     format!("{}.{:02} s", thousandths / 1000, thousandths % 1000 / 10)
 }
 
-/// A number of things, of which there may be one.
-fn counted(number: u64, thing: &str) -> String {
-    format!("{number} {thing}{}", if number == 1 { "" } else { "s" })
-}
-
-/// A name without the characters that are no signs: a terminal would obey them, and XML forbids some.
-fn signs(name: &str) -> String {
-    let unseen = |sign: char| {
-        let turns = matches!(sign, '\u{200E}' | '\u{200F}' | '\u{202A}'..='\u{202E}' | '\u{2066}'..='\u{2069}');
-        sign.is_control() || turns || matches!(sign, '\u{2028}' | '\u{2029}' | '\u{FFFE}' | '\u{FFFF}')
-    };
-    name.replace(unseen, "?")
-}
-
 #[cfg(test)]
 mod tests {
     use super::*;
-
-    #[test]
-    fn names_lose_what_is_no_sign() {
-        assert_eq!(signs("a\u{1b}[2Jb\n\u{202e}c\u{ffff} \u{fc}.dsr"), "a?[2Jb??c? \u{fc}.dsr");
-    }
 
     #[test]
     fn times_have_two_decimals() {

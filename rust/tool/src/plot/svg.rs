@@ -46,6 +46,8 @@ const ROW_NAME: &str = r#"font-size="10" text-anchor="end""#;
 const NUMBER: &str = r#"font-size="10" text-anchor="middle""#;
 /// The room of a sign of a name, a little too much so that no name leaves the page.
 const NAME_SIGN: usize = 9;
+/// The room of a sign of the facts, which are never shortened.
+const FACTS_SIGN: usize = 7;
 
 /// The steps of the axis in thousandths of a second: those with a number, and those without.
 const STEPS: [(usize, usize); 7] = [(100, 50), (200, 100), (500, 100), (1000, 500), (2000, 1000), (5000, 1000), (10_000, 5000)];
@@ -119,7 +121,8 @@ pub fn draw(pictures: &[Picture], compared: Option<Comparison>) -> String {
         y += COMPARED;
     }
     drawn += &legend(y);
-    page(scale.page(), y + LEGEND + MARGIN, &described(pictures, compared), &drawn)
+    let widest = pictures.iter().map(|picture| 2 * MARGIN + FACTS_SIGN * picture.facts.chars().count()).max().unwrap_or(0);
+    page(scale.page().max(widest), y + LEGEND + MARGIN, &described(pictures, compared), &drawn)
 }
 
 fn page(width: usize, height: usize, described: &str, drawn: &str) -> String {
@@ -134,7 +137,7 @@ fn page(width: usize, height: usize, described: &str, drawn: &str) -> String {
 /// Title and description, for whoever cannot see the picture.
 fn described(pictures: &[Picture], compared: Option<Comparison>) -> String {
     let names: Vec<&str> = pictures.iter().map(|picture| picture.name.as_str()).collect();
-    let facts = pictures.iter().map(|picture| format!("{}: {}. ", picture.name, picture.facts()));
+    let facts = pictures.iter().map(|picture| format!("{}: {}. ", picture.name, picture.facts));
     let facts: String = facts.chain(compared.map(|compared| compared.words() + " ")).collect();
     let how = "Each column is a multiframe, 0.24 seconds: its header on top, its twelve pairs of frames below.";
     let (title, description) = (escaped(&names.join(" and ")), escaped(&facts));
@@ -147,7 +150,7 @@ fn panel(picture: &Picture, scale: Scale, y: usize) -> String {
     let columns = picture.columns.len();
     let parts = [
         text(MARGIN, y + NAME_AT, NAME, &name),
-        text(MARGIN, y + FACTS_AT, PLAIN, &picture.facts()),
+        text(MARGIN, y + FACTS_AT, PLAIN, &picture.facts),
         row_names(y),
         numbers(columns, scale, y + NUMBERS_AT),
         ground(columns, LANES, scale, y + LANES_AT, LANE),

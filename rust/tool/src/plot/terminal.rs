@@ -42,7 +42,7 @@ fn recording(picture: &Picture, room: usize, colours: bool) -> String {
     let columns = picture.columns.len();
     let blocks = (0..columns).step_by(block_width(columns, room));
     let blocks = blocks.map(|first| block(picture, first, block_width(columns, room).min(columns - first), room, colours));
-    format!("{}\n{}\n\n{}", picture.name, picture.facts(), blocks.collect::<String>())
+    format!("{}\n{}\n\n{}", picture.name, picture.facts, blocks.collect::<String>())
 }
 
 /// As many multiframes as there are, or as many whole seconds as there is room for.
@@ -151,7 +151,7 @@ fn code(colours: Option<(u8, u8)>) -> String {
 
 /// What the characters mean. Each row fits into 80 columns.
 fn legend(colours: bool) -> String {
-    let pairs = [(".", "as received"), ("-", "padding"), ("#", "CRC failed"), ("%", "bad otherwise (both replaced)")];
+    let pairs = [(".", "as received"), ("-", "padding"), ("#", "CRC failed, replaced"), ("%", "bad otherwise, too")];
     let headers = [(".", "clean"), ("1 2", "so many flipped bits mended"), ("L", "lost")];
     let warnings = [("S", "counter out of step"), ("D", "names other settings"), ("X", "both")];
     let mended = [("T U, E F, Y Z", "as S, D, X, and 1 or 2 flipped bits mended")];

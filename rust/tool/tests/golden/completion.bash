@@ -8,6 +8,7 @@ _dsr() {
     case ${COMP_WORDS[1]}:$before in
     list:--from) return ;;
     list:--match) return ;;
+    list:--outside) return ;;
     list:--codebook) compopt -o default; return ;;
     list:--thresholds) compopt -o default; return ;;
     list:--jobs) return ;;
@@ -23,6 +24,7 @@ _dsr() {
     read:-o | read:--output) compopt -o default; return ;;
     read:--from) return ;;
     read:--match) return ;;
+    read:--outside) return ;;
     read:--codebook) compopt -o default; return ;;
     read:--thresholds) compopt -o default; return ;;
     damage:--seed) return ;;
@@ -38,16 +40,17 @@ _dsr() {
     trial:--ber) return ;;
     trial:--burst) return ;;
     trial:--bounded) return ;;
+    trial:--shift) return ;;
     trial:--match) return ;;
     trial:--seed) return ;;
     trial:-o | trial:--output) compopt -o default; return ;;
-    list:*) case $word in -*) ;; *) compopt -o default; return ;; esac; words='--json --numbers --bits --from --match --one-header-settles --codebook --thresholds --jobs -h --help' ;;
+    list:*) case $word in -*) ;; *) compopt -o default; return ;; esac; words='--json --numbers --bits --from --match --outside --one-header-settles --codebook --thresholds --jobs -h --help' ;;
     plot:*) case $word in -*) ;; *) compopt -o default; return ;; esac; words='-o --output --compare --bits --from --match --one-header-settles --codebook --thresholds -h --help' ;;
     write:*) case $word in -*) ;; *) compopt -o default; return ;; esac; words='--rate --front-end --raw -o --output -h --help' ;;
-    read:*) case $word in -*) ;; *) compopt -o default; return ;; esac; words='--raw --notes -o --output --bits --from --match --one-header-settles --codebook --thresholds -h --help' ;;
+    read:*) case $word in -*) ;; *) compopt -o default; return ;; esac; words='--raw --notes -o --output --bits --from --match --outside --one-header-settles --codebook --thresholds -h --help' ;;
     damage:*) case $word in -*) ;; *) compopt -o default; return ;; esac; words='--seed --ber --burst --bounded --spare-syncs --drop --repeat --shift -o --output -h --help' ;;
-    trial:*) words='--utterances --frames --ber --burst --bounded --spare-syncs --match --seed --trust -o --output -h --help' ;;
-    explain:*) words='-h --help note' ;;
+    trial:*) words='--utterances --frames --ber --burst --bounded --spare-syncs --shift --match --seed --trust -o --output -h --help' ;;
+    explain:*) words='-h --help note end' ;;
     completion:*) words='-h --help bash zsh fish' ;;
     man:*) words='-h --help' ;;
     esac

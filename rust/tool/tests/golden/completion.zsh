@@ -26,6 +26,7 @@ _dsr() {
             '--bits[The file is bits with no octet boundary, as a radio modem gives them]' \
             '--from[With --bits]:N:' \
             '--match[With --bits]:T:' \
+            '--outside[With --bits]:N:' \
             '--one-header-settles[Read an only multiframe too, if its header is a codeword]' \
             '--codebook[The codebooks 1,280 numbers, for finding pairs that are bad though their CRC is right]:FILE:_files' \
             '--thresholds[The 14 thresholds, two for each codebook]:FILE:_files' \
@@ -63,6 +64,7 @@ _dsr() {
             '--bits[The file is bits with no octet boundary, as a radio modem gives them]' \
             '--from[With --bits]:N:' \
             '--match[With --bits]:T:' \
+            '--outside[With --bits]:N:' \
             '--one-header-settles[Read an only multiframe too, if its header is a codeword]' \
             '--codebook[The codebooks 1,280 numbers, for finding pairs that are bad though their CRC is right]:FILE:_files' \
             '--thresholds[The 14 thresholds, two for each codebook]:FILE:_files' \
@@ -91,17 +93,18 @@ _dsr() {
             '--burst[With --ber]:N:' \
             '--bounded[Instead of --ber]:P,:' \
             '--spare-syncs[Flip no bit of a sync]' \
-            '--match[With --bits]:T:' \
+            '--shift[Put N bits drawn by chance before each image (0)]:N:' \
+            '--match[The hunting reader asks for at least T of a syncs sixteen bits, 12 to 16 (14)]:T:' \
             '--seed[What all chance is drawn from (1)]:N:' \
             '--trust[Instead]' \
-            '-o[Write there instead of to standard output]:FILE:_files' '--output[Write there instead of to standard output]:FILE:_files' \
+            '-o[Write a chart of the table there too, as SVG]:FILE:_files' '--output[Write a chart of the table there too, as SVG]:FILE:_files' \
             '-h[Print this text]' '--help[Print this text]' \
             '*:word:()'
         ;;
     explain)
         _arguments \
             '-h[Print this text]' '--help[Print this text]' \
-            '*:word:(note)'
+            '*:word:(note end)'
         ;;
     completion)
         _arguments \
