@@ -133,6 +133,8 @@ fn numbers_out_of_range() {
     usage("write --rate 12 --front-end standard a", "--rate 12: it is one of 8, 11, 16");
     usage("write --front-end standard a", "--rate has to be said: 8, 11 or 16 (kHz)");
     usage("write --rate 8 a", "--front-end has to be said: standard or noise-robust");
+    let json = room.dsr(&format!("list --json a --bits --from {}", u64::MAX));
+    assert!(json.text().contains(r#""refusal":22,"place":18446744073709551615,"#), "{}", json.text());
     let said = room.dsr(&format!("list a --bits --from {}", u64::MAX));
     assert_eq!(
         (said.status, said.text()),
@@ -209,7 +211,8 @@ fn a_standard_error_that_nobody_reads() {
 }
 
 /// The calls whose output goes to standard output.
-const CALLS: [&str; 6] = ["list a", "list --json a a a", "read a", "plot a", "explain 13", "--help"];
+const CALLS: [&str; 9] =
+    ["list a", "list --json a a a", "read a", "read --raw a", "damage --shift 5 a", "plot a", "explain 13", "man", "--help"];
 
 #[test]
 fn a_full_output() {
@@ -218,7 +221,7 @@ fn a_full_output() {
     for call in CALLS {
         let full = OpenOptions::new().write(true).open("/dev/full").unwrap();
         let output = room.command().args(call.split(' ')).stdout(full).output().unwrap();
-        assert_eq!(String::from_utf8_lossy(&output.stderr).lines().last(), Some("dsr: standard output: no room left"), "{call}");
+        assert_eq!(String::from_utf8_lossy(&output.stderr), "dsr: standard output: no room left\n", "{call}");
         assert_eq!(output.status.code(), Some(3), "{call}");
     }
 }
@@ -230,7 +233,7 @@ fn a_closed_output() {
     for call in CALLS {
         let script = format!("'{DSR}' {call} >&-");
         let output = room.command_of("sh").args(["-c", &script]).output().unwrap();
-        assert_eq!(String::from_utf8_lossy(&output.stderr).lines().last(), Some("dsr: standard output: closed"), "{call}");
+        assert_eq!(String::from_utf8_lossy(&output.stderr), "dsr: standard output: closed\n", "{call}");
         assert_eq!(output.status.code(), Some(3), "{call}");
     }
     let output = room.command_of("sh").args(["-c", &format!("'{DSR}' list - <&-")]).output().unwrap();
@@ -256,6 +259,8 @@ fn an_output_file_appears_whole_or_not_at_all() {
     room.put("a", sample());
     let old = room.put("out.csv", "what was there before");
     fs::set_permissions(&old, fs::Permissions::from_mode(0o640)).unwrap();
+    // another name of the old file keeps what was there: the new file is another one, put in its place
+    fs::hard_link(&old, room.path().join("kept")).unwrap();
     // what fails leaves the old file
     room.put("cut", &sample()[..300]);
     assert_eq!(room.dsr("read cut -o out.csv").status, 2);
@@ -268,6 +273,7 @@ fn an_output_file_appears_whole_or_not_at_all() {
     std::os::unix::fs::symlink("out.csv", room.path().join("link")).unwrap();
     assert_eq!(room.dsr("read a -o link").status, 1);
     assert_eq!(room.get("out.csv"), room.dsr("read a").out);
+    assert_eq!(room.get("kept"), b"what was there before");
     assert_eq!(fs::metadata(&old).unwrap().permissions().mode() & 0o777, 0o640);
     assert!(fs::symlink_metadata(room.path().join("link")).unwrap().is_symlink());
     // a device stays one
@@ -284,5 +290,5 @@ fn an_output_file_appears_whole_or_not_at_all() {
     assert_eq!((round.status, round.text(), round.trouble.as_str()), (3, "", "dsr: round: a link that leads to itself\n"));
     // - is standard output
     assert_eq!(room.dsr("read a -o -").out, room.get("out.csv"));
-    assert_eq!(room.names(), ["a", "cut", "early", "link", "new.csv", "out.csv", "round"]);
+    assert_eq!(room.names(), ["a", "cut", "early", "kept", "link", "new.csv", "out.csv", "round"]);
 }

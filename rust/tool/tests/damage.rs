@@ -74,6 +74,27 @@ fn bits_are_lost_repeated_and_shifted() {
     assert_eq!(of("--drop 8:8 --repeat 0:8").out, [0b1010_0101, 0b1010_0101]);
 }
 
+/// The same far behind, against a plain list of bits.
+#[test]
+fn bits_far_behind_are_moved_alike() {
+    let (room, mut chance) = (Room::new("far-moves"), Chance(6));
+    let octets: Vec<u8> = (0..200_000).map(|_| chance.below(256) as u8).collect();
+    room.put("a", &octets);
+    let sent = bits(&octets);
+    for (at, many) in [(600_001, 77), (524_285, 1_000_000), (1_599_990, 10), (3, 70_000)] {
+        let lost = room.dsr(&format!("damage --drop {at}:{many} a"));
+        assert_eq!(lost.trouble, format!("dsr: damage: bits flipped 0, lost {many}, repeated 0, put before 0; seed 1\n"));
+        let left = [&sent[..at], &sent[at + many..]].concat();
+        assert!(bits(&lost.out)[..left.len()] == left, "{at}:{many}");
+        let twice = room.dsr(&format!("damage --repeat {at}:{many} a"));
+        assert_eq!(twice.trouble, format!("dsr: damage: bits flipped 0, lost 0, repeated {many}, put before 0; seed 1\n"));
+        let all = [&sent[..at + many], &sent[at..]].concat();
+        assert!(bits(&twice.out)[..all.len()] == all, "{at}:{many}");
+        let shifted = room.dsr(&format!("damage --shift {many} a")).out;
+        assert!(bits(&shifted)[many..many + sent.len()] == sent, "{many}");
+    }
+}
+
 /// What a hunt finds behind a shift is what was sent.
 #[test]
 fn a_shifted_recording_is_found_again() {
@@ -114,12 +135,60 @@ fn bounded_damage_is_named() {
     }
 }
 
+/// No bit of a sync is flipped, and every other bit is in one of the 255 multiframes, the first behind a sync too.
 #[test]
 fn syncs_are_spared() {
-    let room = room("spared");
-    let damaged = room.dsr("damage --ber 0.4 --burst 40 --spare-syncs a.dsr").out;
-    let hit = flipped(&image(60), &damaged);
-    assert!(hit.len() > 1000 && hit.into_iter().all(|t| t % 1152 >= 16));
+    let room = Room::new("spared");
+    let sent = image(6119);
+    room.put("a.dsr", &sent);
+    for words in ["--ber 0.4 --burst 40", "--ber 0.3"] {
+        let hit = flipped(&sent, &room.dsr(&format!("damage {words} --spare-syncs a.dsr")).out);
+        let mut places = [0; 1152];
+        hit.iter().for_each(|t| places[t % 1152] += 1);
+        assert!(places[..16].iter().all(|many| *many == 0), "a sync was touched");
+        assert!(places[16..].iter().all(|many| (30..130).contains(many)), "{places:?}");
+        let halves = hit.iter().filter(|t| **t >= 1152 * 128).count();
+        assert!((4..6).contains(&(10 * halves / hit.len())), "one half was hit less");
+    }
+}
+
+/// With probability 1 all pairs but one are hit, in all 255 multiframes.
+#[test]
+fn bounded_damage_goes_to_the_end() {
+    let room = Room::new("bounded-far");
+    let sent = image(6119);
+    room.put("a.dsr", &sent);
+    let damaged = room.dsr("damage --bounded 1 --seed 4 a.dsr").out;
+    let heard = dsr::read(&damaged, &Tables::ZEROS, Choices::DEFAULT).unwrap();
+    assert_eq!((heard.reading.bad, heard.pairs().len()), (3059, 3060));
+    let mended = heard.multiframes().skip(128).filter(|multiframe| !multiframe.header().is_clean()).count();
+    assert!((60..110).contains(&mended), "{mended}");
+}
+
+/// What stands before, between or behind multiframes is no image of dsr write.
+#[test]
+fn an_image_is_multiframes_and_nothing_else() {
+    let room = Room::new("nothing-else");
+    let (sent, inverse) = (image(60), [0x78, 0x4D]);
+    for input in [[&sent[..], &inverse].concat(), [&inverse, &sent[..]].concat(), [&sent[..144], &inverse, &sent[144..]].concat()]
+    {
+        room.put("b.dsr", input);
+        for words in ["--bounded 0.5", "--ber 0.1 --spare-syncs"] {
+            let said = room.dsr(&format!("damage {words} b.dsr -o out"));
+            assert!(
+                said.status == 3 && said.trouble.contains("something stands before, between or behind these"),
+                "{}",
+                said.trouble
+            );
+        }
+    }
+    // an only multiframe is one too, and keeps its header
+    let only = image(20);
+    room.put("b.dsr", &only);
+    for seed in 0..20 {
+        let damaged = room.dsr(&format!("damage --bounded 0.9 --seed {seed} b.dsr"));
+        assert!(damaged.status == 0 && damaged.out[..6] == only[..6] && damaged.out != only);
+    }
 }
 
 #[test]

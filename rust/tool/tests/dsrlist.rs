@@ -129,8 +129,11 @@ fn from_words(words: &str) -> String {
         u64::from(first.contains(", end seen")),
     ];
     let mut lines = Lines::new(total);
+    assert!(bad == 0 || first.contains(&format!(" of {} pairs replaced", lines.pairs.len())), "{first}");
     for line in rest.lines() {
         let (from, to) = (between(line, "  ", " to "), between(line, " to ", " s:"));
+        let (one, several) = (format!(": header {}: ", to / 24), format!(": headers {} to {}: ", from / 24 + 1, to / 24));
+        assert!(!line.contains("header") || line.contains(if to - from == 24 { &one } else { &several }), "{line}");
         match line.contains("header") {
             true => lines.headers[from as usize / 24..to as usize / 24].fill(header_note(line)),
             false => {

@@ -33,6 +33,28 @@ fn what_is_written_reads_back() {
     }
 }
 
+/// Whatever octets stand at the end of raw frames, a line's end too.
+#[test]
+fn raw_frames_are_taken_as_they_stand() {
+    let room = Room::new("raw-ends");
+    for last in [0, 9, 10, 13, 32, 255] {
+        let mut frames = Chance(3).frames(30);
+        *frames.last_mut().unwrap() = last;
+        assert_eq!(room.dsr_with("write --raw --rate 8 --front-end standard - -o a.dsr", &frames).status, 0);
+        assert_eq!(room.dsr("read --raw a.dsr").out, frames, "{last}");
+    }
+}
+
+#[test]
+fn a_missing_end_is_told() {
+    let room = Room::new("no-end");
+    let image = dsr::write(dsr::Settings::from_codes(0, 0).unwrap(), &Chance(3).frames(100)).unwrap();
+    room.put("a.dsr", &image[..432]);
+    let said = room.dsr("read a.dsr --raw");
+    let line = "dsr: a.dsr: 8 kHz, standard front end, 0.72 s of speech in 3 multiframes, no pair replaced, END MISSING; dsr list says more\n";
+    assert_eq!((said.status, said.trouble.as_str(), said.out.len()), (1, line, 504));
+}
+
 #[test]
 fn lines_may_have_blanks_and_remarks() {
     let room = Room::new("remarks");

@@ -52,6 +52,7 @@ fn each_kind_in_words_as_json_and_as_numbers() {
     golden("list.txt", &room.dsr(&format!("list {ALL}")).whole());
     golden("list.json", &room.dsr(&format!("list --json {ALL}")).whole());
     golden("list.numbers", &room.dsr(&format!("list --numbers {ALL}")).whole());
+    golden("list-two.numbers", &room.dsr("list --numbers hurt.dsr clean.dsr").whole());
     golden("list-one.numbers", &room.dsr("list --numbers hurt.dsr").whole());
     golden("list-one-header.txt", &room.dsr("list --one-header-settles word.dsr clean.dsr").whole());
 }

@@ -50,7 +50,10 @@ fn no_bar_for_one_file_or_where_nobody_looks() {
 fn octets_are_not_put_on_a_terminal() {
     let room = Room::new("octets");
     room.put("a", sample());
-    let (said, status) = on_terminal(&room, "read --raw a", || ());
-    assert_eq!(said.trim_end(), "dsr: standard output is a terminal, and this is no text: name a file by -o");
-    assert_eq!(status, Some(3));
+    room.put("frames", "1,2,3,4,5,6,7\n");
+    for call in ["read --raw a", "read --raw a -o -", "damage --shift 3 a", "write --rate 8 --front-end standard frames"] {
+        let (said, status) = on_terminal(&room, call, || ());
+        assert_eq!(said.trim_end(), "dsr: standard output is a terminal, and this is no text: name a file by -o", "{call}");
+        assert_eq!(status, Some(3), "{call}");
+    }
 }

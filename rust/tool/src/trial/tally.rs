@@ -152,6 +152,26 @@ mod tests {
         assert_eq!(counted(&sent, &sent.image), Tally { clean: 1, pairs: 36, ..Tally::default() });
     }
 
+    /// The same frames under another rate, or another front end: nothing but the settings tells.
+    #[test]
+    fn other_settings_are_untrue() {
+        let sent = sent();
+        let frames = &sent.indices[..7 * sent.speech];
+        for other in super::super::sent::SETTINGS.into_iter().filter(|other| *other != sent.settings) {
+            let image = dsr::write(other, frames).expect("the writer takes it");
+            assert_eq!(counted(&sent, &image), Tally { clean: 1, pairs: 36, settings: 1, untrue: 1, ..Tally::default() });
+        }
+    }
+
+    /// One frame more or less is untrue, though each frame is as it was sent or zero.
+    #[test]
+    fn another_number_of_frames_is_untrue() {
+        let sent = sent();
+        let image = dsr::write(sent.settings, &sent.indices[..7 * (sent.speech - 1)]).expect("the writer takes it");
+        let expected = Tally { clean: 1, pairs: 36, wrong: 1, unnamed: 1, untrue: 1, ..Tally::default() };
+        assert_eq!(counted(&sent, &image), expected);
+    }
+
     /// Two flips 15 apart pass the CRC: one wrong frame in a list without a warning.
     #[test]
     fn what_the_library_cannot_see_is_found() {

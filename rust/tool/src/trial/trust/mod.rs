@@ -73,10 +73,16 @@ pub fn run(arguments: &Arguments) -> Outcome<u8> {
     let findings = all(seed).map_err(|refusal| Failure::refused("an utterance by chance", refusal))?;
     let head = ["what", "counted", "said", "where", ""].map(str::to_string).to_vec();
     let lines: Vec<Vec<String>> = [head].into_iter().chain(findings.iter().map(Finding::cells)).collect();
-    let different = findings.iter().filter(|finding| !finding.agrees).count();
-    let end = format!("{} agree, {different} differ", findings.len() - different);
+    let (end, status) = verdict(&findings);
     output::put_standard(format!("{}\n{LEGEND}seed {seed}: {end}\n", aligned(&lines, &[0, 1, 2, 3, 4])).as_bytes())?;
-    Ok(if different == 0 { CLEAN } else { WARNED })
+    Ok(status)
+}
+
+/// How many agree, and the exit status.
+fn verdict(findings: &[Finding]) -> (String, u8) {
+    let different = findings.iter().filter(|finding| !finding.agrees).count();
+    let words = format!("{} agree, {different} differ", findings.len() - different);
+    (words, if different == 0 { CLEAN } else { WARNED })
 }
 
 fn all(seed: u64) -> Result<Vec<Finding>, Error> {
@@ -120,7 +126,19 @@ fn patterns(flips: u32, bits: u32) -> impl Iterator<Item = u64> {
 
 #[cfg(test)]
 mod tests {
-    use super::{grouped, of_all, patterns, Finding, TRUST};
+    use super::{grouped, of_all, patterns, verdict, Finding, TRUST};
+
+    /// What differs is told, and changes the status.
+    #[test]
+    fn what_differs_is_told() {
+        let right = Finding::exact("a", "237 of 4,186", TRUST, "237 of 4,186");
+        let wrong = Finding::exact("a", "236 of 4,186", TRUST, "237 of 4,186");
+        assert_eq!((right.cells()[4].as_str(), wrong.cells()[4].as_str()), ("agrees", "DIFFERS"));
+        assert!(!Finding::all("a", (11, 12), TRUST).agrees && !Finding::all("a", (0, 0), TRUST).agrees);
+        assert!(!Finding::sampled("a", (80_000, 1_200_000), 16.0, TRUST, "about 1 of 16").agrees);
+        assert_eq!(verdict(&[right]), ("1 agree, 0 differ".to_string(), 0));
+        assert_eq!(verdict(&[wrong]), ("0 agree, 1 differ".to_string(), 1));
+    }
 
     #[test]
     fn numbers_are_grouped_by_thousands() {
