@@ -19,6 +19,9 @@ pub fn shown(name: &OsStr) -> String {
     if name == STANDARD {
         return "standard input".to_string();
     }
+    if name.is_empty() {
+        return "''".to_string();
+    }
     one_line(&name.to_string_lossy())
 }
 
@@ -37,7 +40,9 @@ pub fn octets_until(name: &OsStr, buffer: &mut Vec<u8>, enough: impl Fn(&[u8]) -
 
 /// The text of a file; what is no text is told.
 pub fn text(name: &OsStr) -> Outcome<String> {
-    String::from_utf8(octets(name)?).map_err(|_| Failure::trouble(format!("{}: this is no text", shown(name))))
+    let text = String::from_utf8(octets(name)?).map_err(|_| Failure::trouble(format!("{}: this is no text", shown(name))))?;
+    // some editors put a mark before a text
+    Ok(text.strip_prefix('\u{feff}').map(str::to_string).unwrap_or(text))
 }
 
 fn fill(name: &OsStr, buffer: &mut Vec<u8>, enough: impl Fn(&[u8]) -> bool) -> io::Result<()> {

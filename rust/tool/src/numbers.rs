@@ -10,11 +10,14 @@ pub fn lines(text: &str) -> impl Iterator<Item = (usize, &str)> {
     said.enumerate().map(|(at, line)| (at + 1, line)).filter(|(_, line)| !line.is_empty())
 }
 
-/// All numbers of a text, with commas or blanks between them.
-pub fn all<N: FromStr>(file: &str, text: &str, kind: &str) -> Outcome<Vec<N>> {
+/// The numbers of a text, with commas or blanks between them: all of them, or one more than `most`.
+pub fn all<N: FromStr>(file: &str, text: &str, kind: &str, most: usize) -> Outcome<Vec<N>> {
     let mut numbers = Vec::new();
     for (at, line) in lines(text) {
         for word in line.split([',', ' ', '\t']).filter(|word| !word.is_empty()) {
+            if numbers.len() > most {
+                return Ok(numbers);
+            }
             numbers.push(number(file, at, word, kind)?);
         }
     }

@@ -1,14 +1,18 @@
 //! Where a command's result goes: standard output, or a file that appears whole or not at all.
-use std::ffi::{OsStr, OsString};
+use std::ffi::OsStr;
 use std::fs::{self, File, OpenOptions};
 use std::io::{self, IsTerminal, Write};
+use std::os::unix::fs::{OpenOptionsExt, PermissionsExt};
 use std::path::{Path, PathBuf};
+use std::time::SystemTime;
 
 use crate::closed;
 use crate::failure::{Failure, Outcome};
-use crate::input::shown;
+use crate::input::{shown, STANDARD as STANDARD_OPERAND};
 
 const STANDARD: &str = "standard output";
+/// What a new file may be used for, as far as the user's mask allows it.
+const USUAL_MODE: u32 = 0o666;
 /// As many links in a row as the system follows.
 const MOST_LINKS: u32 = 40;
 
@@ -16,14 +20,19 @@ const MOST_LINKS: u32 = 40;
 pub fn put(name: Option<&OsStr>, octets: &[u8]) -> Outcome<()> {
     match name {
         None => put_standard(octets),
-        Some(name) if name == crate::input::STANDARD => put_standard(octets),
+        Some(name) if is_standard(name) => put_standard(octets),
         Some(name) => put_file(Path::new(name), octets).map_err(|error| Failure::system(&shown(name), &error)),
     }
 }
 
+/// The names of standard output. Opened anew, a file there would be written from its beginning.
+fn is_standard(name: &OsStr) -> bool {
+    [STANDARD_OPERAND, "/dev/stdout", "/dev/fd/1", "/proc/self/fd/1"].iter().any(|standard| name == *standard)
+}
+
 /// Writes octets that are no text: a terminal is no place for them.
 pub fn put_binary(name: Option<&OsStr>, octets: &[u8]) -> Outcome<()> {
-    if name.is_none_or(|name| name == crate::input::STANDARD) && io::stdout().is_terminal() {
+    if name.is_none_or(is_standard) && io::stdout().is_terminal() {
         return Err(Failure::trouble("standard output is a terminal, and this is no text: name a file by -o"));
     }
     put(name, octets)
@@ -38,16 +47,19 @@ pub fn put_standard(octets: &[u8]) -> Outcome<()> {
     standard.write_all(octets).and_then(|()| standard.flush()).map_err(|error| Failure::system(STANDARD, &error))
 }
 
-/// What is no regular file (a device, a pipe) is written to as it stands. A file is made beside its place under another name, and takes
-/// its place when it is whole.
+/// What is no regular file (a device, a pipe), or is an open file by another name, is written to as it stands. A file is made beside its
+/// place under another name, and takes its place when it is whole.
 fn put_file(path: &Path, octets: &[u8]) -> io::Result<()> {
     let old = fs::metadata(path).ok();
-    if old.as_ref().is_some_and(|old| !old.is_file()) {
+    let as_it_stands = path.starts_with("/dev") || path.starts_with("/proc") || old.as_ref().is_some_and(|old| !old.is_file());
+    if as_it_stands {
         return OpenOptions::new().write(true).open(path)?.write_all(octets);
     }
     let place = followed(path, MOST_LINKS)?;
-    let beside = beside(&place)?;
-    let made = make(&beside, octets, old).and_then(|()| fs::rename(&beside, &place));
+    let beside = place.with_file_name(passing_name());
+    let mode = old.as_ref().map_or(USUAL_MODE, |old| old.permissions().mode());
+    let file = OpenOptions::new().write(true).create_new(true).mode(mode).open(&beside)?;
+    let made = fill(file, octets, old).and_then(|()| fs::rename(&beside, &place));
     if made.is_err() {
         let _ = fs::remove_file(&beside);
     }
@@ -64,25 +76,17 @@ fn followed(path: &Path, links: u32) -> io::Result<PathBuf> {
     }
 }
 
-fn make(beside: &Path, octets: &[u8], old: Option<fs::Metadata>) -> io::Result<()> {
-    let mut file = OpenOptions::new().write(true).create_new(true).open(beside)?;
+/// Permissions are those of the old file, if there is one; the octets reach the disk before the name does.
+fn fill(mut file: File, octets: &[u8], old: Option<fs::Metadata>) -> io::Result<()> {
     file.write_all(octets)?;
     if let Some(old) = old {
         file.set_permissions(old.permissions())?;
     }
-    keep(&file)
-}
-
-/// The octets reach the disk before the name does.
-fn keep(file: &File) -> io::Result<()> {
     file.sync_all()
 }
 
-/// A name in the same folder that no other run takes.
-fn beside(place: &Path) -> io::Result<PathBuf> {
-    let name = place.file_name().ok_or_else(|| io::Error::other("this is no name of a file"))?;
-    let mut hidden = OsString::from(".");
-    hidden.push(name);
-    hidden.push(format!(".{}.part", std::process::id()));
-    Ok(place.with_file_name(hidden))
+/// A name that no other run takes, in whatever folder and on whatever machine.
+fn passing_name() -> String {
+    let now = SystemTime::now().duration_since(SystemTime::UNIX_EPOCH).map_or(0, |time| time.as_nanos());
+    format!(".dsr-{}-{now}.part", std::process::id())
 }

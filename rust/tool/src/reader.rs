@@ -1,4 +1,5 @@
 //! How recordings are to be read, as the options say it, and the calls of the library that read them.
+use std::cmp::Ordering;
 use std::ffi::OsStr;
 
 use dsr::{Choices, Error, Tables, Utterance, MOST_MULTIFRAMES, MULTIFRAME_INDICES, MULTIFRAME_REPORT};
@@ -64,6 +65,7 @@ impl Reader {
         arguments.only_with("outside", "bits")?;
         arguments.only_with("codebook", "thresholds")?;
         arguments.only_with("thresholds", "codebook")?;
+        standard_once(arguments)?;
         let asked = arguments.has("one-header-settles");
         let hunt = match arguments.has("bits") {
             true => Some((arguments.number("from", 0)?, arguments.number("match", USUAL_MATCH)?)),
@@ -116,13 +118,25 @@ impl Reader {
     }
 }
 
+/// Standard input can be read once: it is one recording, or one table.
+fn standard_once(arguments: &Arguments) -> Outcome<()> {
+    let named = ["codebook", "thresholds", "compare"].iter().filter_map(|option| arguments.value(option));
+    let all = arguments.operands.iter().map(|operand| operand.as_os_str()).chain(named);
+    if all.filter(|name| *name == input::STANDARD).count() > 1 {
+        return Err(arguments.wrong("standard input can be read only once"));
+    }
+    Ok(())
+}
+
 /// The numbers of a table's file, as many as `usual` has; `usual` itself if no file is named.
 fn table(name: Option<&OsStr>, usual: &[i32], what: &str) -> Outcome<Vec<i32>> {
     let Some(name) = name else { return Ok(usual.to_vec()) };
     let file = input::shown(name);
-    let read: Vec<i32> = numbers::all(&file, &input::text(name)?, "a whole number of 32 bits")?;
-    if read.len() == usual.len() {
-        return Ok(read);
-    }
-    Err(Failure::trouble(format!("{file}: {} numbers, and {what} has {}", read.len(), usual.len())))
+    let read: Vec<i32> = numbers::all(&file, &input::text(name)?, "a whole number of 32 bits", usual.len())?;
+    let came = match read.len().cmp(&usual.len()) {
+        Ordering::Equal => return Ok(read),
+        Ordering::Less => format!("{} numbers", read.len()),
+        Ordering::Greater => format!("more than {} numbers", usual.len()),
+    };
+    Err(Failure::trouble(format!("{file}: {came}, and {what} has {}", usual.len())))
 }

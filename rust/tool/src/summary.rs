@@ -71,7 +71,12 @@ pub fn line(heard: &Heard) -> String {
 /// Without a warning, as docs/TRUST.md has it: no note, and the end was seen. Of a hunting reading, also as many bits outside as were
 /// expected, if that was said.
 pub fn is_without_warning(heard: &Heard) -> bool {
-    !heard.utterance.has_notes() && heard.utterance.reading.end && heard.found.as_ref().is_none_or(Found::is_as_expected)
+    is_clean(&heard.utterance) && heard.found.as_ref().is_none_or(Found::is_as_expected)
+}
+
+/// No note, and the end was seen.
+pub fn is_clean<B: AsRef<[u8]>>(utterance: &Utterance<B>) -> bool {
+    !utterance.has_notes() && utterance.reading.end
 }
 
 #[cfg(test)]

@@ -2,6 +2,7 @@
 mod shared;
 
 use std::fs::{self, File, OpenOptions};
+use std::io::Write;
 use std::os::unix::fs::PermissionsExt;
 use std::os::unix::process::CommandExt;
 use std::process::Stdio;
@@ -12,6 +13,11 @@ use shared::{sample, Room, Said, DSR};
 fn a_missing_file() {
     let room = Room::new("missing");
     room.dsr("list nowhere.dsr").fails(3, "nowhere.dsr: there is no such file");
+    room.command()
+        .args(["list", ""])
+        .output()
+        .map(|output| assert_eq!(output.stderr, b"dsr: '': there is no such file\n"))
+        .unwrap();
     room.dsr("plot nowhere.dsr -o out.svg").fails(3, "nowhere.dsr: there is no such file");
     room.dsr("read nowhere.dsr -o out.csv").fails(3, "nowhere.dsr: there is no such file");
     room.dsr("write --rate 8 --front-end standard nowhere.csv -o out.dsr").fails(3, "nowhere.csv: there is no such file");
@@ -43,7 +49,13 @@ fn a_file_that_may_not_be_read() {
     if File::open(&file).is_ok() {
         command.uid(65534);
     }
-    let output = command.output().unwrap();
+    let output = loop {
+        match command.output() {
+            // another test that begins a program at this moment may still hold the copy
+            Err(error) if error.kind() == std::io::ErrorKind::ExecutableFileBusy => continue,
+            output => break output.unwrap(),
+        }
+    };
     assert_eq!(String::from_utf8_lossy(&output.stderr), "dsr: secret.dsr: no permission\n");
     assert_eq!((output.status.code(), output.stdout.len()), (Some(3), 0));
 }
@@ -80,7 +92,7 @@ fn a_gigabyte() {
     let endless = File::open("/dev/zero").unwrap();
     let output = room.command().args(["list", "-"]).stdin(endless).output().unwrap();
     assert_eq!(String::from_utf8_lossy(&output.stdout), said.text().replace("zeros:", "standard input:"));
-    // behind a recording it has to be read to its end
+    // nor is a long file read to its end behind a recording that nothing known follows
     let behind = room.put("behind", sample());
     OpenOptions::new().write(true).open(behind).unwrap().set_len(1 << 28).unwrap();
     let said = room.dsr("list behind");
@@ -88,6 +100,22 @@ fn a_gigabyte() {
         (said.status, said.text()),
         (2, "behind: refused 12 434: what stands at octet 434 begins neither a multiframe nor an inverse sync\n")
     );
+}
+
+/// What does not fit into memory is told, not the end of the program.
+#[test]
+fn more_than_fits_into_memory() {
+    let room = Room::new("memory");
+    let limited = |words: &str| {
+        let output = room.command_of("sh").args(["-c", &format!("ulimit -v 300000; exec '{DSR}' {words}")]).output().unwrap();
+        (output.status.code(), String::from_utf8(output.stderr).unwrap())
+    };
+    assert_eq!(limited("list --bits /dev/zero"), (Some(3), "dsr: /dev/zero: does not fit into memory\n".to_string()));
+    room.put("a", sample());
+    room.put("limits", "5 ".repeat(14));
+    File::create(room.path().join("big")).unwrap().write_all(&b"1 2 3 4 5 6 7\n".repeat(5_000_000)).unwrap();
+    let line = "dsr: big: more than 1280 numbers, and a codebook has 1280\n".to_string();
+    assert_eq!(limited("list a --codebook big --thresholds limits"), (Some(3), line));
 }
 
 #[test]
@@ -101,7 +129,7 @@ fn tables_that_are_none() {
     room.put("short", "0 ".repeat(1279));
     with("short", "limits").fails(3, "short: 1279 numbers, and a codebook has 1280");
     room.put("long", "0 ".repeat(15));
-    with("zeros", "long").fails(3, "long: 15 numbers, and a file of thresholds has 14");
+    with("zeros", "long").fails(3, "long: more than 14 numbers, and a file of thresholds has 14");
     room.put("words", "# right so far\n0 0\n0 zero 0\n");
     with("words", "limits").fails(3, "words: line 3: 'zero' is not a whole number of 32 bits");
     room.put("wide", "2147483648 ".repeat(1280));
@@ -109,6 +137,12 @@ fn tables_that_are_none() {
     room.put("binary", [0xff, 0xfe, 0, 0]);
     with("binary", "limits").fails(3, "binary: this is no text");
     with("zeros", "nowhere").fails(3, "nowhere: there is no such file");
+    // an editor's mark before the text, tabs and commas are no part of a number
+    room.put("marked", "\u{feff}5,\t5\r\n".to_string() + &"5\t5\n".repeat(6));
+    assert_eq!(with("zeros", "marked").status, 1);
+    for words in ["- --codebook - --thresholds limits", "- --codebook zeros --thresholds -", "a --codebook - --thresholds -"] {
+        room.dsr(&format!("list {words}")).fails(3, "list: standard input can be read only once (dsr list --help says more)");
+    }
     room.put("negative", "5 5 5 -1 5 5 5 5 5 5 5 5 5 -2");
     with("zeros", "negative").fails(2, "negative: refused 10 3: threshold 3, counted from 0, is negative");
     room.dsr("list a --codebook zeros").fails(3, "list: --codebook needs --thresholds (dsr list --help says more)");
@@ -129,7 +163,8 @@ fn numbers_out_of_range() {
     usage("list a --bits --from -1", "--from -1: this is no such number");
     usage("list a --bits --from 18446744073709551616", "--from 18446744073709551616: this is no such number");
     usage("list a --from 3", "--from needs --bits");
-    usage("list a --jobs 0", "--jobs 0: at least one file is read at a time");
+    usage("list a --jobs 0", "--jobs 0: 1 to 1000 files are read at a time");
+    usage("list a --jobs 1001", "--jobs 1001: 1 to 1000 files are read at a time");
     usage("write --rate 12 --front-end standard a", "--rate 12: it is one of 8, 11, 16");
     usage("write --front-end standard a", "--rate has to be said: 8, 11 or 16 (kHz)");
     usage("write --rate 8 a", "--front-end has to be said: standard or noise-robust");
@@ -160,6 +195,9 @@ fn frames_that_cannot_be_written() {
         .fails(2, "frames: refused 3 6120: 6120 frames are more than an utterance can have, 6,119");
     let zero = "frame 1, counted from 1, is all zero and would be taken for the end: it is the last one, or its number is a multiple of 24";
     write("0,0,0,0,0,0,0\n").fails(2, &format!("frames: refused 5 1: {zero}"));
+    room.put("raw", [1; 7003]);
+    room.dsr("write --raw --rate 8 --front-end standard raw -o out.dsr")
+        .fails(2, "raw: refused 2 7003: 7003 index octets are no whole number of frames: a frame has seven");
     room.put("raw", [1; 8]);
     room.dsr("write --raw --rate 8 --front-end standard raw -o out.dsr")
         .fails(2, "raw: refused 2 8: 8 index octets are no whole number of frames: a frame has seven");
@@ -265,10 +303,20 @@ fn an_output_file_appears_whole_or_not_at_all() {
     room.put("cut", &sample()[..300]);
     assert_eq!(room.dsr("read cut -o out.csv").status, 2);
     assert_eq!(room.get("out.csv"), b"what was there before");
-    // a name that is too long for the file's own fits no other either
+    // a name that the system takes is taken, and no longer one
+    room.dsr(&format!("read a -o {}", "x".repeat(256))).fails(3, &format!("{}: File name too long", "x".repeat(256)));
     let long = "x".repeat(255);
-    let said = room.dsr(&format!("read a -o {long}"));
-    assert_eq!((said.status, said.text()), (3, ""));
+    assert_eq!(room.dsr(&format!("read a -o {long}")).status, 1);
+    fs::remove_file(room.path().join(long)).unwrap();
+    // what breaks off in the middle leaves nothing: files of more than one block are forbidden
+    let script = format!("trap '' XFSZ; ulimit -f 1; exec '{DSR}' read a -o half.csv");
+    room.put("a", dsr::write(dsr::Settings::from_codes(0, 0).unwrap(), &shared::Chance(1).frames(600)).unwrap());
+    let broken = room.command_of("sh").args(["-c", &script]).output().unwrap();
+    assert_eq!(
+        (broken.status.code(), String::from_utf8_lossy(&broken.stderr).as_ref()),
+        (Some(3), "dsr: half.csv: File too large\n")
+    );
+    room.put("a", sample());
     // a link leads to the file that it names, and the file keeps its permissions
     std::os::unix::fs::symlink("out.csv", room.path().join("link")).unwrap();
     assert_eq!(room.dsr("read a -o link").status, 1);
@@ -288,7 +336,11 @@ fn an_output_file_appears_whole_or_not_at_all() {
     assert!(fs::symlink_metadata(room.path().join("early")).unwrap().is_symlink());
     let round = room.dsr("read a -o round");
     assert_eq!((round.status, round.text(), round.trouble.as_str()), (3, "", "dsr: round: a link that leads to itself\n"));
-    // - is standard output
+    // - is standard output, and so is /dev/stdout, where something stands already
     assert_eq!(room.dsr("read a -o -").out, room.get("out.csv"));
+    let script = format!("{{ echo head; '{DSR}' read a -o /dev/stdout; echo tail; }} >log 2>/dev/null");
+    assert!(room.command_of("sh").args(["-c", &script]).status().unwrap().success());
+    assert_eq!(room.get("log"), [b"head\n", &room.get("out.csv")[..], b"tail\n"].concat());
+    fs::remove_file(room.path().join("log")).unwrap();
     assert_eq!(room.names(), ["a", "cut", "early", "kept", "link", "new.csv", "out.csv", "round"]);
 }

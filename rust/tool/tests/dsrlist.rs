@@ -36,7 +36,19 @@ fn recording(chance: &mut Chance) -> Vec<u8> {
 fn damage(chance: &mut Chance, image: &mut Vec<u8>) {
     let multiframes = (image.len() as u64 / 144).max(1);
     let start = 144 * chance.below(multiframes) as usize;
-    match chance.below(8) {
+    let other = 144 * chance.below(multiframes) as usize;
+    match chance.below(12) {
+        // another multiframe's header: out of step
+        8 if image.len() >= 144 * multiframes as usize => image.copy_within(other + 2..other + 6, start + 2),
+        // a header of other settings, in step or not
+        9 => put_header(image, start, chance.below(0x80) as u16),
+        // all headers with an EXP bit, or with rate 2
+        10 if chance.below(4) == 0 => {
+            let bits = if chance.below(2) == 0 { 0x80 } else { 2 };
+            (0..multiframes).for_each(|k| put_header(image, 144 * k as usize, bits | ((k as u16 + 1) % 16) << 3));
+        }
+        // more multiframes than an utterance has
+        11 if chance.below(8) == 0 => *image = image.repeat(256usize.div_ceil(multiframes as usize)),
         0 => (0..1 + chance.below(4)).for_each(|_| flip(image, 8 * start + 16 + chance.below(32) as usize)),
         1..=3 => (0..chance.below(60)).for_each(|_| {
             flip(image, chance.below(8 * multiframes * 144) as usize / 1152 * 1152 + 48 + chance.below(1104) as usize)
@@ -45,6 +57,26 @@ fn damage(chance: &mut Chance, image: &mut Vec<u8>) {
         5 => drop(image.splice(start.min(image.len())..start.min(image.len()), INVERSE_SYNC.repeat(chance.below(4) as usize))),
         6 => image.truncate(chance.below(image.len() as u64 + 1) as usize),
         _ => image.truncate(start.max(144).min(image.len())),
+    }
+}
+
+/// The longest recording, with every header note many times: behind the first two headers, which settle, a counter that is right or not,
+/// settings that are the settled ones or not, and none to three flips.
+fn every_note(chance: &mut Chance) -> Vec<u8> {
+    let mut image = dsr::write(Settings::from_codes(0, 0).unwrap(), &chance.frames(6119)).unwrap();
+    for k in 2..255 {
+        let (kind, start) = (chance.below(16), 144 * k);
+        let counter = (k as u64 + 1 + kind / 4 % 2 * 5) % 16;
+        put_header(&mut image, start, (counter << 3 | kind / 8 * 4) as u16);
+        (0..kind % 4).for_each(|place| flip(&mut image, 8 * start + 16 + 9 * place as usize));
+    }
+    image
+}
+
+/// The codeword of that message in the header of the multiframe that begins there.
+fn put_header(image: &mut [u8], start: usize, message: u16) {
+    if let Some(header) = image.get_mut(start + 2..start + 6) {
+        header.copy_from_slice(&dsr::header_encode(message).to_le_bytes());
     }
 }
 
@@ -144,6 +176,12 @@ fn from_words(words: &str) -> String {
     lines.text()
 }
 
+/// A note that is not 0, at places of which nothing was said before.
+fn said_once(places: &mut [u64], note: u64) {
+    assert!(note != 0 && places.iter().all(|place| *place == 0), "said twice, or of nothing");
+    places.fill(note);
+}
+
 fn header_note(line: &str) -> u64 {
     let mended = if line.contains("1 flipped bit mended") { 1 } else { 2 * u64::from(line.contains("2 flipped bits mended")) };
     let lost = 3 * u64::from(line.ends_with(": lost"));
@@ -168,11 +206,11 @@ fn from_json(line: &str) -> String {
     let array = |name: &str| line.split_once(&format!("\"{name}\":[")).unwrap().1.split(']').next().unwrap().to_string();
     for run in array("headers").split('}').filter(|run| run.contains('{')) {
         let (first, last) = (number(run, "first_multiframe") as usize, number(run, "last_multiframe") as usize);
-        lines.headers[first - 1..last].fill(number(&format!("{run},"), "note"));
+        said_once(&mut lines.headers[first - 1..last], number(&format!("{run},"), "note"));
     }
     for run in array("replaced").split('}').filter(|run| run.contains('{')) {
         let (first, last) = (number(run, "first_pair") as usize, number(run, "last_pair") as usize);
-        lines.pairs[first - 1..last].fill(number(&format!("{run},"), "note"));
+        said_once(&mut lines.pairs[first - 1..last], number(&format!("{run},"), "note"));
     }
     lines.text()
 }
@@ -198,6 +236,7 @@ fn dsr_list_says_what_dsrlist_prints() {
         2..=20 => sample()[..23 * (at - 2)].to_vec(),
         21 => INVERSE_SYNC.repeat(32_768),
         22 => vec![0x87; 65_536],
+        23..=26 => every_note(chance),
         _ => recording(chance),
     };
     let names: Vec<String> = (0..FILES).map(|at| format!("{at:04}.dsr")).collect();
@@ -210,12 +249,27 @@ fn dsr_list_says_what_dsrlist_prints() {
     for at in 0..FILES {
         assert_eq!(from_words(&words[at]), wanted[at], "{}", words[at]);
         assert_eq!(from_json(&json[at]), wanted[at], "{}", json[at]);
+        assert!(words[at].starts_with(&format!("{}: ", names[at])), "{}", words[at]);
+        let begins = format!(r#"{{"schema":1,"file":"{}","outcome":"#, names[at]);
+        let status = format!(r#","status":{},"#, status_of(&wanted[at]));
+        assert!(json[at].starts_with(&begins) && json[at].contains(&status), "{}", json[at]);
         let said = room.dsr(&format!("list --one-header-settles --numbers {}", names[at]));
         assert_eq!((said.text(), said.status), (wanted[at].as_str(), status_of(&wanted[at])), "{}", names[at]);
     }
-    // the files are of every kind
-    for text in ["refused 12", "refused 13", "refused 14", "refused 16", "end 0", "3 ", "5 ", "rate 3 type 1"] {
-        let has = wanted.iter().filter(|lines| lines.lines().any(|line| line.starts_with(text) || line.contains(text))).count();
-        assert!(has >= 3, "{text}: {has} files");
+    are_of_every_kind(&wanted);
+}
+
+/// Every header note, every refusal of a reading of octets with zero tables but 10, 11, 18 and 19, and both pair notes.
+fn are_of_every_kind(wanted: &[String]) {
+    let lines: Vec<&str> = wanted.iter().flat_map(|text| text.lines()).collect();
+    let first_words: Vec<&str> = lines.iter().map(|line| line.split(' ').next().unwrap()).collect();
+    for note in ["0", "1", "2", "3", "4", "5", "6", "8", "9", "10", "12", "13", "14"] {
+        assert!(first_words.contains(&note), "no header has the note {note}");
+    }
+    for number in [12, 13, 14, 15, 16, 17, 20] {
+        assert!(lines.iter().any(|line| line.starts_with(&format!("refused {number} "))), "nothing is refused with {number}");
+    }
+    for end in ["end 0", "end 1", "type 0 ", "type 1 ", "rate 0 ", "rate 1 ", "rate 3 "] {
+        assert!(lines.iter().any(|line| line.starts_with("rate") && format!("{line} ").contains(end)), "no total has {end}");
     }
 }

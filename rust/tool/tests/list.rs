@@ -159,7 +159,7 @@ fn many_files_in_order() {
     let one = list("1");
     let said: Vec<&str> = one.lines().map(|line| line.split('"').nth(5).unwrap()).collect();
     assert_eq!(said, names);
-    for jobs in ["2", "3", "16", "5000"] {
+    for jobs in ["2", "3", "16", "1000"] {
         assert!(list(jobs) == one, "{jobs} at a time");
     }
 }

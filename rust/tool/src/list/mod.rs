@@ -16,6 +16,9 @@ use crate::reader::{Heard, Reader, Rooms};
 use crate::summary::is_without_warning;
 use progress::Progress;
 
+/// More workers than this are a slip of the pen.
+const MOST_JOBS: usize = 1000;
+
 /// How a recording is shown.
 #[derive(Debug, Clone, Copy, PartialEq, Eq)]
 enum Form {
@@ -44,9 +47,6 @@ struct Listing {
 pub fn run(arguments: &Arguments) -> Outcome<u8> {
     arguments.not_both("json", "numbers")?;
     let files = &arguments.operands;
-    if files.iter().filter(|file| *file == input::STANDARD).count() > 1 {
-        return Err(arguments.wrong("standard input can be read only once"));
-    }
     let jobs = jobs(arguments)?;
     let form = match (arguments.has("json"), arguments.has("numbers")) {
         (true, _) => Form::Json,
@@ -60,8 +60,8 @@ pub fn run(arguments: &Arguments) -> Outcome<u8> {
 fn jobs(arguments: &Arguments) -> Outcome<usize> {
     let processors = std::thread::available_parallelism().map_or(1, usize::from);
     match arguments.number("jobs", processors)? {
-        0 => Err(arguments.wrong("--jobs 0: at least one file is read at a time")),
-        jobs => Ok(jobs),
+        jobs @ 1..=MOST_JOBS => Ok(jobs),
+        jobs => Err(arguments.wrong(&format!("--jobs {jobs}: 1 to {MOST_JOBS} files are read at a time"))),
     }
 }
 
@@ -74,6 +74,7 @@ fn list_all(listing: &Listing, files: &[OsString], jobs: usize) -> Outcome<u8> {
         jobs,
         || (Vec::new(), Rooms::new()),
         |(octets, rooms), file| listing.list(file, octets, rooms),
+        |error| Failure::trouble(format!("a worker more cannot be started: {}; --jobs 1 needs one", failure::words_of(&error))),
         |listed| {
             let mut text = String::new();
             for one in listed {

@@ -1,5 +1,6 @@
 //! Work on many files at a time, with the results in the files' order and never more than a few of them in memory.
 use std::ffi::{OsStr, OsString};
+use std::io;
 use std::sync::mpsc::{sync_channel, Receiver, SyncSender};
 use std::thread;
 
@@ -8,27 +9,29 @@ const BATCH: usize = 32;
 /// So many batches may a worker be ahead of the one that is shown.
 const AHEAD: usize = 2;
 
-/// Does `work` on each file, `jobs` at a time, and gives the results to `show`, batch by batch in the files' order. If `show` fails, all
-/// work ends and the failure is given. Each worker has memory of its own, which `memory` makes.
+/// Does `work` on each file, `jobs` at a time, and gives the results to `show`, batch by batch in the files' order. If `show` fails, or a
+/// worker cannot be started (`no_worker`), all work ends and the failure is given. Each worker has memory of its own, which `memory` makes.
 pub fn in_order<M, R: Send, E>(
     files: &[OsString],
     jobs: usize,
     memory: impl Fn() -> M + Sync,
     work: impl Fn(&mut M, &OsStr) -> R + Sync,
+    no_worker: impl Fn(io::Error) -> E,
     mut show: impl FnMut(Vec<R>) -> Result<(), E>,
 ) -> Result<(), E> {
     let batch = batch_for(files.len(), jobs);
     let workers = jobs.min(files.len().div_ceil(batch));
+    let (memory, work) = (&memory, &work);
     thread::scope(|scope| {
+        let mut receivers: Vec<Receiver<Vec<R>>> = Vec::new();
         // Worker w does batches w, w + workers and so on: then the next batch's channel is known.
-        let receivers: Vec<Receiver<Vec<R>>> = (0..workers)
-            .map(|first| {
-                let (sender, receiver) = sync_channel(AHEAD);
-                let (memory, work) = (&memory, &work);
-                scope.spawn(move || do_batches(files.chunks(batch).skip(first).step_by(workers), memory(), work, &sender));
-                receiver
-            })
-            .collect();
+        for first in 0..workers {
+            let (sender, receiver) = sync_channel(AHEAD);
+            let batches = files.chunks(batch).skip(first).step_by(workers);
+            let started = thread::Builder::new().spawn_scoped(scope, move || do_batches(batches, memory(), work, &sender));
+            started.map_err(&no_worker)?;
+            receivers.push(receiver);
+        }
         for at in 0..files.len().div_ceil(batch) {
             let results = receivers[at % workers].recv().expect("a worker ends only when all its batches are sent");
             // the receivers go with a failure, and so the workers stop
@@ -72,6 +75,7 @@ mod tests {
                 jobs,
                 || (),
                 |_, file| file.to_os_string(),
+                |_| (),
                 |batch| {
                     shown.extend(batch);
                     Ok(())
@@ -90,6 +94,7 @@ mod tests {
             3,
             || (),
             |_, _| (),
+            |_| "no worker",
             |batch| {
                 shown += batch.len();
                 if shown > 100 {

@@ -18,9 +18,6 @@ use picture::{Comparison, Picture};
 pub fn run(arguments: &Arguments) -> Outcome<u8> {
     let named = arguments.operands.iter().map(|name| name.as_os_str());
     let names: Vec<&OsStr> = named.chain(arguments.value("compare")).collect();
-    if names.iter().filter(|name| **name == input::STANDARD).count() > 1 {
-        return Err(arguments.wrong("standard input can be drawn only once: name a file instead of one of the two -"));
-    }
     let reader = Reader::new(arguments)?;
     let pictures = names.iter().map(|name| picture(&reader, name)).collect::<Outcome<Vec<Picture>>>()?;
     let compared = match &pictures[..] {

@@ -5,6 +5,7 @@ use std::collections::BTreeMap;
 use dsr::{Error, Frame, HeaderNote, Pair, Utterance};
 
 use super::sent::Sent;
+use crate::summary;
 
 /// The counts of a row. All but the first three are of the readings that were not refused.
 #[derive(Debug, Clone, Default, PartialEq, Eq)]
@@ -45,7 +46,7 @@ impl Tally {
 
     fn add_heard<B: AsRef<[u8]>>(&mut self, sent: &Sent, heard: &Utterance<B>) {
         let reading = heard.reading;
-        let is_clean = !heard.has_notes() && reading.end;
+        let is_clean = summary::is_clean(heard);
         let is_as_sent = reading.settings == sent.settings && reading.speech == sent.speech && heard.indices() == sent.indices;
         self.clean += u64::from(is_clean);
         self.warned += u64::from(!is_clean);
@@ -132,6 +133,7 @@ fn wrong_in<'a>(pair: &Pair<'_>, places: &mut impl Iterator<Item = &'a Frame>) -
 
 #[cfg(test)]
 mod tests {
+    use super::super::sent::SETTINGS;
     use super::{Sent, Tally};
     use crate::random::Random;
     use dsr::{Choices, Tables};
@@ -157,7 +159,7 @@ mod tests {
     fn other_settings_are_untrue() {
         let sent = sent();
         let frames = &sent.indices[..7 * sent.speech];
-        for other in super::super::sent::SETTINGS.into_iter().filter(|other| *other != sent.settings) {
+        for other in SETTINGS.into_iter().filter(|other| *other != sent.settings) {
             let image = dsr::write(other, frames).expect("the writer takes it");
             assert_eq!(counted(&sent, &image), Tally { clean: 1, pairs: 36, settings: 1, untrue: 1, ..Tally::default() });
         }
@@ -170,6 +172,33 @@ mod tests {
         let image = dsr::write(sent.settings, &sent.indices[..7 * (sent.speech - 1)]).expect("the writer takes it");
         let expected = Tally { clean: 1, pairs: 36, wrong: 1, unnamed: 1, untrue: 1, ..Tally::default() };
         assert_eq!(counted(&sent, &image), expected);
+    }
+
+    /// Without its end a recording is not clean, and counts add up.
+    #[test]
+    fn what_was_cut_off_is_warned_of() {
+        let sent = sent();
+        let cut = counted(&sent, &sent.image[..288]);
+        assert_eq!(cut, Tally { warned: 1, missing: 1, pairs: 24, ..Tally::default() });
+        let other = dsr::write(
+            SETTINGS[(SETTINGS.iter().position(|one| *one == sent.settings).unwrap() + 1) % 6],
+            &sent.indices[..7 * 60],
+        );
+        let both = counted(&sent, &other.expect("the writer takes it")).plus(&cut).plus(&cut);
+        assert_eq!((both.warned, both.clean, both.missing, both.settings, both.untrue, both.pairs), (2, 1, 2, 1, 1, 84));
+    }
+
+    /// A header of other settings names what is wrong behind it.
+    #[test]
+    fn frames_behind_other_settings_are_named() {
+        let sent = sent();
+        let mut image = sent.image.clone();
+        let other = SETTINGS.into_iter().find(|other| *other != sent.settings).expect("there are six");
+        let foreign = dsr::write(other, &sent.indices[..7 * 60]).expect("the writer takes it");
+        image[290..294].copy_from_slice(&foreign[290..294]);
+        image[294] ^= 1;
+        image[295] ^= 0x80;
+        assert_eq!(counted(&sent, &image), Tally { warned: 1, pairs: 36, wrong: 1, ..Tally::default() });
     }
 
     /// Two flips 15 apart pass the CRC: one wrong frame in a list without a warning.
