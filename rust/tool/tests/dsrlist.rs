@@ -67,7 +67,7 @@ fn every_note(chance: &mut Chance) -> Vec<u8> {
     for k in 2..255 {
         let (kind, start) = (chance.below(16), 144 * k);
         let counter = (k as u64 + 1 + kind / 4 % 2 * 5) % 16;
-        put_header(&mut image, start, (counter << 3 | kind / 8 * 4) as u16);
+        put_header(&mut image, start, ((counter << 3) | (kind / 8 * 4)) as u16);
         (0..kind % 4).for_each(|place| flip(&mut image, 8 * start + 16 + 9 * place as usize));
     }
     image
