@@ -248,11 +248,11 @@ fn long_pictures_say_what_the_library_noted() {
     let numbered: String = text
         .text()
         .lines()
-        .filter(|line| line.trim_start().starts_with("multiframes "))
+        .filter(|line| line.trim_start().starts_with("multiframe"))
         .map(str::trim_start)
         .collect::<Vec<_>>()
         .join("; ");
-    assert_eq!(numbered, "multiframes 1 to 50; multiframes 51 to 100; multiframes 101 to 150; multiframes 151 to 200; multiframes 201 to 250; multiframes 251 to 251");
+    assert_eq!(numbered, "multiframes 1 to 50; multiframes 51 to 100; multiframes 101 to 150; multiframes 151 to 200; multiframes 201 to 250; multiframe 251");
     let drawn = room.dsr("plot a.dsr --compare b.dsr -o out.svg");
     assert_eq!(drawn.status, 0);
     let svg = String::from_utf8(room.get("out.svg")).unwrap();
