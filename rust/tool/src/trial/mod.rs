@@ -101,8 +101,14 @@ impl Plan {
     fn rows(&self) -> Result<Vec<Row>, Error> {
         let hands = thread::available_parallelism().map_or(1, usize::from) as u64;
         let parts: Vec<_> = thread::scope(|scope| {
-            let at_work: Vec<_> = (0..hands).map(|hand| scope.spawn(move || self.part(hand, hands))).collect();
-            at_work.into_iter().map(|one| one.join().expect("a thread of this program does not panic")).collect()
+            let begun = |hand| thread::Builder::new().spawn_scoped(scope, move || self.part(hand, hands)).map_err(|_| hand);
+            let at_work: Vec<_> = (0..hands).map(begun).collect();
+            // what no thread could be made for is done here
+            let done = |one: Result<thread::ScopedJoinHandle<_>, u64>| match one {
+                Ok(thread) => thread.join().expect("a thread of this program does not panic"),
+                Err(hand) => self.part(hand, hands),
+            };
+            at_work.into_iter().map(done).collect()
         });
         parts.into_iter().try_fold(self.no_rows(), |all, part| Ok(all.into_iter().zip(part?).map(Row::plus).collect()))
     }
