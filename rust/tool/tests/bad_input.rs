@@ -132,6 +132,8 @@ fn tables_that_are_none() {
     with("zeros", "long").fails(3, "long: more than 14 numbers, and a file of thresholds has 14");
     room.put("words", "# right so far\n0 0\n0 zero 0\n");
     with("words", "limits").fails(3, "words: line 3: 'zero' is not a whole number of 32 bits");
+    room.put("odd", format!("0 0 {}", "x".repeat(40)));
+    with("odd", "limits").fails(3, "odd: line 1: 'xxxxxxxxxxxxxxxxxxxx..' is not a whole number of 32 bits");
     room.put("wide", "2147483648 ".repeat(1280));
     with("wide", "limits").fails(3, "wide: line 1: '2147483648' is not a whole number of 32 bits");
     room.put("binary", [0xff, 0xfe, 0, 0]);

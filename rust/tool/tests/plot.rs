@@ -98,6 +98,16 @@ fn the_picture_says_what_the_listing_says() {
 }
 
 #[test]
+fn a_pair_of_which_one_frame_is_speech_is_no_padding() {
+    let room = Room::new("one-frame");
+    room.put("a.dsr", dsr::write(Settings::new(Rate::Khz8, FrontEnd::Standard), &shared::Chance(1).frames(27)).unwrap());
+    let picture = room.dsr("plot a.dsr");
+    for line in [" pair 1 ..", " pair 2 ..", " pair 3 .-", "pair 12 .-"] {
+        assert!(picture.text().lines().any(|row| row == line), "{}", picture.text());
+    }
+}
+
+#[test]
 fn what_is_refused_is_not_drawn() {
     let room = room("refused-picture");
     let line = "cut.dsr: refused 13 290: what begins at octet 290 is not whole: the octets end inside a multiframe or a sync";
