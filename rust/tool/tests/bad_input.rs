@@ -252,12 +252,14 @@ fn a_standard_error_that_nobody_reads() {
 
 /// The calls whose output goes to standard output.
 const CALLS: [&str; 9] =
-    ["list a", "list --json a a a", "read a", "read --raw a", "damage --shift 5 a", "plot a", "explain 13", "man", "--help"];
+    ["list a", "list --json a a a", "read a", "read --raw b", "damage --shift 5 a", "plot a", "explain 13", "man", "--help"];
 
 #[test]
 fn a_full_output() {
     let room = Room::new("full");
     room.put("a", sample());
+    // no octet of its frames ends a line, so that nothing gets out before the end
+    room.put("b", dsr::write(dsr::Settings::from_codes(0, 0).unwrap(), &[5; 7 * 30]).unwrap());
     for call in CALLS {
         let full = OpenOptions::new().write(true).open("/dev/full").unwrap();
         let output = room.command().args(call.split(' ')).stdout(full).output().unwrap();
@@ -270,6 +272,7 @@ fn a_full_output() {
 fn a_closed_output() {
     let room = Room::new("closed");
     room.put("a", sample());
+    room.put("b", dsr::write(dsr::Settings::from_codes(0, 0).unwrap(), &[5; 7 * 30]).unwrap());
     for call in CALLS {
         let script = format!("'{DSR}' {call} >&-");
         let output = room.command_of("sh").args(["-c", &script]).output().unwrap();
@@ -298,7 +301,8 @@ fn an_output_file_appears_whole_or_not_at_all() {
     let room = Room::new("whole");
     room.put("a", sample());
     let old = room.put("out.csv", "what was there before");
-    fs::set_permissions(&old, fs::Permissions::from_mode(0o640)).unwrap();
+    // more than a new file would get
+    fs::set_permissions(&old, fs::Permissions::from_mode(0o646)).unwrap();
     // another name of the old file keeps what was there: the new file is another one, put in its place
     fs::hard_link(&old, room.path().join("kept")).unwrap();
     // what fails leaves the old file
@@ -324,7 +328,7 @@ fn an_output_file_appears_whole_or_not_at_all() {
     assert_eq!(room.dsr("read a -o link").status, 1);
     assert_eq!(room.get("out.csv"), room.dsr("read a").out);
     assert_eq!(room.get("kept"), b"what was there before");
-    assert_eq!(fs::metadata(&old).unwrap().permissions().mode() & 0o777, 0o640);
+    assert_eq!(fs::metadata(&old).unwrap().permissions().mode() & 0o777, 0o646);
     assert!(fs::symlink_metadata(room.path().join("link")).unwrap().is_symlink());
     // a device stays one
     assert_eq!(room.dsr("read a -o /dev/null").status, 1);

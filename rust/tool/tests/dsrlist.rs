@@ -64,6 +64,11 @@ fn damage(chance: &mut Chance, image: &mut Vec<u8>) {
 /// settings that are the settled ones or not, and none to three flips.
 fn every_note(chance: &mut Chance) -> Vec<u8> {
     let mut image = dsr::write(Settings::from_codes(0, 0).unwrap(), &chance.frames(6119)).unwrap();
+    // and failed CRCs to its end
+    for _ in 0..700 {
+        let pair = chance.below(12 * 255) as usize;
+        flip(&mut image, 8 * (pair / 12 * 144 + 6) + pair % 12 * 92 + 20);
+    }
     for k in 2..255 {
         let (kind, start) = (chance.below(16), 144 * k);
         let counter = (k as u64 + 1 + kind / 4 % 2 * 5) % 16;
