@@ -25,6 +25,8 @@ pub struct Reader {
 /// What a reading gives.
 pub struct Heard<'b> {
     pub utterance: Utterance<&'b [u8]>,
+    /// Whether any note is not 0; looked for once.
+    pub noted: bool,
     /// Of a hunting reading alone.
     pub found: Option<Found>,
 }
@@ -88,12 +90,12 @@ impl Reader {
         match self.hunt {
             None => {
                 let utterance = dsr::read_into(octets, &tables, self.choices, index, report)?;
-                Ok(Heard { utterance, found: None })
+                Ok(Heard { utterance, noted: utterance.has_notes(), found: None })
             }
             Some((from, least)) => {
                 let bits = dsr::read_bits_into(octets, from, least, &tables, self.choices, index, report)?;
                 let found = Some(Found { outside: bits.outside, tested: bits.tested, expected: self.expected });
-                Ok(Heard { utterance: bits.utterance, found })
+                Ok(Heard { utterance: bits.utterance, noted: bits.utterance.has_notes(), found })
             }
         }
     }

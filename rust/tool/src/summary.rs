@@ -59,8 +59,7 @@ pub fn outside(found: &Found) -> String {
 pub fn line(heard: &Heard) -> String {
     let utterance = &heard.utterance;
     let mut parts = vec![facts(utterance)];
-    // most recordings have no note, and then no header is gone through
-    if utterance.has_notes() {
+    if heard.noted {
         parts.extend(warnings(utterance));
     }
     parts.extend(heard.found.as_ref().map(outside));
@@ -71,7 +70,7 @@ pub fn line(heard: &Heard) -> String {
 /// Without a warning, as docs/TRUST.md has it: no note, and the end was seen. Of a hunting reading, also as many bits outside as were
 /// expected, if that was said.
 pub fn is_without_warning(heard: &Heard) -> bool {
-    is_clean(&heard.utterance) && heard.found.as_ref().is_none_or(Found::is_as_expected)
+    !heard.noted && heard.utterance.reading.end && heard.found.as_ref().is_none_or(Found::is_as_expected)
 }
 
 /// No note, and the end was seen.

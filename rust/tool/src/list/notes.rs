@@ -11,25 +11,15 @@ pub struct Run<N> {
 
 /// The multiframes whose header is not clean.
 pub fn headers<B: AsRef<[u8]>>(utterance: &Utterance<B>) -> Vec<Run<HeaderNote>> {
-    runs_of(utterance, utterance.multiframes().map(|multiframe| multiframe.header()), |note| !note.is_clean())
+    let mut runs = runs(utterance.multiframes().map(|multiframe| multiframe.header()));
+    runs.retain(|run| !run.note.is_clean());
+    runs
 }
 
 /// The pairs that were replaced.
 pub fn replaced<B: AsRef<[u8]>>(utterance: &Utterance<B>) -> Vec<Run<PairNote>> {
-    runs_of(utterance, utterance.pairs().map(|pair| pair.note), |note| note.is_bad())
-}
-
-/// Most recordings have no note: then nothing is gone through.
-fn runs_of<N: PartialEq, B: AsRef<[u8]>>(
-    utterance: &Utterance<B>,
-    notes: impl Iterator<Item = N>,
-    is_noted: impl Fn(&N) -> bool,
-) -> Vec<Run<N>> {
-    if !utterance.has_notes() {
-        return Vec::new();
-    }
-    let mut runs = runs(notes);
-    runs.retain(|run| is_noted(&run.note));
+    let mut runs = runs(utterance.pairs().map(|pair| pair.note));
+    runs.retain(|run| run.note.is_bad());
     runs
 }
 

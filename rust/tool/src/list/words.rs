@@ -10,8 +10,11 @@ use crate::summary::{self, seconds};
 pub fn read(file: &str, heard: &Heard) -> String {
     let utterance = &heard.utterance;
     let mut text = format!("{file}: {}\n", summary::line(heard));
-    headers(utterance).iter().for_each(|run| text += &header_line(run));
-    replaced(utterance).iter().for_each(|run| text += &replaced_line(run));
+    // most recordings have no note, and then nothing is gone through
+    if heard.noted {
+        headers(utterance).iter().for_each(|run| text += &header_line(run));
+        replaced(utterance).iter().for_each(|run| text += &replaced_line(run));
+    }
     text
 }
 
