@@ -90,7 +90,7 @@ const MATCH: Opt = value("match", "T", "With --bits: at least T of the sixteen b
 const OUTSIDE: Opt = value(
     "outside",
     "N",
-    "With --bits: N bits outside the multiframes found are expected. Another number is a warning: exit status 1.",
+    "With --bits: N bits outside the multiframes found are expected, counted from --from on, what fills the last octet too. Another number is a warning: exit status 1.",
 );
 
 // --- list
@@ -130,7 +130,7 @@ const SHIFT: Opt = value("shift", "N", "Put N bits drawn by chance before all ot
 
 const TRIAL_SHIFT: Opt = value("shift", "N", "Put N bits drawn by chance before each image (0).");
 const UTTERANCES: Opt = value("utterances", "N", "So many utterances for each row (200).");
-const FRAMES: Opt = value("frames", "N", "So many frames in each utterance, 1 to 6,119 (300: three seconds).");
+const FRAMES: Opt = value("frames", "N", "So many frames in each utterance, 1 to 6,119 (300: three seconds). Fewer than 24 fit one multiframe, and all are refused with 16.");
 const RATES: Opt = value("ber", "P,..", "One row for each of these bit error rates (1e-5,3e-5,1e-4,3e-4,1e-3,3e-3,1e-2,3e-2).");
 const BOUNDED_RATES: Opt = value(
     "bounded",
@@ -157,8 +157,8 @@ pub const COMMANDS: &[Command] = &[
         text: &[
             "For each FILE (- is standard input): settings, seconds of speech, which headers were mended or lost, which stretches of time were replaced, and whether the end was seen. The files are read several at a time and listed in their order.",
             "Whatever is said of a recording is what the proved library answered: dsr itself decides of nothing whether it is bad, mended or refused.",
-            "Exit status: 0 if every file was read without a warning; 1 if one has notes or its end was not seen; 2 if one was refused; 3 for wrong usage, a file that cannot be read, or an output that is full or closed. The largest of these counts.",
-            "With --bits a gap can leave no note: a recording is whole only if the bits outside the multiframes found are those that were to be expected. Whoever knows how many says so by --outside, and another number is then a warning.",
+            "Exit status: 0 if every file was read without a warning; 1 if one has notes, its end was not seen, or the bits outside are not those that --outside says; 2 if one was refused; 3 for wrong usage, a file that cannot be read, or an output that is full or closed. The largest of these counts.",
+            "Status 0 alone does not say that a recording is whole: if 16, 32 or more multiframes in a row, by sixteens, are lost or stand twice, no note shows it. With --bits those that came but were not found show by the bits outside: whoever knows how many to expect says so by --outside, and another number is then a warning.",
             "Seconds are counted in what was read, ten milliseconds a frame, and speech as it is after replacing: behind a missing multiframe they are early, and speech and end may be made by replacing if a pair of the last multiframe was replaced.",
         ],
         options: &[&JSON, &NUMBERS, &BITS, &FROM, &MATCH, &OUTSIDE, &ONE_HEADER, &CODEBOOK, &THRESHOLDS, &JOBS, &HELP],
@@ -175,7 +175,7 @@ pub const COMMANDS: &[Command] = &[
         count: (1, 1),
         says: "Draw a recording: multiframes across, header and pairs down.",
         text: &[
-            "Each column is a multiframe, 0.24 seconds of speech: its header on top, and its twelve pairs of frames below. Colours and marks, which can be told apart in print and by the colour-blind, say what the reading noted. With -o the picture is an SVG file, else it is drawn in the terminal.",
+            "Each column is a multiframe, 0.24 seconds of speech: its header on top, and its twelve pairs of frames below. Colours and marks, which can be told apart in print and by the colour-blind, say what the reading noted. With -o the picture is an SVG file, else it is drawn in the terminal. The exit status says whether it was drawn, not what was noted.",
         ],
         options: &[&OUTPUT, &COMPARE, &BITS, &FROM, &MATCH, &ONE_HEADER, &CODEBOOK, &THRESHOLDS, &HELP],
         examples: &[
@@ -202,7 +202,7 @@ pub const COMMANDS: &[Command] = &[
         count: (1, 1),
         says: "Read a recording back into frames.",
         text: &[
-            "Gives the frames of speech as lines of text, as dsr write takes them. Frames of bad pairs are those that replace them. If anything was noted, or the end is missing, a line on standard error says so and the exit status is 1.",
+            "Gives the frames of speech as lines of text, as dsr write takes them. Frames of bad pairs are those that replace them. If anything was noted, the end is missing, or the bits outside are not those that --outside says, a line on standard error says so and the exit status is 1; with --bits the line always comes.",
         ],
         options: &[&RAW_OUT, &NOTES, &OUTPUT, &BITS, &FROM, &MATCH, &OUTSIDE, &ONE_HEADER, &CODEBOOK, &THRESHOLDS, &HELP],
         examples: &[("dsr read word.dsr -o frames.csv", "")],

@@ -70,7 +70,7 @@ const REFUSALS: &[Refusal] = &[
         16,
         "the settings are not settled: no two headers agree, or only one multiframe came or was found",
         "the settings are not settled: no two headers agree, or only one multiframe came or was found",
-        "Ask for the utterance again. A word that fits one multiframe is refused each time: record 24 frames (240 ms) or more. Asked for by name (--one-header-settles), an only header settles if no bit of it was flipped.",
+        "Ask for the utterance again. A word that fits one multiframe is refused each time: record 24 frames (240 ms) or more. Asked for by name (--one-header-settles), an only header settles if it is a codeword; six flips can make it that of another rate, and nothing shows it.",
     ),
     refusal(
         17,
@@ -226,6 +226,6 @@ fn pair_advice(note: PairNote) -> &'static str {
     match note {
         PairNote::Good => "the pair stands as it was received.\nNothing to do.",
         PairNote::CrcFailed => "the pair's CRC failed, and its two frames were replaced by their good neighbours.\nWords spoken there (10 ms a frame) are a guess: ask again for those.",
-        PairNote::BadOtherwise => "the pair is bad though its CRC is right: it is inconsistent (its values rise or fall by more than the thresholds), and the next pair's CRC failed or the pair before is bad. Its two frames were replaced by their good neighbours.\nWords spoken there (10 ms a frame) are a guess: ask again for those.",
+        PairNote::BadOtherwise => "the pair is bad though its CRC is right: it is inconsistent (at least two of its seven indices rise or fall by more than their thresholds), and the next pair's CRC failed or the pair before is bad. Its two frames were replaced by their good neighbours.\nWords spoken there (10 ms a frame) are a guess: ask again for those.",
     }
 }

@@ -14,7 +14,7 @@ const SAYS: &str = "lists, draws, writes, reads and damages recordings of the vo
 /// What dsr is, in paragraphs.
 const TEXT: &[&str] = &[
     "A recording is what a belt terminal sent: multiframes of ETSI ES 201 108, octets or, from a radio modem, bits. Whatever dsr says of one is what the proved library answered.",
-    "Exit status: 0 done; 1 of list and read: read with a note or without its end, of trial --trust: a number differs; 2 refused by the library; 3 wrong usage, a file that cannot be read or written, or an output that is full or closed.",
+    "Exit status: 0 done; 1 of list and read: read with a note, without its end, or with other bits outside than --outside says, of trial --trust: a number differs; 2 refused by the library; 3 wrong usage, a file that cannot be read or written, or an output that is full or closed.",
 ];
 
 /// dsr help, dsr --help: all of it, or one command.

@@ -26,7 +26,7 @@ pub fn put(name: Option<&OsStr>, octets: &[u8]) -> Outcome<()> {
 }
 
 /// The names of standard output. Opened anew, a file there would be written from its beginning.
-fn is_standard(name: &OsStr) -> bool {
+pub fn is_standard(name: &OsStr) -> bool {
     [STANDARD_OPERAND, "/dev/stdout", "/dev/fd/1", "/proc/self/fd/1"].iter().any(|standard| name == *standard)
 }
 
@@ -51,7 +51,8 @@ pub fn put_standard(octets: &[u8]) -> Outcome<()> {
 /// place under another name, and takes its place when it is whole.
 fn put_file(path: &Path, octets: &[u8]) -> io::Result<()> {
     let old = fs::metadata(path).ok();
-    let as_it_stands = path.starts_with("/dev") || path.starts_with("/proc") || old.as_ref().is_some_and(|old| !old.is_file());
+    let is_open = ["/dev/fd", "/dev/stderr", "/proc"].iter().any(|open| path.starts_with(open));
+    let as_it_stands = is_open || old.as_ref().is_some_and(|old| !old.is_file());
     if as_it_stands {
         return OpenOptions::new().write(true).open(path)?.write_all(octets);
     }

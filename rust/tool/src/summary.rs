@@ -59,6 +59,9 @@ pub fn outside(found: &Found) -> String {
 pub fn line(heard: &Heard) -> String {
     let utterance = &heard.utterance;
     let mut parts = vec![facts(utterance)];
+    if utterance.reading.multiframes == 1 {
+        parts.push("settled by ONE HEADER ALONE".to_string());
+    }
     if heard.noted {
         parts.extend(warnings(utterance));
     }

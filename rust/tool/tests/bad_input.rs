@@ -330,6 +330,16 @@ fn an_output_file_appears_whole_or_not_at_all() {
     assert_eq!(room.get("kept"), b"what was there before");
     assert_eq!(fs::metadata(&old).unwrap().permissions().mode() & 0o777, 0o646);
     assert!(fs::symlink_metadata(room.path().join("link")).unwrap().is_symlink());
+    // a file in memory is a file
+    for old in ["", "x"] {
+        let shm = std::path::Path::new("/dev/shm").join(format!("dsr-tool-{}", std::process::id()));
+        fs::write(&shm, old.repeat(100_000)).unwrap();
+        assert_eq!(room.dsr(&format!("read a -o {}", shm.display())).status, 1);
+        assert_eq!(fs::read(&shm).unwrap(), room.get("out.csv"));
+        fs::remove_file(&shm).unwrap();
+        assert_eq!(room.dsr(&format!("read a -o {}", shm.display())).status, 1);
+        fs::remove_file(&shm).unwrap();
+    }
     // a device stays one
     assert_eq!(room.dsr("read a -o /dev/null").status, 1);
     let full: Said = room.dsr("read a -o /dev/full");

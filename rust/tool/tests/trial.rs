@@ -96,6 +96,7 @@ fn what_cannot_be_asked_for() {
         "--trust -o out.svg",
         "--trust --shift 3",
         "--shift 1000001",
+        "-o -",
         "file",
     ] {
         text += &format!("{words}\n{}", room.dsr(&format!("trial {words}")).whole());

@@ -59,6 +59,9 @@ pub fn run(arguments: &Arguments) -> Outcome<u8> {
     if arguments.has("trust") {
         return trust::run(arguments);
     }
+    if arguments.value("output").is_some_and(output::is_standard) {
+        return Err(arguments.wrong("--output has to be a file: the table goes to standard output"));
+    }
     let plan = Plan::new(arguments)?;
     let rows = plan.rows().map_err(|refusal| Failure::refused("an utterance by chance", refusal))?;
     output::put_standard(table::page(&plan, &rows).as_bytes())?;

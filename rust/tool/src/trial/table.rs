@@ -26,7 +26,7 @@ clean     utterances that were read with no note and with their end: lists witho
 All that follows is of the utterances that were read:
 mended    headers with one or two flips mended
 lost      headers with no codeword within two bits
-missing   multiframes that were sent and not read
+missing   multiframes sent less those read, where fewer were read
 replaced  pairs that were bad and replaced, of all pairs
 wrong     frames that are not the frame sent at their place (zeros where it was padding), though their pair's note is 0
 unnamed   those of them in multiframes whose header note has neither + 4 nor + 8: nothing says that they are wrong

@@ -20,7 +20,7 @@ pub struct Tally {
     pub mended: u64,
     /// Headers with no codeword within two bits.
     pub lost: u64,
-    /// Multiframes that were sent and not read.
+    /// Multiframes sent less those read, where fewer were read.
     pub missing: u64,
     pub pairs: u64,
     /// Pairs that were bad, and so replaced.
