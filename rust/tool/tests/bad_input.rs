@@ -331,7 +331,7 @@ fn an_output_file_appears_whole_or_not_at_all() {
     assert_eq!(fs::metadata(&old).unwrap().permissions().mode() & 0o777, 0o646);
     assert!(fs::symlink_metadata(room.path().join("link")).unwrap().is_symlink());
     // a file in memory is a file
-    for old in ["", "x"] {
+    for old in ["", "x"].into_iter().filter(|_| std::path::Path::new("/dev/shm").is_dir()) {
         let shm = std::path::Path::new("/dev/shm").join(format!("dsr-tool-{}", std::process::id()));
         fs::write(&shm, old.repeat(100_000)).unwrap();
         assert_eq!(room.dsr(&format!("read a -o {}", shm.display())).status, 1);

@@ -25,7 +25,7 @@ fn a_bar_while_many_files_are_listed() {
     room.put("a", sample());
     assert!(room.command_of("mkfifo").arg("slow").status().unwrap().success());
     let pipe = room.path().join("slow");
-    let (said, status) = on_terminal(&room, &format!("list slow {}", ["a"; 400].join(" ")), || {
+    let (said, status) = on_terminal(&room, &format!("list --jobs 2 slow {}", ["a"; 400].join(" ")), || {
         sleep(Duration::from_millis(500));
         OpenOptions::new().write(true).open(pipe).unwrap().write_all(&sample()).unwrap();
     });
