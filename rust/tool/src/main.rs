@@ -11,6 +11,7 @@ mod failure;
 mod frames;
 mod help;
 mod input;
+mod layout;
 mod list;
 mod numbers;
 mod output;

@@ -2,18 +2,18 @@
 //! inside four neighbouring bits, or two flips whose distance is no multiple of 15. One pair stays whole, and so does an only header.
 use dsr::{MULTIFRAME_OCTETS, MULTIFRAME_PAIRS};
 
+use crate::layout;
 use crate::random::Random;
 
 /// A header's first bit in its multiframe, behind the sync.
-const HEADER: u64 = 16;
-const HEADER_BITS: u64 = 32;
+const HEADER: u64 = layout::SYNC_BITS as u64;
+const HEADER_BITS: u64 = layout::HEADER_BITS as u64;
 const MOST_HEADER_FLIPS: u64 = 2;
-/// The feature stream's first bit in its multiframe. Packet q of it begins 92 q bits further on.
+/// The feature stream's first bit in its multiframe. Packet q of it begins q packets further on.
 const STREAM: u64 = HEADER + HEADER_BITS;
-const PACKET_BITS: u64 = 92;
+const PACKET_BITS: u64 = layout::PACKET_BITS as u64;
 const NEIGHBOURS: u64 = 4;
-/// Two flips so far apart, or a multiple of it, are the ones that a CRC does not see.
-const UNSEEN: u64 = 15;
+const UNSEEN: u64 = layout::UNSEEN as u64;
 
 /// Damages multiframes that stand one behind the other, each pair with that probability, and gives the number of flips.
 pub fn damage(octets: &mut [u8], pairs: f64, random: &mut Random) -> u64 {

@@ -1,10 +1,8 @@
 //! Flipped bits at a rate, alone or in bursts.
 use dsr::MULTIFRAME_OCTETS;
 
+use crate::layout::SYNC_OCTETS;
 use crate::random::Random;
-
-/// A sync's octets are the first of a multiframe.
-const SYNC_OCTETS: usize = 2;
 
 /// Says of one bit after another whether it is flipped.
 ///

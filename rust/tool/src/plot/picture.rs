@@ -101,7 +101,7 @@ impl Comparison {
 
 /// Thousandths of a second, as seconds.
 fn seconds(thousandths: usize) -> String {
-    format!("{}.{:02} s", thousandths / 1000, thousandths % 1000 / 10)
+    format!("{} s", summary::seconds(thousandths / 10))
 }
 
 #[cfg(test)]

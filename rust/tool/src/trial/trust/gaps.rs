@@ -2,6 +2,7 @@
 use dsr::{Choices, Error, HeaderNote, Tables, Utterance, MULTIFRAME_FRAMES, MULTIFRAME_OCTETS};
 
 use super::{Finding, TRUST};
+use crate::layout::SYNC_BITS;
 use crate::random::Random;
 use crate::trial::sent::Sent;
 
@@ -10,7 +11,6 @@ const MULTIFRAMES: usize = 60;
 const BEFORE: usize = 20;
 /// A short one for what is tried at every octet.
 const SHORT: usize = 3;
-const SYNC_BITS: usize = 16;
 
 pub fn findings(random: &mut Random) -> Result<Vec<Finding>, Error> {
     let long = Sent::draw(MULTIFRAMES * MULTIFRAME_FRAMES - 1, random)?.image;

@@ -4,12 +4,13 @@ use std::thread;
 use dsr::{Choices, Error, Header, Rate, Settings, Tables, MULTIFRAME_INDICES, MULTIFRAME_OCTETS, MULTIFRAME_REPORT};
 
 use super::{grouped, of_all, patterns, Finding, README, TRUST};
+use crate::layout;
 use crate::random::Random;
 use crate::trial::sent::{self, Sent, SETTINGS};
 
-const HEADER_BITS: u32 = 32;
+const HEADER_BITS: u32 = layout::HEADER_BITS as u32;
 /// A header's octets in its multiframe.
-const HEADER: std::ops::Range<usize> = 2..6;
+const HEADER: std::ops::Range<usize> = layout::SYNC_OCTETS..layout::SYNC_OCTETS + layout::HEADER_BITS / 8;
 /// Frames that fit one multiframe, and frames that need two.
 const FEW: usize = 20;
 const MORE: usize = 40;

@@ -2,12 +2,10 @@
 use dsr::{Error, MULTIFRAME_FRAMES, MULTIFRAME_INDICES, MULTIFRAME_PAIRS, STREAM_OCTETS};
 
 use super::{grouped, of_all, Finding, TRUST};
+use crate::layout::{PACKET_BITS, UNSEEN};
 use crate::random::Random;
 use crate::trial::sent;
 
-const PACKET_BITS: usize = 92;
-/// Two flips that pass are so far apart, or a multiple of it.
-const UNSEEN: usize = 15;
 /// Streams of garbage: twelve packets each.
 const STREAMS_DRAWN: u64 = 100_000;
 
