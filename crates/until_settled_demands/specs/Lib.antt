@@ -4,3 +4,4 @@ pub mod Met
 pub mod Entry
 pub mod Literally
 pub mod Edges
+pub mod ForGood
