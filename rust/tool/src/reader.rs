@@ -101,7 +101,7 @@ impl Reader {
     }
 
     /// Whether octets that begin so are refused with 12 or 15 whatever follows them, so that the rest need not be read. It is proved that
-    /// these two answers of `settle` stay however a recording grows, and that a full reading then refuses alike.
+    /// a full reading, by the same choice and with tables that are not refused, then refuses all that begins so with that number and place.
     pub fn has_enough(&self, beginning: &[u8]) -> bool {
         let settled = dsr::settle(beginning, self.choices);
         self.hunt.is_none() && matches!(settled, Err(Error::ReadUnknown { .. } | Error::ReadTooMany { .. }))
