@@ -1,14 +1,13 @@
 // The entries for C and Rust: numbers and slices only, and nothing is asked of the caller. All but the encoder of headers answer 0 if they
-// are done, and else the number of a refusal. What each gives is defined in the crate entries; c/dsr.h says the same in C.
+// are done, and else the number of a refusal. What each gives is defined in the crate entries, and the crate answers puts it into the lent
+// numbers; c/dsr.h says the same in C.
 use choices::Asked;
-use header::Header;
-use hunt::Hunted;
 use layout::MultiframeLayout;
 use layout::Pair;
 use layout::ReadingLayout;
-use reader::Answer;
 use refusals::Writing;
 use settings::Settings;
+use writer::Answer;
 use writer::Found;
 ghost use mathlib.Core.Path.{_≡_};
 ghost use mathlib.Core.List.{[]};
@@ -42,14 +41,7 @@ pub extern "C" fn dsr_header_encode(message: u16) -> u32
 pub extern "C" fn dsr_header_read(word: u32, message: &mut u16, flips: &mut u32) -> u32
     ensures { λ r. ⌜ headerRead r (left message) (left flips) (came message) (came flips) (reading word) ⌝ }
 {
-    match header::read(word) {
-        Header::Codeword(d) => {
-            *message = d.message;
-            *flips = d.flips;
-            refusals::SUCCESS
-        }
-        Header::Lost => refusals::UNREADABLE,
-    }
+    answers::tell_header(header::read(word), message, flips)
 }
 
 // dsr_pack turns the 24 frames of a multiframe into its stream and answers 0; or 98 for a wrong length (house), or the writer's 4 for an
@@ -105,17 +97,14 @@ pub extern "C" fn dsr_write(
 ) -> u32
     ensures { λ r. ⌜ writeReturned r (left out) (left place) ≡ dsrWrite rate kind (came indices) (came out) ⌝ }
 {
-    if !entries::fits(rate, kind) {
-        *place = refusals::writing_place(Writing::WrongSettings) as u64;
-        return refusals::writing_number(Writing::WrongSettings);
+    if !answers::fits(rate, kind) {
+        return answers::tell_written(Answer::Refused(Writing::WrongSettings), place);
     }
     let settings = Settings {
         rate: rate as u8,
         kind: kind as u8,
     };
-    let answer = writer::write(settings, indices, out);
-    *place = writer::place_of(answer) as u64;
-    writer::number_of(answer)
+    answers::tell_written(writer::write(settings, indices, out), place)
 }
 
 // dsr_read answers 0 and puts six numbers (rate, type, multiframes, speech, bad, end) into answer, and place stays; or 01's number, and puts
@@ -142,16 +131,8 @@ pub extern "C" fn dsr_read(
     let Asked::For(chosen) = choices::asked_by(choices) else {
         return refusals::NO_SUCH_CHOICE;
     };
-    match reader::read(octets, chosen, codebook, thresholds, index, report) {
-        Answer::Read(s) => {
-            entries::put_summary(s, answer);
-            refusals::SUCCESS
-        }
-        Answer::Refused(r) => {
-            *place = refusals::reading_place(r) as u64;
-            refusals::reading_number(r)
-        }
-    }
+    let read = reader::read(octets, chosen, codebook, thresholds, index, report);
+    answers::tell_reading(read, answer, place)
 }
 
 // dsr_settle reads multiframes only until the settings are settled (02, C-11): it answers 0 and puts three numbers (rate, type, multiframes
@@ -172,16 +153,7 @@ pub extern "C" fn dsr_settle(
     let Asked::For(chosen) = choices::asked_by(choices) else {
         return refusals::NO_SUCH_CHOICE;
     };
-    match until_settled::read(octets, chosen) {
-        until_settled::Answer::Read(b) => {
-            entries::put_beginning(b, answer);
-            refusals::SUCCESS
-        }
-        until_settled::Answer::Refused(refusal) => {
-            *place = refusals::reading_place(refusal) as u64;
-            refusals::reading_number(refusal)
-        }
-    }
+    answers::tell_beginning(until_settled::read(octets, chosen), answer, place)
 }
 
 // dsr_hunt answers 0 and puts the bit found and the number of places tested into found and tested; or 02's number, and puts the refusal's
@@ -197,21 +169,8 @@ pub extern "C" fn dsr_hunt(
 ) -> u32
     ensures { λ r. ⌜ huntReturned r (left found) (left tested) (left place) ≡ dsrHunt (came octets) from least (came found) (came place) ⌝ }
 {
-    match hunt::hunt(octets, from as usize, least as usize) {
-        Hunted::Found {
-            place: at,
-            tested: n,
-        } => {
-            *found = at as u64;
-            *tested = n as u64;
-            refusals::SUCCESS
-        }
-        Hunted::Refused(r) => {
-            *tested = refusals::hunt_tested(r) as u64;
-            *place = refusals::hunt_place(r) as u64;
-            refusals::hunt_number(r)
-        }
-    }
+    let hunted = hunt::hunt(octets, from as usize, least as usize);
+    answers::tell_hunted(hunted, found, tested, place)
 }
 
 // dsr_read_bits is dsr_read for bits with no octet boundary: it answers 0 and puts eight numbers (dsr_read's six, bits outside, places
@@ -240,7 +199,7 @@ pub extern "C" fn dsr_read_bits(
     let Asked::For(chosen) = choices::asked_by(choices) else {
         return refusals::NO_SUCH_CHOICE;
     };
-    match hunting::read(
+    let read = hunting::read(
         octets,
         from as usize,
         least as usize,
@@ -249,14 +208,6 @@ pub extern "C" fn dsr_read_bits(
         thresholds,
         index,
         report,
-    ) {
-        hunting::Answer::Read(c) => {
-            entries::put_counted(c, answer);
-            refusals::SUCCESS
-        }
-        hunting::Answer::Refused(r) => {
-            *place = refusals::hunting_place(r) as u64;
-            refusals::hunting_number(r)
-        }
-    }
+    );
+    answers::tell_hunting_reading(read, answer, place)
 }

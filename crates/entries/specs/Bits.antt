@@ -1,6 +1,6 @@
 -- What the entries of the hunting reader answer, in numbers, and what they leave in lent memory.
 -- Assumes nothing.
-use mathlib.Core.Path.{_≡_, refl, sym, ap, _∙_}
+use mathlib.Core.Path.{_≡_, refl, ap}
 use mathlib.Core.List.{List, [], _∷_, _++_}
 use Prim.Native.Nat.{ℕ}
 use native.Mathlib.Omega.{arith}
@@ -16,7 +16,7 @@ use Rattle.hunt.specs.declared.Hunted.{Hunted}
 use Rattle.hunt.specs.declared.Hunted.the-variants as HA
 use Rattle.refusals.specs.Refusals.{success, huntNumber, huntPlace, huntTested, huntingNumber, huntingPlace}
 use Rattle.refusals.specs.declared.Hunt.{Hunt as HuntRefusal}
-use Rattle.hunting.specs.Hunting.{Outcome, outcome, huntingReading}
+use Rattle.hunting.specs.Hunting.{Outcome, huntingReading}
 use Rattle.hunting.specs.Says.{never-12-to-14}
 use Rattle.hunting.specs.declared.Counted.{Counted}
 use Rattle.hunting.specs.declared.Answer.{Answer}
@@ -70,10 +70,6 @@ hunt-found f p q n h e = ap (huntReturning f p) e
 pub hunt-refused : (f p n t q : ℕ) (r : HuntRefusal) (h : Hunted) → HA.Refused r ≡ h → n ≡ huntNumber r → t ≡ huntTested r → q ≡ huntPlace r
     → huntReturned n f t q ≡ huntReturning f p h
 hunt-refused f p n t q r h e en et eq = rw (en, et, eq) (ap (huntReturning f p) e)
-
--- the hunting reading, once its answer is known
-pub bits-given-as : {x y : Answer} {i r : List ℕ} {o : Outcome} → outcome x i r ≡ o → x ≡ y → given (bitsTold y) i r ≡ bitsGiven o
-bits-given-as {x} {y} {i} {r} {o} e ex = ap (λ (z : Answer). given (bitsTold z) i r) (sym ex) ∙ ap bitsGiven e
 
 -- 12 TO 14 ARE NEVER RETURNED
 module _ (s : List ℕ) (from least : ℕ) (tables : Tables) (index report a : List ℕ) (p : ℕ) where

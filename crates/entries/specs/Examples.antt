@@ -13,6 +13,7 @@ use Rattle.refusals.specs.declared.Hunt.the-variants as HR
 use Rattle.refusals.specs.declared.Reading.the-variants as RR
 use Rattle.reader.specs.Reading as R
 use Rattle.reader.specs.declared.Answer.the-variants as RA
+use Rattle.until_settled.specs.declared.Answer.the-variants as SA
 use Rattle.writer.specs.Writing.{verdict, writing}
 use Rattle.hunting.specs.Hunting.{Outcome, outcome}
 use Rattle.refusals.specs.declared.Hunting.the-variants.{Octets, MatchRange, Nowhere, TooMany}
@@ -29,6 +30,7 @@ use Rattle.consistency.specs.Tables.{tablesOf, zeroTables, sizesRight, admissio
 use Rattle.hunt.specs.Hunt.{hunted, found, inRange, misses}
 use Rattle.hunting.specs.Hunting.{huntingReading}
 use Rattle.entries.specs.Entries.{headerRead, packed, packing, unpacked, unpacking, returning, unchosen, givenOf, dsrWrite, dsrRead}
+use Rattle.entries.specs.Settle.{settleGiven}
 use Rattle.entries.specs.Bits.{huntReturning, bitsGiven, dsrHunt, dsrReadBits}
 
 -- 16 kHz, noise robust, 2 multiframes, 30 frames of speech, 4 bad pairs, no end; 32 bits outside, 21 places tested
@@ -59,6 +61,11 @@ pub record Table : Type 0 where
       ≡ record { number = 16; index = 5 ∷ []; report = 6 ∷ []; answer = nine; place = 0 }
   pub octets-13 : returning 6 nine 8 (5 ∷ []) (6 ∷ []) (givenOf (R.outcome (RA.Refused (RR.CutShort 290)) (5 ∷ []) (6 ∷ [])))
       ≡ record { number = 13; index = 5 ∷ []; report = 6 ∷ []; answer = nine; place = 290 }
+  -- dsr_settle's three: rate, type and multiframes read, and the rest stays; no buffer is lent
+  pub three : returning 3 nine 8 [] [] (settleGiven (SA.Read (record { settings = settings 3 1; multiframes = 5 })))
+      ≡ record { number = 0; index = []; report = []; answer = 3 ∷ 1 ∷ 5 ∷ 93 ∷ 94 ∷ 95 ∷ 96 ∷ 97 ∷ 98 ∷ []; place = 8 }
+  pub settle-12 : returning 3 nine 8 [] [] (settleGiven (SA.Refused (RR.Unknown 144))) ≡ record { number = 12; index = []; report = []; answer = nine; place = 144 }
+  pub two : returning 3 (replicate 2 90) 8 [] [] (settleGiven (SA.Refused (RR.Unknown 144))) ≡ record { number = 99; index = []; report = []; answer = replicate 2 90; place = 8 }
   -- no room for eight: 99 comes before all, and all stays
   pub seven : returning 8 (replicate 7 90) 8 (5 ∷ []) (6 ∷ []) (bitsGiven talk) ≡ record { number = 99; index = 5 ∷ []; report = 6 ∷ []; answer = replicate 7 90; place = 8 }
   pub seven-11 : returning 8 (replicate 7 90) 8 (5 ∷ []) (6 ∷ []) (bitsGiven (outcome (Refused (Octets RR.WrongTables)) (5 ∷ []) (6 ∷ [])))
@@ -84,6 +91,9 @@ table = record {
   five = refl;
   octets-16 = refl;
   octets-13 = refl;
+  three = refl;
+  settle-12 = refl;
+  two = refl;
   seven = refl;
   seven-11 = refl;
   bits-15 = refl;

@@ -1,7 +1,7 @@
 -- The entries' ends as facts over lists: each refusal leaves all as it came. Assumes nothing.
 use mathlib.Core.Path.{_≡_, refl, sym, ap, ap₂, _∙_}
 use mathlib.Core.Bool.{Bool, true, false}
-use mathlib.Core.List.{List}
+use mathlib.Core.List.{List, []}
 use Prim.Native.Nat.{ℕ, _≤_, _<_}
 use native.Mathlib.Omega.{arith}
 use lib.Dec.{ltb}
@@ -22,10 +22,8 @@ use Rattle.refusals.specs.Refusals.{success, noSuchChoice, wrongLength, noRoom,
 use Rattle.refusals.specs.declared.Writing.the-variants.{WideIndex, WrongSettings}
 use Rattle.notes.specs.Notes.{allFrames, crcNotes}
 use Rattle.notes.specs.Laws.{over-all}
-use Rattle.reader.specs.Reading.{Outcome, outcome}
-use Rattle.reader.specs.declared.Answer.{Answer}
 use Rattle.writer.specs.Writing.{firstWide, verdict, writing}
-use Rattle.entries.specs.Entries.{packed, narrowPacking, packing, unpacked, unpacking, Told, numbers, refusal, Given, given, Returned, returned, answered, returning, unchosen, choosing, toldOf, givenOf, writeReturned, dsrWrite}
+use Rattle.entries.specs.Entries.{packed, narrowPacking, packing, unpacked, unpacking, Told, numbers, refusal, Given, given, Returned, returned, answered, returning, unchosen, choosing, writeReturned, dsrWrite}
 
 -- ---- packing
 module _ (idx s : List ℕ) where
@@ -85,22 +83,28 @@ module _ (w : ℕ) (a : List ℕ) (p : ℕ) (i r : List ℕ) (g : Choices → Gi
   pub returns-chosen : (q : Asked) (ch : Choices) → q ≡ For ch → (x : Returned) → x ≡ returning w a p i r (g ch) → x ≡ choosing w a p i r g q
   returns-chosen q ch e x ex = ex ∙ ap (choosing w a p i r g) (sym e)
 
+-- an answer told of w numbers, once it is known what it tells; a refusal has its number and its place
+module _ (w : ℕ) (a : List ℕ) (p : ℕ) (t : Told) where
+  pub tells-numbers : (l a′ : List ℕ) → numbers l ≡ t → a′ ≡ over a 0 w l → returned success [] [] a′ p ≡ answered w a p [] [] t
+  tells-numbers l a′ e ea = ap (λ (x : List ℕ). returned success [] [] x p) ea ∙ ap (answered w a p [] []) e
+
+  pub tells-refusal : (n q m k : ℕ) → refusal m k ≡ t → n ≡ m → q ≡ k → returned n [] [] a q ≡ answered w a p [] [] t
+  tells-refusal n q m k e en eq = ap₂ (λ (x y : ℕ). returned x [] [] a y) en eq ∙ ap (answered w a p [] []) e
+
 -- the ends of both readings, of w numbers
 module _ (w : ℕ) (a : List ℕ) (p : ℕ) (i r : List ℕ) (g : Given) where
   answer : w ≤ length a → (t : Told) (i′ r′ : List ℕ) → given t i′ r′ ≡ g → answered w a p i′ r′ t ≡ returning w a p i r g
   unfolding returning
   answer h t i′ r′ e = rw (le-ltb (length a) w h) (ap (λ (q : Given). answered w a p (q .index) (q .report) (q .told)) e)
 
-  pub returns-read : w ≤ length a → (l i′ r′ a′ : List ℕ) → given (numbers l) i′ r′ ≡ g → a′ ≡ over a 0 w l → returned success i′ r′ a′ p ≡ returning w a p i r g
-  returns-read h l i′ r′ a′ e ea = ap (λ (x : List ℕ). returned success i′ r′ x p) ea ∙ answer h (numbers l) i′ r′ e
+  -- the answer is told without the buffers, which are the reader's
+  told : (t : Told) (i′ r′ : List ℕ) → let x = answered w a p [] [] t in returned (x .number) i′ r′ (x .answer) (x .place) ≡ answered w a p i′ r′ t
+  told (numbers l) i′ r′ = refl
+  told (refusal n q) i′ r′ = refl
 
-  pub returns-refusal : w ≤ length a → (i′ r′ : List ℕ) (n q m k : ℕ) → given (refusal m k) i′ r′ ≡ g → n ≡ m → q ≡ k
-      → returned n i′ r′ a q ≡ returning w a p i r g
-  returns-refusal h i′ r′ n q m k e en eq = ap₂ (λ (x y : ℕ). returned x i′ r′ a y) en eq ∙ answer h (refusal m k) i′ r′ e
-
--- 01's reading, once its answer is known
-pub given-as : {x y : Answer} {i r : List ℕ} {o : Outcome} → outcome x i r ≡ o → x ≡ y → given (toldOf y) i r ≡ givenOf o
-given-as {x} {y} {i} {r} {o} e ex = ap (λ (z : Answer). given (toldOf z) i r) (sym ex) ∙ ap givenOf e
+  pub returns-told : w ≤ length a → (t : Told) (i′ r′ a′ : List ℕ) (n q : ℕ) → given t i′ r′ ≡ g → returned n [] [] a′ q ≡ answered w a p [] [] t
+      → returned n i′ r′ a′ q ≡ returning w a p i r g
+  returns-told h t i′ r′ a′ n q e et = ap (λ (x : Returned). returned (x .number) i′ r′ (x .answer) (x .place)) et ∙ (told t i′ r′ ∙ answer h t i′ r′ e)
 
 -- ---- settings that are no octets
 abbrev pub settingsFit : ℕ → ℕ → Bool

@@ -1,7 +1,6 @@
 -- What the entry that gives the settings before the end of the octets answers, in numbers, and what it leaves in lent memory (02, C-11).
 -- Assumes nothing.
 use Prim.Native.Nat.{ℕ}
-use mathlib.Core.Path.{_≡_, sym, ap, _∙_}
 use mathlib.Core.List.{List, [], _∷_}
 use Rattle.choices.specs.declared.Asked.{Asked}
 use Rattle.refusals.specs.Refusals.{readingNumber, readingPlace}
@@ -31,7 +30,3 @@ settleGiven a = given (settleTold a) [] []
 -- dsr_settle: its number, the lent numbers and the place, by what was asked for. Its contract is an equation with this
 abbrev pub dsrSettle : List ℕ → Asked → List ℕ → ℕ → Returned
 dsrSettle octets q answer place = choosing settleNumbers answer place [] [] (λ ch. settleGiven (untilSettled ch octets)) q
-
--- ---- once the answer is known
-pub settle-given-as : {x y z : Answer} → x ≡ z → x ≡ y → settleGiven y ≡ settleGiven z
-settle-given-as e ey = ap settleGiven (sym ey ∙ e)

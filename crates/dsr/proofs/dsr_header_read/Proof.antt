@@ -1,5 +1,5 @@
--- The header code's reading is taken apart; a lost one stores nothing. Assumes nothing.
-use mathlib.Core.Path.{_≡_, refl, sym, _∙_, subst}
+-- The header code's reading, told. Assumes nothing.
+use mathlib.Core.Path.{subst}
 use Rattle.entries.specs.Entries.{headerRead}
 use borrow.Author.Needs.{needs}
 use Rattle.dsr.proofs.dsr_header_read.Statement.{statement}
@@ -8,21 +8,11 @@ use Rattle.dsr.proofs.dsr_header_read.Tie as tie
 read-requires : tie.Need-read-requires
 read-requires c κs = search needs
 
-enum-known-d : tie.Need-enum-known-d
-enum-known-d c = search needs
-
-enum-told : tie.Need-enum-told
-enum-told c = search needs
+tell-header-requires : tie.Need-tell-header-requires
+tell-header-requires c κs = search needs
 
 returns : tie.Need-returns
-returns c =
-    let r = c .before .before .before in
-    subst (headerRead 0 _ _ _ _) (sym (c .before .d .given .1) ∙ r .read .ensures) (refl, refl, refl)
-
-returns-2 : tie.Need-returns-2
-returns-2 c =
-    let r = c .before .before in
-    subst (headerRead 97 _ _ _ _) (sym (c .enum-told .given .1) ∙ r .read .ensures) (refl, refl, refl)
+returns c = subst (headerRead _ _ _ _ _) (c .before .before .before .read .ensures) (c .tell-header .ensures)
 
 pub dsr-header-read-spec : {M : Type 1} → statement M
-dsr-header-read-spec = tie.close (tie.spec read-requires enum-known-d enum-told returns returns-2)
+dsr-header-read-spec = tie.close (tie.spec read-requires tell-header-requires returns)

@@ -1,11 +1,11 @@
 -- The reader's answer in numbers, by its two cases, of the choices that the number names. Assumes nothing.
-use mathlib.Core.Path.{sym, _∙_}
+use mathlib.Core.Path.{sym, ap, _∙_}
 use native.Mathlib.Omega.{arith}
 use Rattle.choices.specs.Choices.{asked}
 use Rattle.consistency.specs.Tables.{tablesOf}
 use Rattle.reader.specs.Reading.{reading}
 use Rattle.entries.specs.Entries.{answerNumbers, givenOf}
-use Rattle.entries.specs.Laws.{returns-no-room, returns-unchosen, returns-chosen, returns-read, returns-refusal, given-as}
+use Rattle.entries.specs.Laws.{returns-no-room, returns-unchosen, returns-chosen, returns-told}
 use borrow.Author.Needs.{needs}
 use Rattle.dsr.proofs.dsr_read.Statement.{statement}
 use Rattle.dsr.proofs.dsr_read.Tie as tie
@@ -35,20 +35,8 @@ returns-2 c =
 read-requires : tie.Need-read-requires
 read-requires c κs = search needs
 
-enum-known-s : tie.Need-enum-known-s
-enum-known-s c = search needs
-
-put-summary-requires : tie.Need-put-summary-requires
-put-summary-requires c κs = search needs
-
-enum-known-r : tie.Need-enum-known-r
-enum-known-r c = search needs
-
-reading-place-requires : tie.Need-reading-place-requires
-reading-place-requires c κs = search needs
-
-reading-number-requires : tie.Need-reading-number-requires
-reading-number-requires c κs = search needs
+tell-reading-requires : tie.Need-tell-reading-requires
+tell-reading-requires c κs = search needs
 
 same-length : tie.Need-same-length
 same-length c = search needs
@@ -61,31 +49,13 @@ same-length-3 c = search needs
 
 returns-3 : tie.Need-returns-3
 returns-3 c =
-    let s = c .before .before .before .before .before in
-    let d = s .before .before .before .before .before .before in
+    let d = c .before .before .before .before .before .before .before .before .before in
     let k = d .before .before .before .before in
     let q = k .before .before in
     let e = q .before in
     let a = e .before .before .before .before .before .args in
     returns-chosen answerNumbers (a .answer .now) _ _ _ _ _ _ (sym (q .asked-by .ensures) ∙ k .chosen .given .1) _
-    (returns-read answerNumbers (a .answer .now) _ _ _ _ (omega (arith, e .if1 .left)) _ _ _ _ (given-as (d .read .ensures .0) (s .s .given .1)) (c .before .before .put-summary .ensures))
-
-same-length-4 : tie.Need-same-length-4
-same-length-4 c = search needs
-
-same-length-5 : tie.Need-same-length-5
-same-length-5 c = search needs
-
-returns-4 : tie.Need-returns-4
-returns-4 c =
-    let s = c .before .before .before in
-    let d = s .before .before .before .before .before .before in
-    let k = d .before .before .before .before in
-    let q = k .before .before in
-    let e = q .before in
-    let a = e .before .before .before .before .before .args in
-    returns-chosen answerNumbers (a .answer .now) _ _ _ _ _ _ (sym (q .asked-by .ensures) ∙ k .chosen .given .1) _
-    (returns-refusal answerNumbers (a .answer .now) _ _ _ _ (omega (arith, e .if1 .left)) _ _ _ _ _ _ (given-as (d .read .ensures .0) (s .r .given .1)) (c .reading-number .ensures) (c .before .reading-place .ensures))
+    (returns-told answerNumbers (a .answer .now) _ _ _ _ (omega (arith, e .if1 .left)) _ _ _ _ _ _ (ap givenOf (d .read .ensures .0)) (c .before .before .tell-reading .ensures))
 
 pub dsr-read-spec : {M : Type 1} → statement M
 dsr-read-spec =
@@ -97,15 +67,8 @@ dsr-read-spec =
     enum-told
     returns-2
     read-requires
-    enum-known-s
-    put-summary-requires
-    enum-known-r
-    reading-place-requires
-    reading-number-requires
+    tell-reading-requires
     same-length
     same-length-2
     same-length-3
-    returns-3
-    same-length-4
-    same-length-5
-    returns-4)
+    returns-3)

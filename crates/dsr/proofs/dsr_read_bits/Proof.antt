@@ -1,11 +1,11 @@
 -- The hunting reader's answer in numbers, by its two cases, of the choices that the number names. Assumes nothing.
-use mathlib.Core.Path.{sym, _∙_}
+use mathlib.Core.Path.{sym, ap, _∙_}
 use native.Mathlib.Omega.{arith}
 use Rattle.choices.specs.Choices.{asked}
 use Rattle.consistency.specs.Tables.{tablesOf}
 use Rattle.hunting.specs.Hunting.{huntingReading}
-use Rattle.entries.specs.Laws.{returns-no-room, returns-unchosen, returns-chosen, returns-read, returns-refusal}
-use Rattle.entries.specs.Bits.{countedNumbers, bitsGiven, bits-given-as}
+use Rattle.entries.specs.Laws.{returns-no-room, returns-unchosen, returns-chosen, returns-told}
+use Rattle.entries.specs.Bits.{countedNumbers, bitsGiven}
 use borrow.Author.Needs.{needs}
 use Rattle.dsr.proofs.dsr_read_bits.Statement.{statement}
 use Rattle.dsr.proofs.dsr_read_bits.Tie as tie
@@ -36,20 +36,8 @@ returns-2 c =
 read-requires : tie.Need-read-requires
 read-requires c κs = search needs
 
-enum-known-c : tie.Need-enum-known-c
-enum-known-c c = search needs
-
-put-counted-requires : tie.Need-put-counted-requires
-put-counted-requires c κs = search needs
-
-enum-known-r : tie.Need-enum-known-r
-enum-known-r c = search needs
-
-hunting-place-requires : tie.Need-hunting-place-requires
-hunting-place-requires c κs = search needs
-
-hunting-number-requires : tie.Need-hunting-number-requires
-hunting-number-requires c κs = search needs
+tell-hunting-reading-requires : tie.Need-tell-hunting-reading-requires
+tell-hunting-reading-requires c κs = search needs
 
 same-length : tie.Need-same-length
 same-length c = search needs
@@ -62,31 +50,13 @@ same-length-3 c = search needs
 
 returns-3 : tie.Need-returns-3
 returns-3 c =
-    let s = c .before .before .before .before .before in
-    let d = s .before .before .before .before .before .before in
+    let d = c .before .before .before .before .before .before .before .before .before in
     let k = d .before .before .before .before in
     let q = k .before .before in
     let e = q .before in
     let a = e .before .before .before .before .before .args in
     returns-chosen countedNumbers (a .answer .now) _ _ _ _ _ _ (sym (q .asked-by .ensures) ∙ k .chosen .given .1) _
-    (returns-read countedNumbers (a .answer .now) _ _ _ _ (omega (arith, e .if1 .left)) _ _ _ _ (bits-given-as (d .read .ensures) (s .c .given .1)) (c .before .before .put-counted .ensures))
-
-same-length-4 : tie.Need-same-length-4
-same-length-4 c = search needs
-
-same-length-5 : tie.Need-same-length-5
-same-length-5 c = search needs
-
-returns-4 : tie.Need-returns-4
-returns-4 c =
-    let s = c .before .before .before in
-    let d = s .before .before .before .before .before .before in
-    let k = d .before .before .before .before in
-    let q = k .before .before in
-    let e = q .before in
-    let a = e .before .before .before .before .before .args in
-    returns-chosen countedNumbers (a .answer .now) _ _ _ _ _ _ (sym (q .asked-by .ensures) ∙ k .chosen .given .1) _
-    (returns-refusal countedNumbers (a .answer .now) _ _ _ _ (omega (arith, e .if1 .left)) _ _ _ _ _ _ (bits-given-as (d .read .ensures) (s .r .given .1)) (c .hunting-number .ensures) (c .before .hunting-place .ensures))
+    (returns-told countedNumbers (a .answer .now) _ _ _ _ (omega (arith, e .if1 .left)) _ _ _ _ _ _ (ap bitsGiven (d .read .ensures)) (c .before .before .tell-hunting-reading .ensures))
 
 pub dsr-read-bits-spec : {M : Type 1} → statement M
 dsr-read-bits-spec =
@@ -98,15 +68,8 @@ dsr-read-bits-spec =
     enum-told
     returns-2
     read-requires
-    enum-known-c
-    put-counted-requires
-    enum-known-r
-    hunting-place-requires
-    hunting-number-requires
+    tell-hunting-reading-requires
     same-length
     same-length-2
     same-length-3
-    returns-3
-    same-length-4
-    same-length-5
-    returns-4)
+    returns-3)

@@ -11,36 +11,30 @@ use Rattle.dsr.proofs.dsr_write.Tie as tie
 fits-requires : tie.Need-fits-requires
 fits-requires c κs = search needs
 
-writing-place-requires : tie.Need-writing-place-requires
-writing-place-requires c κs = search needs
-
-writing-number-requires : tie.Need-writing-number-requires
-writing-number-requires c κs = search needs
+tell-written-requires : tie.Need-tell-written-requires
+tell-written-requires c κs = search needs
 
 returns : tie.Need-returns
 returns c =
     let f = c .before .before .before in
     let a = f .before .before .before .args in
-    unfit-refused (a .rate) (a .kind) (sym (f .fits2 .ensures) ∙ not-true _ (c .before .before .if1 .taken)) (a .indices .now) (a .out .now) _ _ (c .writing-number .ensures) (c .before .writing-place .ensures)
+    unfit-refused (a .rate) (a .kind) (sym (f .fits2 .ensures) ∙ not-true _ (c .before .before .if1 .taken)) (a .indices .now) (a .out .now) _ _ (c .tell-written .ensures .0) (c .tell-written .ensures .1)
+
+cast-t12 : tie.Need-cast-t12
+cast-t12 c =
+    let a = c .before .before .before .before .args in
+    let e = fit-octets (a .rate) (a .kind) (sym (c .before .fits2 .ensures) ∙ not-false _ (c .if1 .left)) in omega arith
 
 cast-t13 : tie.Need-cast-t13
 cast-t13 c =
     let a = c .before .before .before .before .args in
     let e = fit-octets (a .rate) (a .kind) (sym (c .before .fits2 .ensures) ∙ not-false _ (c .if1 .left)) in omega arith
 
-cast-t14 : tie.Need-cast-t14
-cast-t14 c =
-    let a = c .before .before .before .before .args in
-    let e = fit-octets (a .rate) (a .kind) (sym (c .before .fits2 .ensures) ∙ not-false _ (c .if1 .left)) in omega arith
-
 write-requires : tie.Need-write-requires
 write-requires c κs = search needs
 
-place-of-requires : tie.Need-place-of-requires
-place-of-requires c κs = search needs
-
-number-of-requires : tie.Need-number-of-requires
-number-of-requires c κs = search needs
+tell-written-requires-2 : tie.Need-tell-written-requires-2
+tell-written-requires-2 c κs = search needs
 
 same-length : tie.Need-same-length
 same-length c = search needs
@@ -48,20 +42,18 @@ same-length c = search needs
 returns-2 : tie.Need-returns-2
 returns-2 c =
     let e = c .before .before .before .before .write .ensures in
-    written-as (c .number-of .ensures ∙ e .1 .0) (ap (λ (o : Outcome). o .output) (e .0)) (c .before .place-of .ensures ∙ e .1 .1 .0)
+    let t = c .tell-written2 .ensures in written-as (t .0 ∙ e .1 .0) (ap (λ (o : Outcome). o .output) (e .0)) (t .1 ∙ e .1 .1 .0)
 
 pub dsr-write-spec : {M : Type 1} → statement M
 dsr-write-spec =
     tie.close
     (tie.spec
     fits-requires
-    writing-place-requires
-    writing-number-requires
+    tell-written-requires
     returns
+    cast-t12
     cast-t13
-    cast-t14
     write-requires
-    place-of-requires
-    number-of-requires
+    tell-written-requires-2
     same-length
     returns-2)

@@ -1,11 +1,11 @@
 -- Two stores behind the six of the summary. Assumes nothing.
-use Rattle.entries.proofs.Stored.{eight-stored}
+use Rattle.answers.proofs.Stored.{eight-stored}
 use borrow.Author.Needs.{needs}
-use Rattle.entries.proofs.put_counted.Statement.{statement}
-use Rattle.entries.proofs.put_counted.Tie as tie
-use Rattle.entries.proofs.put_counted.Reads as reads
-use Rattle.entries.proofs.put_counted.Lts as lts
-use Rattle.entries.proofs.put_summary.Reads as put-summary-reads
+use Rattle.answers.proofs.put_counted.Statement.{statement}
+use Rattle.answers.proofs.put_counted.Tie as tie
+use Rattle.answers.proofs.put_counted.Reads as reads
+use Rattle.answers.proofs.put_counted.Lts as lts
+use Rattle.answers.proofs.put_summary.Reads as put-summary-reads
 
 put-summary-requires : tie.Need-put-summary-requires
 put-summary-requires c κs = search needs

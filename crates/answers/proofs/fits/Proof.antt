@@ -1,7 +1,7 @@
 -- Each answer is that of the two tests. Assumes nothing.
 use borrow.Author.Tests.{lt-ltb, le-ltb}
-use Rattle.entries.proofs.fits.Statement.{statement}
-use Rattle.entries.proofs.fits.Tie as tie
+use Rattle.answers.proofs.fits.Statement.{statement}
+use Rattle.answers.proofs.fits.Tie as tie
 
 returns : tie.Need-returns
 returns c = rw (lt-ltb 255 (c .before .args .rate) (c .if1 .taken))

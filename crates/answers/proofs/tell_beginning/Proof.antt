@@ -1,0 +1,53 @@
+-- The answer before the end by its two cases. Assumes nothing.
+use mathlib.Core.Path.{sym, ap}
+use Rattle.entries.specs.Settle.{settleNumbers, settleTold}
+use Rattle.entries.specs.Laws.{tells-numbers, tells-refusal}
+use borrow.Author.Needs.{needs}
+use Rattle.answers.proofs.tell_beginning.Statement.{statement}
+use Rattle.answers.proofs.tell_beginning.Tie as tie
+use Rattle.answers.proofs.tell_beginning.Reads as reads
+use Rattle.answers.proofs.tell_beginning.Lts as lts
+use Rattle.answers.proofs.put_beginning.Reads as put-beginning-reads
+use Rattle.refusals.proofs.reading_number.Reads as reading-number-reads
+use Rattle.refusals.proofs.reading_place.Reads as reading-place-reads
+
+enum-known-a : tie.Need-enum-known-a
+enum-known-a c = search needs
+
+put-beginning-requires : tie.Need-put-beginning-requires
+put-beginning-requires c κs = search needs
+
+enum-known-a-2 : tie.Need-enum-known-a-2
+enum-known-a-2 c = search needs
+
+reading-place-requires : tie.Need-reading-place-requires
+reading-place-requires c κs = search needs
+
+reading-number-requires : tie.Need-reading-number-requires
+reading-number-requires c κs = search needs
+
+same-length : tie.Need-same-length
+same-length c = search needs
+
+returns : tie.Need-returns
+returns c =
+    let s = c .before .before .before .before .before in
+    tells-numbers settleNumbers _ _ _ _ _ (sym (ap settleTold (s .a .given .1))) (c .before .before .put-beginning .ensures)
+
+returns-2 : tie.Need-returns-2
+returns-2 c =
+    let s = c .before .before .before in
+    tells-refusal settleNumbers _ _ _ _ _ _ _ (sym (ap settleTold (s .a2 .given .1))) (c .reading-number .ensures) (c .before .reading-place .ensures)
+
+pub tell-beginning-spec : {M : Type 1} → statement M
+tell-beginning-spec =
+    tie.close
+    (tie.spec
+    enum-known-a
+    put-beginning-requires
+    enum-known-a-2
+    reading-place-requires
+    reading-number-requires
+    same-length
+    returns
+    returns-2)
