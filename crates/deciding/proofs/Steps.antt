@@ -11,7 +11,7 @@ use Rattle.lists.specs.Tests.{when}
 use Rattle.lists.specs.Parts.{over}
 use Rattle.layout.specs.Layout.{indexOctets, reportOctets}
 use Rattle.choices.specs.declared.Choices.{Choices}
-use Rattle.consistency.specs.Tables.{Tables}
+use Rattle.tables.specs.Tables.{Tables}
 use Rattle.settling.specs.Settling.{readings, settling, unfit}
 use Rattle.settling.specs.Stored.{openAll, packAll, stored-back}
 use Rattle.settling.specs.declared.Settlement.{Settlement}

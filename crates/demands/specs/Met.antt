@@ -19,8 +19,8 @@ use Rattle.lists.specs.Parts.{part, over}
 use Rattle.lists.specs.Search.{firstFrom}
 use Rattle.layout.specs.Layout.{frameIndices, packetBits, multiframePairs, streamOctets, indexOctets, reportOctets, codebookNumbers, thresholdNumbers, firstPair}
 use Rattle.choices.specs.declared.Choices.{Choices}
-use Rattle.consistency.specs.Tables.{at, zeroTables}
-use Rattle.consistency.specs.Admitted.{zero-right}
+use Rattle.tables.specs.Tables.{at, zeroTables}
+use Rattle.tables.specs.Admitted.{zero-right}
 use Rattle.settings.specs.Settings.{settings}
 use Rattle.frames.specs.Frames.{zeroFrame}
 use Rattle.carrier.specs.Carrier.{streamPacket}

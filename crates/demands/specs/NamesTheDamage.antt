@@ -19,7 +19,7 @@ use Rattle.lists.specs.Tests.{true-false, not-false}
 use Rattle.lists.specs.Parts.{part, over, part-right}
 use Rattle.layout.specs.Layout.{frameIndices, multiframeFrames, multiframeOctets, indexOctets, reportOctets, pairOf, firstFrame, secondFrame}
 use Rattle.choices.specs.declared.Choices.{Choices}
-use Rattle.consistency.specs.Tables.{Tables}
+use Rattle.tables.specs.Tables.{Tables}
 use Rattle.packet.specs.Packet.{frameAt}
 use Rattle.packet.specs.Laws.{length-row, row-inside, row-past}
 use Rattle.cutting.specs.Laws.{every-length}

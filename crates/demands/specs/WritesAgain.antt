@@ -13,7 +13,7 @@ use Rattle.lists.specs.Parts.{over, length-part}
 use Rattle.lists.specs.Rows.{each, length-each, each-at}
 use Rattle.layout.specs.Layout.{widths, frameIndices, dataBits, packetBits, multiframeFrames, multiframePairs, streamOctets, multiframeOctets, indexOctets, reportOctets, sync, syncFirst, syncSecond}
 use Rattle.choices.specs.declared.Choices.{Choices}
-use Rattle.consistency.specs.Tables.{Tables}
+use Rattle.tables.specs.Tables.{Tables}
 use Rattle.bits.specs.Bits.{bits}
 use Rattle.bits.specs.Laws.{length-bits}
 use Rattle.crc.specs.Crc.{Right, right}

@@ -14,7 +14,7 @@ ghost use mathlib.Core.Path.{_≡_};
 ghost use mathlib.Core.List.{[]};
 ghost use Rattle.lists.specs.Lent.{came, left};
 ghost use Rattle.choices.specs.Choices.{asked};
-ghost use Rattle.consistency.specs.Lent.{tablesIn};
+ghost use Rattle.tables.specs.Lent.{tablesIn};
 ghost use Rattle.header_code.specs.Code.{codeword};
 ghost use Rattle.header.specs.Reading.{reading};
 ghost use Rattle.entries.specs.Bits.{huntReturned, dsrHunt, dsrReadBits};

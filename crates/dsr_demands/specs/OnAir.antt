@@ -19,7 +19,7 @@ use Rattle.lists.specs.Parts.{over}
 use Rattle.layout.specs.Layout.{indexOctets, reportOctets, multiframePairs}
 use Rattle.choices.specs.declared.Choices.{Choices}
 use Rattle.choices.specs.declared.Asked.the-variants.{For}
-use Rattle.consistency.specs.Tables.{Tables}
+use Rattle.tables.specs.Tables.{Tables}
 use Rattle.settings.specs.declared.Settings.{Settings}
 use Rattle.bits.specs.Bits.{bits}
 use Rattle.reader.specs.Reading as R

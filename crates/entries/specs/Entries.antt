@@ -11,7 +11,7 @@ use Rattle.layout.specs.Layout.{streamOctets, indexOctets, multiframePairs}
 use Rattle.choices.specs.declared.Choices.{Choices}
 use Rattle.choices.specs.declared.Asked.{Asked}
 use Rattle.choices.specs.declared.Asked.the-variants.{For, NoSuchChoice}
-use Rattle.consistency.specs.Tables.{Tables}
+use Rattle.tables.specs.Tables.{Tables}
 use Rattle.settings.specs.Settings.{settings}
 use Rattle.bits.specs.Bits.{bits, octets}
 use Rattle.carrier.specs.Carrier.{streamPacket}

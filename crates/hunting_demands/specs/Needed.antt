@@ -19,8 +19,8 @@ use Rattle.lists.specs.Rows.{each, joined, length-joined, joined-part}
 use Rattle.layout.specs.Layout.{packetBits, multiframePairs, multiframeOctets, mostMultiframes, indexOctets, reportOctets, syncFirst, syncSecond}
 use Rattle.choices.specs.Choices.{oneSettles, byDefault, oneHeaderSettles}
 use Rattle.choices.specs.declared.Choices.{Choices}
-use Rattle.consistency.specs.Tables.{Tables, RightTables, zeroTables}
-use Rattle.consistency.specs.Admitted.{right-passes}
+use Rattle.tables.specs.Tables.{Tables, RightTables, zeroTables}
+use Rattle.tables.specs.Admitted.{right-passes}
 use Rattle.settings.specs.Settings.{settings}
 use Rattle.bits.specs.Bits.{field, fields, value, bits}
 use Rattle.bits.specs.Laws.{length-field, length-bits}

@@ -17,8 +17,8 @@ use Rattle.lists.specs.Parts.{part, over}
 use Rattle.lists.specs.Rows.{joined, each, each-at, same-each}
 use Rattle.layout.specs.Layout.{indexOctets, reportOctets, firstPair, multiframePairs}
 use Rattle.choices.specs.declared.Choices.{Choices}
-use Rattle.consistency.specs.Tables.{Tables, tablesOf, zeroTables}
-use Rattle.consistency.specs.Admitted.{none-by-test, zero-right}
+use Rattle.tables.specs.Tables.{Tables, tablesOf, zeroTables}
+use Rattle.tables.specs.Admitted.{none-by-test, zero-right}
 use Rattle.settings.specs.Settings.{settings}
 use Rattle.frames.specs.Frames.{zeroFrame}
 use Rattle.bits.specs.Bits.{value, numbers, field, fields, total}

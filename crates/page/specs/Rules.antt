@@ -24,7 +24,7 @@ use Rattle.consistency.specs.Consistency.{exceeding, elementExceeds, flagged, f
 use Rattle.replacing.specs.Replacing.{source, sourceBy, runStart, leading}
 use Rattle.replacing.specs.Examples.{standIns}
 use Rattle.replacing.specs.Speech.{lastNonzero, speechOf, endOf}
-use Rattle.consistency.specs.Tables.{tablesOf}
+use Rattle.tables.specs.Tables.{tablesOf}
 use Rattle.consistency.specs.Laws.{inconsistent-turned}
 
 -- ---- tables

@@ -41,7 +41,7 @@ use Rattle.demands.specs.Met.{indexFor, reportFor, burstAt, doubleAt, distance,
 use Rattle.demands.specs.Whole.{headerNoteIn, pairNoteIn}
 use Rattle.demands.specs.ReadsBack as R
 use Rattle.demands.specs.NamesTheDamage as N
-use Rattle.consistency.specs.Tables.{zeroTables}
+use Rattle.tables.specs.Tables.{zeroTables}
 
 -- n frames of ones
 abbrev pub ones : ℕ → List ℕ

@@ -19,7 +19,7 @@ use Rattle.lists.specs.Rows.{same-joined}
 use Rattle.lists.specs.Search.{firstFrom}
 use Rattle.layout.specs.Layout.{multiframeOctets, widths, frameIndices, dataBits, packetBits, multiframePairs, indexOctets, reportOctets, firstFrame, secondFrame, firstPair}
 use Rattle.choices.specs.declared.Choices.{Choices}
-use Rattle.consistency.specs.Tables.{Tables, zeroTables}
+use Rattle.tables.specs.Tables.{Tables, zeroTables}
 use Rattle.settings.specs.declared.Settings.{Settings}
 use Rattle.settings.specs.Settings.{settings}
 use Rattle.frames.specs.Frames.{zeroFrame}

@@ -21,7 +21,7 @@ use Rattle.lists.specs.Rows.{each}
 use Rattle.layout.specs.Layout.{frameIndices, dataBits, multiframeFrames, multiframePairs, multiframeOctets, syncOctets, headerOctets, pairOf, firstFrame, secondFrame, firstPair, inverseFirst, inverseSecond}
 use Rattle.choices.specs.Choices.{byDefault, oneHeaderSettles}
 use Rattle.choices.specs.declared.Choices.{Choices}
-use Rattle.consistency.specs.Tables.{Tables, zeroTables}
+use Rattle.tables.specs.Tables.{Tables, zeroTables}
 use Rattle.settings.specs.Settings.{settings}
 use Rattle.settings.specs.declared.Settings.{Settings}
 use Rattle.frames.specs.Frames.{allZero, zeroFrame, all-zero-at, Nonzero}

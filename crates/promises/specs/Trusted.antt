@@ -15,7 +15,7 @@ use Rattle.lists.specs.Parts.{over}
 use Rattle.lists.specs.Rows.{each-at}
 use Rattle.layout.specs.Layout.{multiframePairs, multiframeOctets, indexOctets, reportOctets, sync}
 use Rattle.choices.specs.declared.Choices.{Choices}
-use Rattle.consistency.specs.Tables.{Tables}
+use Rattle.tables.specs.Tables.{Tables}
 use Rattle.settings.specs.declared.Settings.{Settings}
 use Rattle.packet.specs.Packet.{packetOf}
 use Rattle.header_code.specs.Code.{codeword, flipsTo}

@@ -11,10 +11,10 @@ use lib.Dec.{eqb}
 use Rattle.lists.specs.Tests.{when}
 use Rattle.choices.specs.Choices.{oneSettles}
 use Rattle.choices.specs.declared.Choices.{Choices}
-use Rattle.consistency.specs.Tables.{Tables, admission, ifAdmitted}
-use Rattle.consistency.specs.Admitted.{passes-right}
-use Rattle.consistency.specs.declared.Admission.{Admission}
-use Rattle.consistency.specs.declared.Admission.the-variants as A
+use Rattle.tables.specs.Tables.{Tables, admission, ifAdmitted}
+use Rattle.tables.specs.Admitted.{passes-right}
+use Rattle.tables.specs.declared.Admission.{Admission}
+use Rattle.tables.specs.declared.Admission.the-variants as A
 use Rattle.refusals.specs.declared.Reading.the-variants.{Empty, Unsettled}
 use Rattle.cutting.specs.Cutting.{Ending, whole, refused, cutting}
 use Rattle.cutting.specs.Reached.{whole-exactly}

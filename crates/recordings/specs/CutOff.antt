@@ -19,7 +19,7 @@ use Rattle.lists.specs.Rows.{each-at, same-joined}
 use Rattle.layout.specs.Layout.{frameIndices, dataBits, multiframeFrames, multiframePairs, multiframeOctets, mostMultiframes, indexOctets, reportOctets, firstPair, sync, syncFirst, syncSecond}
 use Rattle.choices.specs.Choices.{oneHeaderSettles}
 use Rattle.choices.specs.declared.Choices.{Choices}
-use Rattle.consistency.specs.Tables.{Tables, RightTables, zeroTables}
+use Rattle.tables.specs.Tables.{Tables, RightTables, zeroTables}
 use Rattle.settings.specs.declared.Settings.{Settings}
 use Rattle.settings.specs.Settings.{settings}
 use Rattle.frames.specs.Frames.{zeroFrame}

@@ -14,7 +14,7 @@ use Rattle.lists.specs.Parts.{part, over, part-left, part-right}
 use Rattle.lists.specs.Rows.{each, length-each, each-at, same-each}
 use Rattle.layout.specs.Layout.{widths, frameIndices, multiframeFrames, multiframePairs, streamOctets, multiframeOctets, mostMultiframes, indexOctets, reportOctets, pairOf, firstFrame, secondFrame, sync}
 use Rattle.choices.specs.declared.Choices.{Choices}
-use Rattle.consistency.specs.Tables.{Tables}
+use Rattle.tables.specs.Tables.{Tables}
 use Rattle.frames.specs.Frames.{allZero, zeroFrame, all-zero-at, Nonzero}
 use Rattle.bits.specs.Bits.{value, bits}
 use Rattle.packet.specs.Packet.{apart, frameAt, packetOf}

@@ -12,7 +12,7 @@ use Rattle.lists.specs.Parts.{part, over}
 use Rattle.lists.specs.Rows.{each, joined, same-each, same-joined}
 use Rattle.layout.specs.Layout.{widths, frameIndices, dataBits, multiframePairs, streamOctets, multiframeOctets, indexOctets, reportOctets, firstPair}
 use Rattle.choices.specs.declared.Choices.{Choices}
-use Rattle.consistency.specs.Tables.{Tables, admission, ifAdmitted}
+use Rattle.tables.specs.Tables.{Tables, admission, ifAdmitted}
 use Rattle.bits.specs.Bits.{value, bits}
 use Rattle.crc.specs.Crc.{right}
 use Rattle.packet.specs.Packet.{apart}

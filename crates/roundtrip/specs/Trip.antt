@@ -14,8 +14,8 @@ use Rattle.lists.specs.Parts.{over, length-over}
 use Rattle.lists.specs.Search.{firstFrom}
 use Rattle.layout.specs.Layout.{indexOctets, reportOctets, codebookNumbers}
 use Rattle.choices.specs.Choices.{oneHeaderSettles}
-use Rattle.consistency.specs.Tables.{Tables, tablesOf, zeroTables, RightSizes, FirstNegative, sizesRight, admission}
-use Rattle.consistency.specs.Admitted.{wrong-sizes, negative-refused, ten-exactly}
+use Rattle.tables.specs.Tables.{Tables, tablesOf, zeroTables, RightSizes, FirstNegative, sizesRight, admission}
+use Rattle.tables.specs.Admitted.{wrong-sizes, negative-refused, ten-exactly}
 use Rattle.settings.specs.declared.Settings.{Settings}
 use Rattle.settings.specs.Settings.{settings}
 use Rattle.writer.specs.Writing as W

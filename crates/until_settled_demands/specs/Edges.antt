@@ -9,7 +9,7 @@ use native.Mathlib.Omega.{arith}
 use Rattle.choices.specs.Choices.{byDefault, oneHeaderSettles}
 use Rattle.choices.specs.declared.Choices.{Choices}
 use Rattle.choices.specs.declared.Asked.the-variants.{For}
-use Rattle.consistency.specs.Tables.{Tables}
+use Rattle.tables.specs.Tables.{Tables}
 use Rattle.message.specs.Message.{settingsOf}
 use Rattle.refusals.specs.declared.Reading.the-variants.{Unknown, CutShort, TooMany, Unfit}
 use Rattle.refusals.specs.declared.Reading.{Reading as Refusal}

@@ -9,7 +9,7 @@ use lib.ListN.{length}
 use native.Mathlib.Omega.{arith}
 use Rattle.choices.specs.declared.Choices.{Choices}
 use Rattle.choices.specs.declared.Asked.the-variants.{For}
-use Rattle.consistency.specs.Tables.{Tables, RightTables}
+use Rattle.tables.specs.Tables.{Tables, RightTables}
 use Rattle.refusals.specs.declared.Reading.{Reading as Refusal}
 use Rattle.refusals.specs.declared.Reading.the-variants.{Unknown, TooMany, Unfit}
 use Rattle.settling.specs.Settling.{firstAgreeing, unfit}

@@ -12,7 +12,7 @@ use native.Mathlib.Omega.{arith}
 use Rattle.lists.specs.Tests.{true-false}
 use Rattle.choices.specs.declared.Choices.{Choices}
 use Rattle.settings.specs.declared.Settings.{Settings}
-use Rattle.consistency.specs.Tables.{Tables, RightTables}
+use Rattle.tables.specs.Tables.{Tables, RightTables}
 use Rattle.message.specs.Message.{settingsOf}
 use Rattle.refusals.specs.declared.Reading.{Reading as Refusal}
 use Rattle.refusals.specs.declared.Reading.the-variants.{WrongTables, NegativeThreshold, Unknown, CutShort, Empty, TooMany, Unsettled, Unfit, IndexShort, ReportShort, AllBad}

@@ -6,8 +6,8 @@ use mathlib.Core.Bool.{Bool, true, false}
 use Rattle.lists.specs.Search as S
 use Rattle.layout.specs.Layout.{thresholdNumbers}
 use Rattle.refusals.specs.declared.Reading.the-variants.{WrongTables, NegativeThreshold}
-use Rattle.consistency.specs.Tables.{Tables, at, negative, sizesRight, firstNegative, signAdmission, admission}
-use Rattle.consistency.specs.declared.Admission.the-variants.{Admitted, Refused}
+use Rattle.tables.specs.Tables.{Tables, at, negative, sizesRight, firstNegative, signAdmission, admission}
+use Rattle.tables.specs.declared.Admission.the-variants.{Admitted, Refused}
 
 module _ (tables : Tables) where
   abbrev test : ℕ → Bool

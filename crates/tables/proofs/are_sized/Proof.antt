@@ -2,9 +2,9 @@
 use lib.ListN.{length}
 use borrow.Author.Tests.{eq-eqb, ne-eqb}
 use Rattle.layout.specs.Layout.{codebookNumbers}
-use Rattle.consistency.specs.Tables.{sizesRight}
-use Rattle.consistency.proofs.are_sized.Statement.{statement}
-use Rattle.consistency.proofs.are_sized.Tie as tie
+use Rattle.tables.specs.Tables.{sizesRight}
+use Rattle.tables.proofs.are_sized.Statement.{statement}
+use Rattle.tables.proofs.are_sized.Tie as tie
 
 returns : tie.Need-returns
 unfolding sizesRight

@@ -14,8 +14,8 @@ use Rattle.lists.specs.Search as S
 use Rattle.layout.specs.Layout.{codebookNumbers, thresholdNumbers}
 use Rattle.refusals.specs.declared.Reading.{Reading}
 use Rattle.refusals.specs.declared.Reading.the-variants.{WrongTables, NegativeThreshold}
-use Rattle.consistency.specs.declared.Admission.{Admission}
-use Rattle.consistency.specs.declared.Admission.the-variants.{Admitted, Refused}
+use Rattle.tables.specs.declared.Admission.{Admission}
+use Rattle.tables.specs.declared.Admission.the-variants.{Admitted, Refused}
 
 pub record Tables : Type 0 where
   pub codebook : List ℤ

@@ -6,11 +6,11 @@ use native.Mathlib.Omega.{arith}
 use Rattle.lists.specs.Tests.{not-false, not-true}
 use borrow.Author.Needs.{needs}
 use Rattle.layout.specs.Layout.{thresholdNumbers}
-use Rattle.consistency.specs.Tables.{tablesOf}
-use Rattle.consistency.specs.Admitted.{pass-sizes}
-use Rattle.consistency.proofs.Admitting.{Looked, not-sized, begins, stops, goes-on, ends}
-use Rattle.consistency.proofs.admit.Statement.{statement}
-use Rattle.consistency.proofs.admit.Tie as tie
+use Rattle.tables.specs.Tables.{tablesOf}
+use Rattle.tables.specs.Admitted.{pass-sizes}
+use Rattle.tables.proofs.Admitting.{Looked, not-sized, begins, stops, goes-on, ends}
+use Rattle.tables.proofs.admit.Statement.{statement}
+use Rattle.tables.proofs.admit.Tie as tie
 
 abbrev Inv-loop : tie.InvT-loop
 Inv-loop codebook thresholds k₀ k = Looked (tablesOf codebook thresholds) k

@@ -14,9 +14,9 @@ use Rattle.lists.specs.Search as S
 use Rattle.layout.specs.Layout.{codebookNumbers, thresholdNumbers}
 use Rattle.refusals.specs.declared.Reading.{Reading}
 use Rattle.refusals.specs.declared.Reading.the-variants as R
-use Rattle.consistency.specs.Tables.{Tables, at, negative, RightSizes, NoneNegative, RightTables, FirstNegative, sizesRight, firstNegative, signAdmission, admission, zeroTables}
-use Rattle.consistency.specs.declared.Admission.{Admission}
-use Rattle.consistency.specs.declared.Admission.the-variants.{Admitted, Refused}
+use Rattle.tables.specs.Tables.{Tables, at, negative, RightSizes, NoneNegative, RightTables, FirstNegative, sizesRight, firstNegative, signAdmission, admission, zeroTables}
+use Rattle.tables.specs.declared.Admission.{Admission}
+use Rattle.tables.specs.declared.Admission.the-variants.{Admitted, Refused}
 
 module _ (tables : Tables) where
   -- ---- the sizes

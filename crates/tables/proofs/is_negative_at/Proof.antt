@@ -1,10 +1,10 @@
 -- `is_negative_at` meets its contract: the call is handed the threshold that stands there.
 -- Assumes nothing.
 use borrow.Author.Needs.{needs, sfits-of}
-use Rattle.consistency.specs.Tables.{at, negative}
-use Rattle.consistency.proofs.Signed.{handed-one}
-use Rattle.consistency.proofs.is_negative_at.Statement.{statement}
-use Rattle.consistency.proofs.is_negative_at.Tie as tie
+use Rattle.tables.specs.Tables.{at, negative}
+use Rattle.tables.proofs.Signed.{handed-one}
+use Rattle.tables.proofs.is_negative_at.Statement.{statement}
+use Rattle.tables.proofs.is_negative_at.Tie as tie
 
 mul-t : tie.Need-mul-t
 mul-t c = search needs
