@@ -8,11 +8,11 @@ use lib.ListN.{replicate}
 use denote.Ref.{now}
 use Rattle.layout.specs.Layout.{frameIndices}
 use Rattle.bits.specs.Bits.{value, laid}
 use Rattle.packet.specs.Packet.{row}
-use Rattle.packet.proofs.Steps.{frame-none, frame-past, frame-more, frame-last}
+use Rattle.packing.proofs.Steps.{frame-none, frame-past, frame-more, frame-last}
 use borrow.Author.Needs.{needs}
-use Rattle.packet.proofs.frame_word.Statement.{statement}
-use Rattle.packet.proofs.frame_word.Tie as tie
+use Rattle.packing.proofs.frame_word.Statement.{statement}
+use Rattle.packing.proofs.frame_word.Tie as tie
 
 abbrev Inv-loop : tie.InvT-loop
 Inv-loop idx from x₀ i₀ x i = (i ≤ 6) × (x ≡ value (laid (replicate i 6) (row idx from i)))

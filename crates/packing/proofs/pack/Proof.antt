@@ -8,11 +8,11 @@ use denote.Ref.{now}
 use Rattle.layout.specs.Layout.{widths, frameBits, firstFrame, secondFrame}
 use Rattle.bits.specs.Bits.{value, field}
 use Rattle.crc.specs.Crc.{crc}
 use Rattle.packet.specs.Packet.{frame, frameAt}
-use Rattle.packet.proofs.Steps.{word-small, pack-law, low-small, high-small}
+use Rattle.packing.proofs.Steps.{word-small, pack-law, low-small, high-small}
 use borrow.Author.Needs.{needs}
-use Rattle.packet.proofs.pack.Statement.{statement}
-use Rattle.packet.proofs.pack.Tie as tie
+use Rattle.packing.proofs.pack.Statement.{statement}
+use Rattle.packing.proofs.pack.Tie as tie
 
 first-requires : tie.Need-first-requires
 first-requires c κs = search needs

@@ -1,10 +1,10 @@
 -- `packet::crc_of` meets its contract: five octets of the first frame, then its last four bits and the second frame.
 -- Assumes nothing.
 use mathlib.Core.Path.{_∙_}
-use Rattle.packet.proofs.Steps.{crc-law}
+use Rattle.packing.proofs.Steps.{crc-law}
 use borrow.Author.Needs.{needs}
-use Rattle.packet.proofs.crc_of.Statement.{statement}
-use Rattle.packet.proofs.crc_of.Tie as tie
+use Rattle.packing.proofs.crc_of.Statement.{statement}
+use Rattle.packing.proofs.crc_of.Tie as tie
 
 new-requires : tie.Need-new-requires
 new-requires c κs = search needs
