@@ -67,7 +67,7 @@ pub extern "C" fn dsr_pack(indices: &[u8], stream: &mut [u8]) -> u32
     match writer::first_wide(indices) {
         Found::At(f) => refusals::writing_number(Writing::WideIndex { frame: f }),
         Found::Nowhere => {
-            packing::put_stream(indices, Pair(0), stream, 0);
+            streams::put_stream(indices, Pair(0), stream, 0);
             refusals::SUCCESS
         }
     }

@@ -1,39 +1,21 @@
-// Frames and pair packets of a feature stream, written by words: a frame is 44 bits of a word, a packet a word of 64 bits and 28
-// more, two packets 23 whole octets.
+// Frames and pair packets of a feature stream, made by words: a frame is 44 bits of a word, a packet a word of 64 bits and 28 more.
 use crc::Crc;
 use layout::Frame;
 use layout::FrameLayout;
-use layout::MultiframeLayout;
 use layout::PacketLayout;
 use layout::Pair;
 ghost use mathlib.Core.Path.{_≡_};
 ghost use mathlib.Core.List.{_++_};
 ghost use Prim.Native.Nat.{_+_, _%_, _^_, _≤_, _<_};
 ghost use lib.ListN.{length};
-ghost use Rattle.lists.specs.Parts.{over};
-ghost use Rattle.lists.specs.Lent.{came, left};
-ghost use Rattle.layout.specs.Layout.{widths, frameIndices, frameBits, multiframePairs, streamOctets};
-ghost use Rattle.bits.specs.Bits.{field, value, octets};
+ghost use Rattle.lists.specs.Lent.{came};
+ghost use Rattle.layout.specs.Layout.{widths, frameIndices, frameBits};
+ghost use Rattle.bits.specs.Bits.{field, value};
 ghost use Rattle.crc.specs.Crc.{crc, code};
-ghost use Rattle.packet.specs.Packet.{restBits, halfBits, twoPackets, frame, frameAt, packetOf, stream};
+ghost use Rattle.packet.specs.Packet.{restBits, halfBits, frame, frameAt, packetOf};
 
-// Bits of a word, and the packet's bits that are left when one is full.
+// Bits of a word.
 const WORD: usize = 64;
-
-const REST: usize = PacketLayout::BITS - WORD;
-
-// Octets of two packets, and of a word.
-const TWO: usize = 2 * PacketLayout::BITS / 8;
-
-const FULL: usize = WORD / 8;
-
-// Of two packets the second begins in the middle of this octet, behind these bits of the first.
-const ODD: usize = PacketLayout::BITS / 8;
-
-const HALF: usize = PacketLayout::BITS % 8;
-
-// Octets of what is left of a packet when a word is full, with half an octet that is not its own.
-const TAIL: usize = (REST + HALF) / 8;
 
 // A frame's whole octets, their bits, and the bits behind them; with the CRC's four bits more a frame is one octet more.
 const WHOLE: u32 = (FrameLayout::BITS / 8) as u32;
@@ -106,32 +88,5 @@ pub fn pack(idx: &[u8], q: Pair, lead: u64, n: usize) -> Packed
     Packed {
         low: lead | (a << n) | (b << (FrameLayout::BITS + n)),
         high: (b >> (WORD - FrameLayout::BITS - n)) | (c << (PacketLayout::DATA_BITS - WORD + n)),
-    }
-}
-
-// put_two stores the packets of pairs q and q + 1 from octet at on, and reads nothing back. The second is packed behind the bits of the first
-// that share its octet, so that each store is a word or half of one as it stands: of two words joined in a store the compiler makes octets.
-fn put_two(idx: &[u8], q: Pair, out: &mut [u8], at: usize)
-    requires { ⌜ (length (now idx) % frameIndices ≡ 0) × (q .0 + 1 < 2 ^ 20) ⌝ }
-    requires { ⌜ at + twoPackets ≤ length (now out) ⌝ }
-    ensures { λ _. ⌜ left out ≡ over (came out) at twoPackets (octets twoPackets (stream (came idx) (q .0) 2)) ⌝ }
-{
-    let a = pack(idx, q, 0, 0);
-    let b = pack(idx, Pair(q.0 + 1), a.high >> (REST - HALF), HALF);
-    bits::store(out, at, a.low, FULL);
-    bits::store(out, at + FULL, a.high, TAIL);
-    bits::store(out, at + ODD, b.low, FULL);
-    bits::store(out, at + ODD + FULL, b.high, TAIL);
-}
-
-// put_stream stores a multiframe's stream, the packets of twelve pairs from pair q on, from octet at on; every other octet stays.
-// It asks for whole frames and for room.
-pub fn put_stream(idx: &[u8], q: Pair, out: &mut [u8], at: usize)
-    requires { ⌜ (length (now idx) % frameIndices ≡ 0) × (q .0 + multiframePairs < 2 ^ 20) ⌝ }
-    requires { ⌜ at + streamOctets ≤ length (now out) ⌝ }
-    ensures { λ _. ⌜ left out ≡ over (came out) at streamOctets (octets streamOctets (stream (came idx) (q .0) multiframePairs)) ⌝ }
-{
-    for g in 0..MultiframeLayout::PAIRS / 2 {
-        put_two(idx, Pair(q.0 + 2 * g), out, at + TWO * g);
     }
 }

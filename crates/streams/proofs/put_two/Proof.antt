@@ -3,10 +3,10 @@
 use native.Mathlib.Omega.{arith}
 use denote.Ref.{now}
 use Rattle.bits.specs.Bits.{field}
-use Rattle.packing.proofs.Steps.{put-two-law}
+use Rattle.streams.proofs.Steps.{put-two-law}
 use borrow.Author.Needs.{needs}
-use Rattle.packing.proofs.put_two.Statement.{statement}
-use Rattle.packing.proofs.put_two.Tie as tie
+use Rattle.streams.proofs.put_two.Statement.{statement}
+use Rattle.streams.proofs.put_two.Tie as tie
 
 pack-requires : tie.Need-pack-requires
 pack-requires c κs = search needs

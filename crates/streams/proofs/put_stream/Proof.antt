@@ -8,10 +8,10 @@ use denote.Ref.{now}
 use Rattle.lists.specs.Parts.{over}
 use Rattle.bits.specs.Bits.{octets}
 use Rattle.packet.specs.Packet.{twoPackets, stream}
-use Rattle.packing.proofs.Steps.{stream-none, stream-more}
+use Rattle.streams.proofs.Steps.{stream-none, stream-more}
 use borrow.Author.Needs.{needs}
-use Rattle.packing.proofs.put_stream.Statement.{statement}
-use Rattle.packing.proofs.put_stream.Tie as tie
+use Rattle.streams.proofs.put_stream.Statement.{statement}
+use Rattle.streams.proofs.put_stream.Tie as tie
 
 abbrev Inv-loop : tie.InvT-loop
 Inv-loop idx q out₀ at g₀ out g = (g ≤ 6) × (length out ≡ length out₀) × (out ≡ over out₀ at (twoPackets * g) (octets (twoPackets * g) (stream idx (q .0) (2 * g))))
