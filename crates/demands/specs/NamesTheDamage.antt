@@ -23,7 +23,8 @@ use Rattle.tables.specs.Tables.{Tables}
 use Rattle.packet.specs.Packet.{frameAt}
 use Rattle.packet.specs.Laws.{length-row, row-inside, row-past}
 use Rattle.cutting.specs.Laws.{every-length}
-use Rattle.settling.specs.Settling.{readings, settling}
+use Rattle.header_readings.specs.Readings.{readings}
+use Rattle.settling.specs.Settling.{settling}
 use Rattle.carrier.specs.Carrier.{received, pairCount}
 use Rattle.notes.specs.Laws.{length-notes, length-all, frames-at}
 use Rattle.bad_pairs.specs.BadPairs.{bad, badPairs}

@@ -30,7 +30,8 @@ use Rattle.packet.specs.Laws.{length-row, getD-row}
 use Rattle.cutting.specs.Laws.{every-length}
 use Rattle.message.specs.Message.{settingsOf}
 use Rattle.header.specs.declared.Header.the-variants.{Lost}
-use Rattle.settling.specs.Settling.{readings, headerNote}
+use Rattle.header_readings.specs.Readings.{readings}
+use Rattle.header_notes.specs.HeaderNotes.{headerNote}
 use Rattle.settling.specs.Laws.{Enough}
 use Rattle.carrier.specs.Carrier.{received, pairCount}
 use Rattle.notes.specs.Laws.{length-notes, length-all}

@@ -22,8 +22,10 @@ use Rattle.cutting.specs.Laws.{every, every-length, every-at, whole-image}
 use Rattle.header.specs.Reading as H
 use Rattle.header.specs.declared.Header.the-variants.{Lost}
 use Rattle.settling.specs.declared.Settlement.the-variants as S
-use Rattle.settling.specs.Settling.{readings, settling, headerNote}
-use Rattle.settling.specs.Laws.{Usable, fit-is}
+use Rattle.header_readings.specs.Readings.{readings}
+use Rattle.settling.specs.Settling.{settling}
+use Rattle.header_notes.specs.HeaderNotes.{headerNote}
+use Rattle.unfit.specs.Laws.{Usable, fit-is}
 use Rattle.carrier.specs.Carrier.{streamFrom, headerWord, streamPacket, wordAt, streamAt, inPlaces, received, pairCount}
 use Rattle.bad_pairs.specs.BadPairs.{badPairs}
 use Rattle.deciding.specs.Deciding.{roomVerdict, settledVerdict, wholeVerdict, receivedNotes}

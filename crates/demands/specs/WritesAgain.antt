@@ -26,7 +26,8 @@ use Rattle.header.specs.declared.Header.{Header}
 use Rattle.header.specs.declared.Header.the-variants.{Lost}
 use Rattle.cutting.specs.Cutting.{cutting}
 use Rattle.cutting.specs.Laws.{every-at, no-inverse, sound, place-stands}
-use Rattle.settling.specs.Settling.{readings, headerNote}
+use Rattle.header_readings.specs.Readings.{readings}
+use Rattle.header_notes.specs.HeaderNotes.{headerNote}
 use Rattle.carrier.specs.Carrier.{received, pairCount}
 use Rattle.notes.specs.Notes.{pairFails, framesOf, pairInconsistent, pairNotes}
 use Rattle.notes.specs.Laws.{length-notes, length-all, frames-at}

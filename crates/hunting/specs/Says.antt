@@ -23,7 +23,7 @@ use Rattle.cutting.specs.Cutting.{Cutting, cutting, whole as uncut}
 use Rattle.cutting.specs.Laws.{every, every-length, whole-image}
 use Rattle.settling.specs.declared.Settlement.{Settlement}
 use Rattle.settling.specs.declared.Settlement.the-variants as S
-use Rattle.settling.specs.Settling.{unfit}
+use Rattle.unfit.specs.Unfit.{unfit}
 use Rattle.hunt.specs.Hunt.{multiframeBits, inRange, searched, passes, placesLeft}
 use Rattle.reader.specs.Reading as R
 use Rattle.deciding.specs.Deciding.{receivedNotes, roomVerdict, settledVerdict, wholeVerdict}

@@ -42,7 +42,8 @@ use Rattle.header.specs.Reading.Laws.{near}
 use Rattle.header.specs.declared.Decoded.{Decoded}
 use Rattle.header.specs.declared.Header.{Header}
 use Rattle.header.specs.declared.Header.the-variants.{Codeword, Lost}
-use Rattle.settling.specs.Settling.{readings, settling, firstAgreeing}
+use Rattle.header_readings.specs.Readings.{readings}
+use Rattle.settling.specs.Settling.{settling, firstAgreeing}
 use Rattle.settling.specs.declared.Settlement.the-variants as S
 use Rattle.hunt.specs.Hunt.{syncBits, headerBits, multiframeBits, fewestMatches, sync, matches, passes, searched}
 use Rattle.hunt.specs.Laws.{searched-all}

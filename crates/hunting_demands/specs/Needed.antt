@@ -39,8 +39,11 @@ use Rattle.header.specs.Reading.Laws.{mended}
 use Rattle.header.specs.declared.Decoded.{Decoded}
 use Rattle.header.specs.declared.Header.{Header}
 use Rattle.header.specs.declared.Header.the-variants.{Codeword}
-use Rattle.settling.specs.Settling.{readings, settling, firstAgreeing}
-use Rattle.settling.specs.Laws.{length-readings, one-default, two-or-more, only-clean, only-mended, Usable, fit-is}
+use Rattle.header_readings.specs.Readings.{readings}
+use Rattle.settling.specs.Settling.{settling, firstAgreeing}
+use Rattle.header_readings.specs.Laws.{length-readings}
+use Rattle.settling.specs.Laws.{one-default, two-or-more, only-clean, only-mended}
+use Rattle.unfit.specs.Laws.{Usable, fit-is}
 use Rattle.settling.specs.declared.Settlement.the-variants as S
 use Rattle.hunt.specs.Hunt.{syncBits, headerBits, multiframeBits, fewestMatches, inRange, sync, matches, passes, searched, placesLeft}
 use Rattle.hunt.specs.Laws.{searched-all, in-range}

@@ -33,8 +33,12 @@ use Rattle.header.specs.Reading.Laws.{lost-at-three}
 use Rattle.header.specs.declared.Header.{Header}
 use Rattle.header.specs.declared.Header.the-variants.{Codeword, Lost}
 use Rattle.cutting.specs.Cutting.{syncMet, lastMet, pieceBy, whole, Cutting, walk, cutting}
-use Rattle.settling.specs.Settling.{readings, firstAgreeing, settling, headerNote}
-use Rattle.settling.specs.Laws.{all-agree, note-lost, Usable}
+use Rattle.header_readings.specs.Readings.{readings}
+use Rattle.settling.specs.Settling.{firstAgreeing, settling}
+use Rattle.header_notes.specs.HeaderNotes.{headerNote}
+use Rattle.settling.specs.Laws.{all-agree}
+use Rattle.unfit.specs.Laws.{Usable}
+use Rattle.header_notes.specs.Laws.{note-lost}
 use Rattle.settling.specs.declared.Settlement.the-variants as S
 use Rattle.consistency.specs.Consistency.{flagged, flags, inconsistent}
 use Rattle.carrier.specs.Carrier.{received, pairCount}

@@ -37,8 +37,11 @@ use Rattle.header.specs.declared.Header.the-variants.{Codeword, Lost}
 use Rattle.cutting.specs.Cutting.{syncMet, lastMet, pieceBy, pieceOf, Ending, whole, refused, Cutting, walk, cutting}
 use Rattle.cutting.specs.declared.Piece.the-variants.{Multiframe}
 use Rattle.cutting.specs.Laws.{multiframe-met, at-place, every-length}
-use Rattle.settling.specs.Settling.{readings, firstAgreeing, onlyOne, settling}
-use Rattle.settling.specs.Laws.{length-readings, neither, one-default, only-clean, only-mended, all-agree, Usable, fit-is, unfit-is}
+use Rattle.header_readings.specs.Readings.{readings}
+use Rattle.settling.specs.Settling.{firstAgreeing, onlyOne, settling}
+use Rattle.header_readings.specs.Laws.{length-readings}
+use Rattle.settling.specs.Laws.{neither, one-default, only-clean, only-mended, all-agree}
+use Rattle.unfit.specs.Laws.{Usable, fit-is, unfit-is}
 use Rattle.carrier.specs.Carrier.{received, pairCount}
 use Rattle.settling.specs.declared.Settlement.{Settlement}
 use Rattle.settling.specs.declared.Settlement.the-variants as S

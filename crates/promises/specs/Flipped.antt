@@ -37,8 +37,11 @@ use Rattle.header.specs.Reading.Laws.{flips-of}
 use Rattle.header.specs.Reading as H
 use Rattle.header.specs.declared.Header.{Header}
 use Rattle.header.specs.declared.Header.the-variants.{Codeword, Lost}
-use Rattle.settling.specs.Settling.{readings, settling, headerNote}
-use Rattle.settling.specs.Laws.{Has, read-has, Usable}
+use Rattle.header_readings.specs.Readings.{readings}
+use Rattle.settling.specs.Settling.{settling}
+use Rattle.header_notes.specs.HeaderNotes.{headerNote}
+use Rattle.settling.specs.Laws.{Has, read-has}
+use Rattle.unfit.specs.Laws.{Usable}
 use Rattle.settling.specs.declared.Settlement.the-variants.{Settled}
 use Rattle.cutting.specs.Laws.{every-length}
 use Rattle.carrier.specs.Carrier.{streamPacket, received, pairCount}

@@ -15,7 +15,8 @@ use Rattle.choices.specs.declared.Choices.{Choices}
 use Rattle.tables.specs.Tables.{Tables}
 use Rattle.cutting.specs.Cutting.{Cutting, cutting}
 use Rattle.cutting.specs.Laws.{every-length}
-use Rattle.settling.specs.Settling.{readings, settling}
+use Rattle.header_readings.specs.Readings.{readings}
+use Rattle.settling.specs.Settling.{settling}
 use Rattle.carrier.specs.Carrier.{received, pairCount}
 use Rattle.settling.specs.declared.Settlement.the-variants.{Settled}
 use Rattle.notes.specs.Laws.{length-notes}

@@ -33,7 +33,9 @@ use Rattle.header_code.specs.Code.{codeword}
 use Rattle.message.specs.Message.{message}
 use Rattle.header.specs.Reading.{decodedAs}
 use Rattle.header.specs.declared.Header.the-variants.{Codeword, Lost}
-use Rattle.settling.specs.Settling.{readings, settling, headerNote}
+use Rattle.header_readings.specs.Readings.{readings}
+use Rattle.settling.specs.Settling.{settling}
+use Rattle.header_notes.specs.HeaderNotes.{headerNote}
 use Rattle.settling.specs.Laws.{Enough, two-settle}
 use Rattle.carrier.specs.Carrier.{received, pairCount}
 use Rattle.settling.specs.declared.Settlement.the-variants.{Settled}

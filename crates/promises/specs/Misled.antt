@@ -23,7 +23,8 @@ use Rattle.header.specs.Reading as H
 use Rattle.header.specs.Reading.Laws.{flips-counted, reads}
 use Rattle.header.specs.declared.Header.{Header}
 use Rattle.header.specs.declared.Header.the-variants.{Codeword}
-use Rattle.settling.specs.Settling.{readings, settling}
+use Rattle.header_readings.specs.Readings.{readings}
+use Rattle.settling.specs.Settling.{settling}
 use Rattle.settling.specs.Laws.{only-settles}
 use Rattle.settling.specs.declared.Settlement.the-variants.{Settled}
 use Rattle.reader.specs.Reading.{reading}

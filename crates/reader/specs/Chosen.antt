@@ -19,8 +19,10 @@ use Rattle.refusals.specs.declared.Reading.the-variants.{Empty, Unsettled}
 use Rattle.cutting.specs.Cutting.{Ending, whole, refused, cutting}
 use Rattle.cutting.specs.Reached.{whole-exactly}
 use Rattle.carrier.specs.Carrier.{pairCount}
-use Rattle.settling.specs.Settling.{readings, settling}
-use Rattle.settling.specs.Laws.{length-readings, not-one, one-default}
+use Rattle.header_readings.specs.Readings.{readings}
+use Rattle.settling.specs.Settling.{settling}
+use Rattle.header_readings.specs.Laws.{length-readings}
+use Rattle.settling.specs.Laws.{not-one, one-default}
 use Rattle.settling.specs.declared.Settlement.{Settlement}
 use Rattle.settling.specs.declared.Settlement.the-variants as S
 use Rattle.bad_pairs.specs.BadPairs.{badPairs}

@@ -22,8 +22,10 @@ use Rattle.refusals.specs.declared.Reading.the-variants.{WrongTables, NegativeT
 use Rattle.cutting.specs.Cutting.{Ending, whole, refused, cutting}
 use Rattle.cutting.specs.Reached.{Reached, Meets, Reason, ends-exactly, whole-exactly}
 use Rattle.cutting.specs.declared.Piece.the-variants as P
-use Rattle.settling.specs.Settling.{readings, settling, unfit}
-use Rattle.settling.specs.Laws.{Usable, Unusable, fit-is, unfit-is, fit-says, unfit-says}
+use Rattle.header_readings.specs.Readings.{readings}
+use Rattle.settling.specs.Settling.{settling}
+use Rattle.unfit.specs.Unfit.{unfit}
+use Rattle.unfit.specs.Laws.{Usable, Unusable, fit-is, unfit-is, fit-says, unfit-says}
 use Rattle.settling.specs.declared.Settlement.{Settlement}
 use Rattle.settling.specs.declared.Settlement.the-variants as S
 use Rattle.carrier.specs.Carrier.{pairCount}

@@ -17,7 +17,7 @@ ghost use Rattle.layout.specs.Layout.{mostMultiframes, indexOctets, reportOctet
 ghost use Rattle.tables.specs.Tables.{tablesOf, RightSizes};
 ghost use Rattle.tables.specs.Lent.{tablesIn};
 ghost use Rattle.cutting.specs.Laws.{Placed};
-ghost use Rattle.settling.specs.Stored.{packAll};
+ghost use Rattle.header_readings.specs.Stored.{packAll};
 ghost use Rattle.carrier.specs.Carrier.{pairCount};
 ghost use Rattle.bad_pairs.specs.Laws.{Good};
 ghost use Rattle.report.specs.Report.{reportPart};

@@ -34,8 +34,11 @@ use Rattle.message.specs.Message.{settingsOf}
 use Rattle.message.specs.Message.Laws.{count-back}
 use Rattle.header.specs.declared.Header.{Header}
 use Rattle.header.specs.declared.Header.the-variants.{Codeword, Lost}
-use Rattle.settling.specs.Settling.{readings, headerNote}
-use Rattle.settling.specs.Laws.{clean-note, length-readings, Enough, settled-enough}
+use Rattle.header_readings.specs.Readings.{readings}
+use Rattle.header_notes.specs.HeaderNotes.{headerNote}
+use Rattle.header_readings.specs.Laws.{length-readings}
+use Rattle.settling.specs.Laws.{Enough, settled-enough}
+use Rattle.header_notes.specs.Laws.{clean-note}
 use Rattle.carrier.specs.Carrier.{received, pairCount}
 use Rattle.notes.specs.Notes.{pairFails}
 use Rattle.notes.specs.Laws.{length-notes, length-all, no-failed-crc}

@@ -26,7 +26,8 @@ use Rattle.header.specs.Reading as H
 use Rattle.header.specs.declared.Decoded.{Decoded}
 use Rattle.header.specs.declared.Header.{Header}
 use Rattle.header.specs.declared.Header.the-variants.{Codeword, Lost}
-use Rattle.settling.specs.Settling.{readings, settling}
+use Rattle.header_readings.specs.Readings.{readings}
+use Rattle.settling.specs.Settling.{settling}
 use Rattle.settling.specs.Laws.{AllHave, all-agree, only-clean}
 use Rattle.carrier.specs.Carrier.{streamPacket, received, pairCount}
 use Rattle.settling.specs.declared.Settlement.the-variants.{Settled}

@@ -1,11 +1,11 @@
 -- `note_at` meets its contract: the reading found there has its note. Assumes nothing.
 use mathlib.Core.Path.{sym, ap, _∙_, subst}
 use Rattle.header.specs.declared.Header.{Header}
-use Rattle.settling.specs.Settling.{headerNote}
-use Rattle.settling.specs.Stored.{Mended}
+use Rattle.header_notes.specs.HeaderNotes.{headerNote}
+use Rattle.header_readings.specs.Stored.{Mended}
 use borrow.Author.Needs.{needs}
-use Rattle.settling.proofs.note_at.Statement.{statement}
-use Rattle.settling.proofs.note_at.Tie as tie
+use Rattle.header_notes.proofs.note_at.Statement.{statement}
+use Rattle.header_notes.proofs.note_at.Tie as tie
 
 mul-open-reading : tie.Need-mul-open-reading
 mul-open-reading c = search needs

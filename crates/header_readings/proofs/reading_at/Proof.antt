@@ -2,10 +2,10 @@
 use Prim.Native.Nat.{ℕ}
 use mathlib.Core.Path.{sym, ap, _∙_, subst}
 use Rattle.header.specs.Reading.{reading}
-use Rattle.settling.specs.Stored.{packed, Mended, mended}
+use Rattle.header_readings.specs.Stored.{packed, Mended, mended}
 use borrow.Author.Needs.{needs}
-use Rattle.settling.proofs.reading_at.Statement.{statement}
-use Rattle.settling.proofs.reading_at.Tie as tie
+use Rattle.header_readings.proofs.reading_at.Statement.{statement}
+use Rattle.header_readings.proofs.reading_at.Tie as tie
 
 header-word-requires : tie.Need-header-word-requires
 header-word-requires c κs = search needs

@@ -1,10 +1,10 @@
 -- `step_note` meets its contract. Assumes nothing.
 use Prim.Native.Nat.{_+_, _%_}
 use borrow.Author.Tests.{eq-eqb, ne-eqb}
-use Rattle.settling.specs.Stored.{stepNote}
+use Rattle.header_notes.specs.Steps.{stepNote}
 use borrow.Author.Needs.{needs}
-use Rattle.settling.proofs.step_note.Statement.{statement}
-use Rattle.settling.proofs.step_note.Tie as tie
+use Rattle.header_notes.proofs.step_note.Statement.{statement}
+use Rattle.header_notes.proofs.step_note.Tie as tie
 
 add-if1 : tie.Need-add-if1
 add-if1 c = search needs

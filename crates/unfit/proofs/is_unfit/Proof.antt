@@ -3,10 +3,10 @@ use mathlib.Core.Path.{sym, ap, _∙_}
 use borrow.Author.Tests.{eq-eqb, ne-eqb}
 use Rattle.settings.specs.declared.Settings.{Settings}
 use Rattle.message.specs.Message.{rateOf, expOf}
-use Rattle.settling.specs.Settling.{unfit}
+use Rattle.unfit.specs.Unfit.{unfit}
 use borrow.Author.Needs.{needs}
-use Rattle.settling.proofs.is_unfit.Statement.{statement}
-use Rattle.settling.proofs.is_unfit.Tie as tie
+use Rattle.unfit.proofs.is_unfit.Statement.{statement}
+use Rattle.unfit.proofs.is_unfit.Tie as tie
 
 fields-of-requires : tie.Need-fields-of-requires
 fields-of-requires c κs = search needs

@@ -2,11 +2,12 @@
 use Prim.Native.Nat.{ℕ}
 use mathlib.Core.Path.{subst, ap, _∙_}
 use native.Mathlib.Omega.{arith}
-use Rattle.settling.specs.Stored.{Mended, stepNote, commonNote}
-use Rattle.settling.proofs.Steps.{step-note-le, common-note-le, note-sum, note-lost}
+use Rattle.header_readings.specs.Stored.{Mended}
+use Rattle.header_notes.specs.Steps.{stepNote, commonNote}
+use Rattle.header_notes.proofs.Steps.{step-note-le, common-note-le, note-sum, note-lost}
 use borrow.Author.Needs.{needs}
-use Rattle.settling.proofs.note_of.Statement.{statement}
-use Rattle.settling.proofs.note_of.Tie as tie
+use Rattle.header_notes.proofs.note_of.Statement.{statement}
+use Rattle.header_notes.proofs.note_of.Tie as tie
 
 enum-known-h : tie.Need-enum-known-h
 enum-known-h c = search needs

@@ -1,10 +1,10 @@
 -- `open_reading` meets its contract: flips and message are the two digits of the number. Assumes nothing.
 use Prim.Native.Nat.{_/_}
 use borrow.Author.Tests.{eq-eqb, ne-eqb}
-use Rattle.settling.specs.Stored.{opened}
+use Rattle.header_readings.specs.Stored.{opened}
 use borrow.Author.Needs.{needs}
-use Rattle.settling.proofs.open_reading.Statement.{statement}
-use Rattle.settling.proofs.open_reading.Tie as tie
+use Rattle.header_readings.proofs.open_reading.Statement.{statement}
+use Rattle.header_readings.proofs.open_reading.Tie as tie
 
 returns : tie.Need-returns
 unfolding opened

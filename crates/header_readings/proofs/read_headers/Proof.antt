@@ -4,11 +4,11 @@ use mathlib.Core.Path.{_≡_, refl, sym, ap, _∙_, subst}
 use native.Mathlib.Omega.{arith}
 use lib.ListN.{length, length-set}
 use Rattle.lists.specs.Parts.{over, over-none}
-use Rattle.settling.specs.Stored.{packAll}
-use Rattle.settling.proofs.Steps.{stored-on}
+use Rattle.header_readings.specs.Stored.{packAll}
+use Rattle.header_readings.proofs.Steps.{stored-on}
 use borrow.Author.Needs.{needs}
-use Rattle.settling.proofs.read_headers.Statement.{statement}
-use Rattle.settling.proofs.read_headers.Tie as tie
+use Rattle.header_readings.proofs.read_headers.Statement.{statement}
+use Rattle.header_readings.proofs.read_headers.Tie as tie
 
 abbrev Inv-loop : tie.InvT-loop
 Inv-loop octets places headers₀ k₀ headers k = (k ≤ length places) × (length headers ≡ length headers₀) × (headers ≡ over headers₀ 0 k (packAll octets places k))

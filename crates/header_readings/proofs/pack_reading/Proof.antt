@@ -1,10 +1,10 @@
 -- `pack_reading` meets its contract: at most two flips stand above sixteen bits of message. Assumes nothing.
 use mathlib.Core.Path.{subst}
 use native.Mathlib.Omega.{arith}
-use Rattle.settling.specs.Stored.{Mended}
+use Rattle.header_readings.specs.Stored.{Mended}
 use borrow.Author.Needs.{needs}
-use Rattle.settling.proofs.pack_reading.Statement.{statement}
-use Rattle.settling.proofs.pack_reading.Tie as tie
+use Rattle.header_readings.proofs.pack_reading.Statement.{statement}
+use Rattle.header_readings.proofs.pack_reading.Tie as tie
 
 enum-known-h : tie.Need-enum-known-h
 enum-known-h c = search needs

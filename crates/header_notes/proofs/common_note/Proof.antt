@@ -1,8 +1,8 @@
 -- `common_note` meets its contract. Assumes nothing.
 use borrow.Author.Tests.{eq-eqb, ne-eqb}
-use Rattle.settling.specs.Stored.{commonNote}
-use Rattle.settling.proofs.common_note.Statement.{statement}
-use Rattle.settling.proofs.common_note.Tie as tie
+use Rattle.header_notes.specs.Steps.{commonNote}
+use Rattle.header_notes.proofs.common_note.Statement.{statement}
+use Rattle.header_notes.proofs.common_note.Tie as tie
 
 returns : tie.Need-returns
 unfolding commonNote

@@ -1,10 +1,8 @@
--- How the code keeps the readings of headers in an array of numbers, and the words of its contracts for one header at a time. Nothing that
--- 01 says stands here.
+-- How the code keeps the readings of headers in an array of numbers. Nothing that 01 says stands here.
 -- Assumes nothing.
-use Prim.Native.Nat.{ℕ, zero, suc, _+_, _*_, _/_, _%_, _^_, _≤_, _<_}
+use Prim.Native.Nat.{ℕ, _+_, _*_, _/_, _%_, _^_, _≤_, _<_}
 use mathlib.Core.Path.{_≡_, refl, ap, _∙_}
-use mathlib.Core.List.{List, [], _∷_}
-use mathlib.Core.Bool.{Bool, false}
+use mathlib.Core.List.{List}
 use lib.Dec.{eqb}
 use lib.ListN.{length, getD}
 use native.Mathlib.Omega.{arith}
@@ -12,14 +10,11 @@ use borrow.Author.Tests.{ne-eqb}
 use Rattle.lists.specs.Tests.{when}
 use Rattle.carrier.specs.Carrier.{wordAt, inPlaces}
 use Rattle.lists.specs.Rows.{each, length-each, each-at, same-each}
-use Rattle.message.specs.Message.{commonBits}
 use Rattle.header.specs.Reading.{mendable, ReadAs, reading}
 use Rattle.header.specs.Reading.Laws.{reads}
 use Rattle.header.specs.declared.Header.{Header}
 use Rattle.header.specs.declared.Header.the-variants.{Codeword, Lost}
-use Rattle.settling.specs.Settling.{readings, among}
-use Rattle.settling.specs.declared.Settlement.{Settlement}
-use Rattle.settling.specs.declared.Settlement.the-variants.{Settled, Unsettled}
+use Rattle.header_readings.specs.Readings.{readings}
 
 -- ---- a reading as one number: the message, and above it the flips, of which a lost header has three
 abbrev pub packed : Header → ℕ
@@ -71,32 +66,3 @@ stored-back octets places =
     ap (each (λ k. opened (getD (each f m) k 0))) (length-each f m)
     ∙ same-each (λ k. opened (getD (each f m) k 0)) (λ k. reading (wordAt octets (inPlaces places) k)) m (λ k h.
     ap opened (each-at f m k 0 h) ∙ opened-packed (reading (wordAt octets (inPlaces places) k)) (mended (wordAt octets (inPlaces places) k)))
-
--- ---- settling, one header at a time
-
--- the common bits seen so far, with one header more
-abbrev pub withSeen : Header → List ℕ → List ℕ
-withSeen Lost seen = seen
-withSeen (Codeword d) seen = commonBits (d .message) ∷ seen
-
--- the common bits of the readable ones among the first k headers, the last one first
-unfoldable pub seenBefore : List Header → ℕ → List ℕ
-seenBefore hs zero = []
-seenBefore hs (suc k) = withSeen (getD hs k Lost) (seenBefore hs k)
-
--- what one header settles
-abbrev pub settledBy : Header → List ℕ → Settlement
-settledBy Lost seen = Unsettled
-settledBy (Codeword d) seen = when (among (commonBits (d .message)) seen) (Settled (commonBits (d .message))) Unsettled
-
--- whether a header has these common bits
-abbrev pub hasCommon : Header → ℕ → Bool
-hasCommon Lost c = false
-hasCommon (Codeword d) c = eqb c (commonBits (d .message))
-
--- ---- header notes: what a readable header's flips are added to
-unfoldable pub stepNote : ℕ → ℕ → ℕ
-stepNote count k = when (eqb count ((k + 1) % 16)) 0 4
-
-unfoldable pub commonNote : ℕ → ℕ → ℕ
-commonNote found common = when (eqb found common) 0 8
