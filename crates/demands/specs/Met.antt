@@ -37,7 +37,8 @@ use Rattle.reader.specs.Reading.{Outcome, reading}
 use Rattle.image.specs.Made.{Small, made, made-packet}
 use Rattle.image.specs.Laws.{length-image, image-small, image-packet}
 use Rattle.settling.specs.Laws.{Enough}
-use Rattle.writer.specs.Writing.{verdict, roomAnswer, frameCount, needed, writing}
+use Rattle.wrong_frames.specs.WrongFrames.{frameCount}
+use Rattle.writer.specs.Writing.{verdict, roomAnswer, needed, writing}
 use Rattle.writer.specs.Writing as W
 use Rattle.writer.specs.Utterance.{Utterance, multiframesOf, imageOf, whole-frames, writes}
 use Rattle.writer.specs.declared.Answer.the-variants.{Written}

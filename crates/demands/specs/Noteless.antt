@@ -34,7 +34,8 @@ use Rattle.replacing.specs.Speech.{lastNonzero, speechOf, endOf, place-le, plac
 use Rattle.image.specs.Image.{image}
 use Rattle.image.specs.Made.{Small, syncIn, wordIn, streamIn, packetIn, framed, made-again, part-within, rows}
 use Rattle.image.specs.Laws.{image-made, words, streams}
-use Rattle.writer.specs.Writing.{frameCount, multiframesFor}
+use Rattle.wrong_frames.specs.WrongFrames.{frameCount}
+use Rattle.writer.specs.Writing.{multiframesFor}
 
 -- ---- a header with note 0 is a codeword with the settled common bits and the counter of its place
 module _ (c k w : ℕ) where

@@ -45,7 +45,8 @@ use Rattle.reader.specs.declared.Summary.{Summary}
 use Rattle.reader.specs.declared.Answer.the-variants.{Read}
 use Rattle.image.specs.Made.{wordIn, packetIn}
 use Rattle.image.specs.Laws.{length-image}
-use Rattle.writer.specs.Writing.{frameCount, needed, writing}
+use Rattle.wrong_frames.specs.WrongFrames.{frameCount}
+use Rattle.writer.specs.Writing.{needed, writing}
 use Rattle.writer.specs.Writing as W
 use Rattle.writer.specs.declared.Answer.the-variants.{Written}
 use Rattle.writer.specs.Utterance.{last-speaks, Utterance, multiframesOf, pairsOf, imageOf, is-accepted, whole-frames, writes}

@@ -46,7 +46,8 @@ use Rattle.reader.specs.declared.Answer.{Answer}
 use Rattle.reader.specs.declared.Answer.the-variants.{Read, Refused}
 use Rattle.image.specs.Image.{image}
 use Rattle.image.specs.Made.{Small, syncIn, wordIn, streamIn, packetIn}
-use Rattle.writer.specs.Writing.{frameCount, multiframesFor, writing}
+use Rattle.wrong_frames.specs.WrongFrames.{frameCount}
+use Rattle.writer.specs.Writing.{multiframesFor, writing}
 use Rattle.writer.specs.Writing as W
 use Rattle.writer.specs.declared.Answer.the-variants as Done
 use Rattle.writer.specs.Utterance.{success}

@@ -9,7 +9,7 @@ use layout::ReadingLayout;
 use reader::Answer;
 use refusals::Writing;
 use settings::Settings;
-use writer::Found;
+use wrong_frames::Found;
 ghost use mathlib.Core.Path.{_≡_};
 ghost use mathlib.Core.List.{[]};
 ghost use Rattle.lists.specs.Lent.{came, left};
@@ -64,7 +64,7 @@ pub extern "C" fn dsr_pack(indices: &[u8], stream: &mut [u8]) -> u32
     if stream.len() != MultiframeLayout::STREAM {
         return refusals::WRONG_LENGTH;
     }
-    match writer::first_wide(indices) {
+    match wrong_frames::first_wide(indices) {
         Found::At(f) => refusals::writing_number(Writing::WideIndex { frame: f }),
         Found::Nowhere => {
             streams::put_stream(indices, Pair(0), stream, 0);

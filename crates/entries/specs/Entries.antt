@@ -26,7 +26,8 @@ use Rattle.reader.specs.declared.Summary.{Summary}
 use Rattle.reader.specs.declared.Answer.{Answer}
 use Rattle.reader.specs.declared.Answer.the-variants.{Read, Refused}
 use Rattle.writer.specs.Writing as W
-use Rattle.writer.specs.Writing.{firstWide, writing}
+use Rattle.wrong_frames.specs.WrongFrames.{firstWide}
+use Rattle.writer.specs.Writing.{writing}
 
 -- Every entry but the encoder of headers answers 0 if it is done, and else the number of a refusal.
 

@@ -24,7 +24,8 @@ use Rattle.notes.specs.Notes.{allFrames, crcNotes}
 use Rattle.notes.specs.Laws.{over-all}
 use Rattle.reader.specs.Reading.{Outcome, outcome}
 use Rattle.reader.specs.declared.Answer.{Answer}
-use Rattle.writer.specs.Writing.{firstWide, verdict, writing}
+use Rattle.wrong_frames.specs.WrongFrames.{firstWide}
+use Rattle.writer.specs.Writing.{verdict, writing}
 use Rattle.entries.specs.Entries.{packed, narrowPacking, packing, unpacked, unpacking, Told, numbers, refusal, Given, given, Returned, returned, answered, returning, unchosen, choosing, toldOf, givenOf, writeReturned, dsrWrite}
 
 -- ---- packing

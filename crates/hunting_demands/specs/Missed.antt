@@ -59,7 +59,8 @@ use Rattle.demands.specs.Needed.{default-unsettled}
 use Rattle.image.specs.Made.{Small, syncIn, wordIn, streamIn, packetIn, made, length-made, small-made, made-sync, made-word, made-stream}
 use Rattle.image.specs.Laws.{length-image, image-small, image-sync, image-word, image-stream}
 use Rattle.settling.specs.Laws.{two-or-more}
-use Rattle.writer.specs.Writing.{verdict, roomAnswer, frameCount, needed}
+use Rattle.wrong_frames.specs.WrongFrames.{frameCount}
+use Rattle.writer.specs.Writing.{verdict, roomAnswer, needed}
 use Rattle.writer.specs.Utterance.{Utterance, multiframesOf, pairsOf, imageOf}
 use Rattle.writer.specs.declared.Answer.the-variants.{Written}
 use Rattle.demands.specs.Damage.{any-header, headerFlips, header-lost}

@@ -21,7 +21,7 @@ use Rattle.reader.specs.declared.Summary.{Summary}
 use Rattle.reader.specs.declared.Answer.the-variants.{Read}
 use Rattle.image.specs.Made.{packetIn}
 use Rattle.image.specs.Laws.{image-packet}
-use Rattle.writer.specs.Writing.{frameCount}
+use Rattle.wrong_frames.specs.WrongFrames.{frameCount}
 use Rattle.writer.specs.Utterance.{Utterance, multiframesOf, pairsOf, imageOf}
 use Rattle.demands.specs.Damage.{Fate, whole, hit, fate}
 use Rattle.demands.specs.Whole.{rowOf, pairNoteIn}

@@ -28,7 +28,7 @@ use Rattle.reader.specs.declared.Summary.{Summary}
 use Rattle.reader.specs.declared.Answer.the-variants.{Read}
 use Rattle.image.specs.Made.{syncIn}
 use Rattle.image.specs.Laws.{length-image, image-sync}
-use Rattle.writer.specs.Writing.{frameCount}
+use Rattle.wrong_frames.specs.WrongFrames.{frameCount}
 use Rattle.writer.specs.Laws.{few-multiframes}
 use Rattle.writer.specs.Utterance.{Utterance, multiframesOf, pairsOf, imageOf, is-accepted}
 use Rattle.demands.specs.Damage.{DamageUpTo, headerFlips}

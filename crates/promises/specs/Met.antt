@@ -46,7 +46,8 @@ use Rattle.reader.specs.declared.Summary.{Summary}
 use Rattle.reader.specs.declared.Answer.the-variants.{Read}
 use Rattle.image.specs.Made.{Small, wordIn, packetIn, framed, made}
 use Rattle.image.specs.Laws.{image-packet}
-use Rattle.writer.specs.Writing.{verdict, roomAnswer, frameCount, needed}
+use Rattle.wrong_frames.specs.WrongFrames.{frameCount}
+use Rattle.writer.specs.Writing.{verdict, roomAnswer, needed}
 use Rattle.writer.specs.Utterance.{Utterance, multiframesOf, pairsOf, imageOf}
 use Rattle.writer.specs.declared.Answer.the-variants.{Written}
 use Rattle.recordings.specs.CutOff as C

@@ -53,7 +53,8 @@ use Rattle.refusals.specs.declared.Reading.the-variants.{Unsettled}
 use Rattle.reader.specs.declared.Answer.the-variants.{Read, Refused}
 use Rattle.image.specs.Made.{syncIn, wordIn, packetIn}
 use Rattle.image.specs.Laws.{length-image, image-sync, image-word, image-packet, image-small}
-use Rattle.writer.specs.Writing.{frameCount, needed}
+use Rattle.wrong_frames.specs.WrongFrames.{frameCount}
+use Rattle.writer.specs.Writing.{needed}
 use Rattle.writer.specs.Laws.{few-multiframes}
 use Rattle.writer.specs.Utterance.{last-speaks, Utterance, multiframesOf, pairsOf, imageOf, is-accepted, whole-frames}
 use Rattle.demands.specs.Damage.{DamageUpTo, headerBits, loosened, headerFlips, sentMessage, header-near}

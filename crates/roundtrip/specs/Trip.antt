@@ -22,7 +22,8 @@ use Rattle.writer.specs.Writing as W
 use Rattle.image.specs.Image.{image}
 use Rattle.image.specs.Made.{Small}
 use Rattle.image.specs.Laws.{length-image}
-use Rattle.writer.specs.Writing.{needed, multiframesFor, frameCount, verdict, writing}
+use Rattle.wrong_frames.specs.WrongFrames.{frameCount}
+use Rattle.writer.specs.Writing.{needed, multiframesFor, verdict, writing}
 use Rattle.writer.specs.Laws.{accepted, accepts}
 use Rattle.writer.specs.Utterance.{Utterance, imageOf, is-accepted}
 use Rattle.writer.specs.declared.Answer as WA

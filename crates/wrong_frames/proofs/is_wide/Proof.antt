@@ -10,8 +10,8 @@ use Rattle.lists.specs.Search.{isFound, Passed, search-begin, search-hit, searc
 use Rattle.layout.specs.Layout.{frameIndices, mostNarrow}
 use borrow.Author.Needs.{needs}
 use borrow.Author.Tests.{eq-eqb, ne-eqb, lt-ltb, le-ltb}
-use Rattle.writer.proofs.is_wide.Statement.{statement}
-use Rattle.writer.proofs.is_wide.Tie as tie
+use Rattle.wrong_frames.proofs.is_wide.Statement.{statement}
+use Rattle.wrong_frames.proofs.is_wide.Tie as tie
 
 abbrev test : List ℕ → ℕ → Bool
 test idx j = ltb mostNarrow (getD idx j 0)

@@ -2,9 +2,9 @@
 use mathlib.Core.Path.{sym, _∙_}
 use Prim.Native.Nat.{_+_}
 use borrow.Author.Needs.{needs}
-use Rattle.writer.specs.Laws.{early-last, early-boundary, early-never}
-use Rattle.writer.proofs.ends_early.Statement.{statement}
-use Rattle.writer.proofs.ends_early.Tie as tie
+use Rattle.wrong_frames.specs.Laws.{early-last, early-boundary, early-never}
+use Rattle.wrong_frames.proofs.ends_early.Statement.{statement}
+use Rattle.wrong_frames.proofs.ends_early.Tie as tie
 
 add-number : tie.Need-add-number
 add-number c = search needs
