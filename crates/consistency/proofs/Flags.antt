@@ -14,7 +14,7 @@ use native.Mathlib.Omega.{arith}
 use Rattle.lists.specs.Tests.{when}
 use Rattle.lists.specs.Parts.{part}
 use Rattle.layout.specs.Layout.{frameIndices, codebookNumbers}
-use Rattle.consistency.specs.Tables.{Tables, at}
+use Rattle.tables.specs.Tables.{Tables, at}
 use Rattle.consistency.specs.Consistency.{exceeding, entryPlace, elementExceeds, flagged, flags, inconsistent, InRange}
 
 module _ (t : Tables) (c i j : ℕ) where

@@ -91,9 +91,6 @@ module _ {a b : ℤ} (fa : SFits w32 a) (fb : SFits w32 b) where
       ∙ ap (ltZ t) (toZ-ofZ {w = w64} distance-fits)
 
 -- a call on signed elements of slices is handed their bits, read again
-pub handed-one : {t : ℤ} {r : Bool} (f : ℤ → Bool) → SFits w32 t → r ≡ f (toZ w32 (ofZ w32 t)) → r ≡ f t
-handed-one f ft e = e ∙ ap f (toZ-ofZ ft)
-
 pub handed : {t a b : ℤ} {r : Bool} (f : ℤ → ℤ → ℤ → Bool) → SFits w32 t → SFits w32 a → SFits w32 b
     → r ≡ f (toZ w32 (ofZ w32 t)) (toZ w32 (ofZ w32 a)) (toZ w32 (ofZ w32 b)) → r ≡ f t a b
 handed {t} {a} {b} f ft fa fb e =

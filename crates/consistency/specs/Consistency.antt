@@ -10,7 +10,7 @@ use lib.ListN.{getD}
 use lib.Dec.{leb}
 use Rattle.lists.specs.Tests.{when}
 use Rattle.layout.specs.Layout.{frameIndices}
-use Rattle.consistency.specs.Tables.{Tables, at}
+use Rattle.tables.specs.Tables.{Tables, at}
 
 -- how far two values are apart: the absolute value of their exact difference, which may need 33 bits
 abbrev pub distance : ℤ → ℤ → ℤ

@@ -12,7 +12,7 @@ use borrow.Author.Tests.{ltb-true, lt-ltb, le-ltb}
 use native.Mathlib.Omega.{arith}
 use Rattle.lists.specs.Tests.{when, true-false}
 use Rattle.layout.specs.Layout.{thresholdNumbers, frameIndices}
-use Rattle.consistency.specs.Tables.{Tables, tablesOf, at, negative}
+use Rattle.tables.specs.Tables.{Tables, tablesOf, at, negative}
 use Rattle.consistency.specs.Consistency.{distance, exceeding, entryPlace, thresholdPlace, elementExceeds, flagged, flags, inconsistent}
 
 -- the seventh codebook begins at 768

@@ -11,9 +11,11 @@ use Rattle.lists.specs.Tests.{when}
 use Rattle.lists.specs.Parts.{over}
 use Rattle.layout.specs.Layout.{indexOctets, reportOctets}
 use Rattle.choices.specs.declared.Choices.{Choices}
-use Rattle.consistency.specs.Tables.{Tables}
-use Rattle.settling.specs.Settling.{readings, settling, unfit}
-use Rattle.settling.specs.Stored.{openAll, packAll, stored-back}
+use Rattle.tables.specs.Tables.{Tables}
+use Rattle.header_readings.specs.Readings.{readings}
+use Rattle.settling.specs.Settling.{settling}
+use Rattle.unfit.specs.Unfit.{unfit}
+use Rattle.header_readings.specs.Stored.{openAll, packAll, stored-back}
 use Rattle.settling.specs.declared.Settlement.{Settlement}
 use Rattle.settling.specs.declared.Settlement.the-variants as S
 use Rattle.carrier.specs.Carrier.{pairCount}

@@ -9,9 +9,11 @@ use borrow.Author.Tests.{ltb-false, eqb-false}
 use Rattle.lists.specs.Tests.{by-test}
 use Rattle.layout.specs.Layout.{indexOctets, reportOctets}
 use Rattle.choices.specs.declared.Choices.{Choices}
-use Rattle.consistency.specs.Tables.{Tables}
-use Rattle.settling.specs.Settling.{readings, settling, unfit}
-use Rattle.settling.specs.Laws.{Usable, fit-says}
+use Rattle.tables.specs.Tables.{Tables}
+use Rattle.header_readings.specs.Readings.{readings}
+use Rattle.settling.specs.Settling.{settling}
+use Rattle.unfit.specs.Unfit.{unfit}
+use Rattle.unfit.specs.Laws.{Usable, fit-says}
 use Rattle.settling.specs.declared.Settlement.{Settlement}
 use Rattle.settling.specs.declared.Settlement.the-variants as S
 use Rattle.carrier.specs.Carrier.{pairCount}

@@ -7,7 +7,7 @@ use lib.Dec.{ltb}
 use Rattle.lists.specs.Tests.{when}
 use Rattle.layout.specs.Layout.{indexOctets, reportOctets}
 use Rattle.refusals.specs.declared.Reading.the-variants.{Unfit, IndexShort, ReportShort}
-use Rattle.settling.specs.Settling.{unfit}
+use Rattle.unfit.specs.Unfit.{unfit}
 use Rattle.deciding.specs.declared.Verdict.{Verdict}
 use Rattle.deciding.specs.declared.Verdict.the-variants.{Refuse, Accept}
 

@@ -8,10 +8,10 @@ ghost use Prim.Native.Nat.{_≤_};
 ghost use lib.ListN.{length};
 ghost use Rattle.lists.specs.Lent.{came, left};
 ghost use Rattle.layout.specs.Layout.{mostMultiframes};
-ghost use Rattle.consistency.specs.Tables.{tablesOf, RightSizes};
-ghost use Rattle.consistency.specs.Lent.{tablesIn};
+ghost use Rattle.tables.specs.Tables.{tablesOf, RightSizes};
+ghost use Rattle.tables.specs.Lent.{tablesIn};
 ghost use Rattle.cutting.specs.Laws.{Placed};
-ghost use Rattle.settling.specs.Stored.{packAll};
+ghost use Rattle.header_readings.specs.Stored.{packAll};
 ghost use Rattle.carrier.specs.Carrier.{pairCount};
 ghost use Rattle.deciding.specs.Deciding.{receivedNotes, wholeVerdict};
 ghost use Rattle.deciding.specs.Steps.{earlyVerdict, Kept};
@@ -27,7 +27,7 @@ fn early(common: u16, m: usize, index: usize, report: usize) -> Verdict
     requires { ⌜ m ≤ mostMultiframes ⌝ }
     ensures { λ r. ⌜ r ≡ earlyVerdict m index report common ⌝ }
 {
-    if settling::is_unfit(common) {
+    if unfit::is_unfit(common) {
         return Verdict::Refuse(Reading::Unfit);
     }
     if index < ReadingLayout::INDEX * m {
@@ -68,7 +68,7 @@ pub fn decide(
             octets: octets.len(),
         });
     }
-    settling::read_headers(octets, places, headers);
+    header_readings::read_headers(octets, places, headers);
     let Settlement::Settled { common } = settling::settle(headers, choices) else {
         return Verdict::Refuse(Reading::Unsettled);
     };

@@ -26,8 +26,12 @@ use Rattle.header.specs.Reading.Laws.{lost-not-read, same-message}
 use Rattle.header.specs.declared.Decoded.{Decoded}
 use Rattle.header.specs.declared.Header.{Header}
 use Rattle.header.specs.declared.Header.the-variants.{Codeword, Lost}
-use Rattle.settling.specs.Settling.{among, readings, settling, headerNote}
-use Rattle.settling.specs.Laws.{Has, Earlier, First, settled-first, has-read, read-has, settled-same, two-settle, note-lost, length-readings, Enough, settled-enough, one-default, only-clean, only-mended, only-lost}
+use Rattle.header_readings.specs.Readings.{readings}
+use Rattle.settling.specs.Settling.{among, settling}
+use Rattle.header_notes.specs.HeaderNotes.{headerNote}
+use Rattle.header_readings.specs.Laws.{length-readings}
+use Rattle.settling.specs.Laws.{Has, Earlier, First, settled-first, has-read, read-has, settled-same, two-settle, Enough, settled-enough, one-default, only-clean, only-mended, only-lost}
+use Rattle.header_notes.specs.Laws.{note-lost}
 use Rattle.settling.specs.declared.Settlement.the-variants.{Settled, Unsettled}
 use Rattle.image.specs.Made.{wordIn}
 use Rattle.writer.specs.Utterance.{Utterance, multiframesOf, imageOf, settings-right}

@@ -19,8 +19,8 @@ use Rattle.lists.specs.Parts.{part, over}
 use Rattle.lists.specs.Search.{firstFrom}
 use Rattle.layout.specs.Layout.{frameIndices, packetBits, multiframePairs, streamOctets, indexOctets, reportOctets, codebookNumbers, thresholdNumbers, firstPair}
 use Rattle.choices.specs.declared.Choices.{Choices}
-use Rattle.consistency.specs.Tables.{at, zeroTables}
-use Rattle.consistency.specs.Admitted.{zero-right}
+use Rattle.tables.specs.Tables.{at, zeroTables}
+use Rattle.tables.specs.Admitted.{zero-right}
 use Rattle.settings.specs.Settings.{settings}
 use Rattle.frames.specs.Frames.{zeroFrame}
 use Rattle.carrier.specs.Carrier.{streamPacket}
@@ -37,7 +37,8 @@ use Rattle.reader.specs.Reading.{Outcome, reading}
 use Rattle.image.specs.Made.{Small, made, made-packet}
 use Rattle.image.specs.Laws.{length-image, image-small, image-packet}
 use Rattle.settling.specs.Laws.{Enough}
-use Rattle.writer.specs.Writing.{verdict, roomAnswer, frameCount, needed, writing}
+use Rattle.wrong_frames.specs.WrongFrames.{frameCount}
+use Rattle.writer.specs.Writing.{verdict, roomAnswer, needed, writing}
 use Rattle.writer.specs.Writing as W
 use Rattle.writer.specs.Utterance.{Utterance, multiframesOf, imageOf, whole-frames, writes}
 use Rattle.writer.specs.declared.Answer.the-variants.{Written}

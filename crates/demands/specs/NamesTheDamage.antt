@@ -19,11 +19,12 @@ use Rattle.lists.specs.Tests.{true-false, not-false}
 use Rattle.lists.specs.Parts.{part, over, part-right}
 use Rattle.layout.specs.Layout.{frameIndices, multiframeFrames, multiframeOctets, indexOctets, reportOctets, pairOf, firstFrame, secondFrame}
 use Rattle.choices.specs.declared.Choices.{Choices}
-use Rattle.consistency.specs.Tables.{Tables}
+use Rattle.tables.specs.Tables.{Tables}
 use Rattle.packet.specs.Packet.{frameAt}
 use Rattle.packet.specs.Laws.{length-row, row-inside, row-past}
 use Rattle.cutting.specs.Laws.{every-length}
-use Rattle.settling.specs.Settling.{readings, settling}
+use Rattle.header_readings.specs.Readings.{readings}
+use Rattle.settling.specs.Settling.{settling}
 use Rattle.carrier.specs.Carrier.{received, pairCount}
 use Rattle.notes.specs.Laws.{length-notes, length-all, frames-at}
 use Rattle.bad_pairs.specs.BadPairs.{bad, badPairs}
@@ -38,7 +39,7 @@ use Rattle.reader.specs.declared.Summary.{Summary}
 use Rattle.reader.specs.declared.Answer.the-variants.{Read}
 use Rattle.image.specs.Made.{part-within}
 use Rattle.image.specs.Laws.{length-image, image-sync}
-use Rattle.writer.specs.Writing.{frameCount}
+use Rattle.wrong_frames.specs.WrongFrames.{frameCount}
 use Rattle.writer.specs.Laws.{few-multiframes}
 use Rattle.writer.specs.Utterance.{Utterance, multiframesOf, pairsOf, imageOf, is-accepted, rate-not-2, whole-frames}
 use Rattle.demands.specs.Damage.{DamageUpTo, Damage, loosened, Touched, headerFlips}

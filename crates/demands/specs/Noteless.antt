@@ -28,13 +28,14 @@ use Rattle.header.specs.Reading as H
 use Rattle.header.specs.Reading.Laws.{flips-counted, reads}
 use Rattle.header.specs.declared.Header.{Header}
 use Rattle.header.specs.declared.Header.the-variants.{Codeword, Lost}
-use Rattle.settling.specs.Settling.{headerNote}
-use Rattle.settling.specs.Laws.{note-zero, note-lost}
+use Rattle.header_notes.specs.HeaderNotes.{headerNote}
+use Rattle.header_notes.specs.Laws.{note-zero, note-lost}
 use Rattle.replacing.specs.Speech.{lastNonzero, speechOf, endOf, place-le, place-stop, zero-behind, nonzero-at}
 use Rattle.image.specs.Image.{image}
 use Rattle.image.specs.Made.{Small, syncIn, wordIn, streamIn, packetIn, framed, made-again, part-within, rows}
 use Rattle.image.specs.Laws.{image-made, words, streams}
-use Rattle.writer.specs.Writing.{frameCount, multiframesFor}
+use Rattle.wrong_frames.specs.WrongFrames.{frameCount}
+use Rattle.writer.specs.Writing.{multiframesFor}
 
 -- ---- a header with note 0 is a codeword with the settled common bits and the counter of its place
 module _ (c k w : ℕ) where

@@ -14,7 +14,7 @@ use lib.Seq.{take-at, drop-at}
 use Rattle.lists.specs.Tests.{when, true-false}
 use Rattle.lists.specs.Rows.{each, length-each, each-at}
 use Rattle.layout.specs.Layout.{widths, frameIndices, dataBits, multiframePairs, firstFrame, secondFrame}
-use Rattle.consistency.specs.Tables.{Tables}
+use Rattle.tables.specs.Tables.{Tables}
 use Rattle.crc.specs.Crc.{right}
 use Rattle.packet.specs.Packet.{apart, frameAt}
 use Rattle.packet.specs.Laws.{length-row, packetOf-back}

@@ -14,16 +14,18 @@ use Rattle.lists.specs.Parts.{part, over, part-left}
 use Rattle.lists.specs.Rows.{each, same-each}
 use Rattle.layout.specs.Layout.{frameIndices, multiframePairs, multiframeOctets, mostMultiframes, indexOctets, reportOctets, codebookNumbers, thresholdNumbers, pairOf, multiframeOf, firstPair, sync}
 use Rattle.choices.specs.declared.Choices.{Choices}
-use Rattle.consistency.specs.Tables.{Tables, RightTables}
-use Rattle.consistency.specs.Admitted.{right-passes}
+use Rattle.tables.specs.Tables.{Tables, RightTables}
+use Rattle.tables.specs.Admitted.{right-passes}
 use Rattle.bits.specs.Bits.{bits}
 use Rattle.cutting.specs.Cutting.{Cutting, whole, cutting}
 use Rattle.cutting.specs.Laws.{every, every-length, every-at, whole-image}
 use Rattle.header.specs.Reading as H
 use Rattle.header.specs.declared.Header.the-variants.{Lost}
 use Rattle.settling.specs.declared.Settlement.the-variants as S
-use Rattle.settling.specs.Settling.{readings, settling, headerNote}
-use Rattle.settling.specs.Laws.{Usable, fit-is}
+use Rattle.header_readings.specs.Readings.{readings}
+use Rattle.settling.specs.Settling.{settling}
+use Rattle.header_notes.specs.HeaderNotes.{headerNote}
+use Rattle.unfit.specs.Laws.{Usable, fit-is}
 use Rattle.carrier.specs.Carrier.{streamFrom, headerWord, streamPacket, wordAt, streamAt, inPlaces, received, pairCount}
 use Rattle.bad_pairs.specs.BadPairs.{badPairs}
 use Rattle.deciding.specs.Deciding.{roomVerdict, settledVerdict, wholeVerdict, receivedNotes}

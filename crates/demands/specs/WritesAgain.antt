@@ -13,7 +13,7 @@ use Rattle.lists.specs.Parts.{over, length-part}
 use Rattle.lists.specs.Rows.{each, length-each, each-at}
 use Rattle.layout.specs.Layout.{widths, frameIndices, dataBits, packetBits, multiframeFrames, multiframePairs, streamOctets, multiframeOctets, indexOctets, reportOctets, sync, syncFirst, syncSecond}
 use Rattle.choices.specs.declared.Choices.{Choices}
-use Rattle.consistency.specs.Tables.{Tables}
+use Rattle.tables.specs.Tables.{Tables}
 use Rattle.bits.specs.Bits.{bits}
 use Rattle.bits.specs.Laws.{length-bits}
 use Rattle.crc.specs.Crc.{Right, right}
@@ -26,7 +26,8 @@ use Rattle.header.specs.declared.Header.{Header}
 use Rattle.header.specs.declared.Header.the-variants.{Lost}
 use Rattle.cutting.specs.Cutting.{cutting}
 use Rattle.cutting.specs.Laws.{every-at, no-inverse, sound, place-stands}
-use Rattle.settling.specs.Settling.{readings, headerNote}
+use Rattle.header_readings.specs.Readings.{readings}
+use Rattle.header_notes.specs.HeaderNotes.{headerNote}
 use Rattle.carrier.specs.Carrier.{received, pairCount}
 use Rattle.notes.specs.Notes.{pairFails, framesOf, pairInconsistent, pairNotes}
 use Rattle.notes.specs.Laws.{length-notes, length-all, frames-at}
@@ -45,7 +46,8 @@ use Rattle.reader.specs.declared.Answer.{Answer}
 use Rattle.reader.specs.declared.Answer.the-variants.{Read, Refused}
 use Rattle.image.specs.Image.{image}
 use Rattle.image.specs.Made.{Small, syncIn, wordIn, streamIn, packetIn}
-use Rattle.writer.specs.Writing.{frameCount, multiframesFor, writing}
+use Rattle.wrong_frames.specs.WrongFrames.{frameCount}
+use Rattle.writer.specs.Writing.{multiframesFor, writing}
 use Rattle.writer.specs.Writing as W
 use Rattle.writer.specs.declared.Answer.the-variants as Done
 use Rattle.writer.specs.Utterance.{success}

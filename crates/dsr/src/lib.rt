@@ -8,12 +8,12 @@ use layout::ReadingLayout;
 use refusals::Writing;
 use settings::Settings;
 use writer::Answer;
-use writer::Found;
+use wrong_frames::Found;
 ghost use mathlib.Core.Path.{_≡_};
 ghost use mathlib.Core.List.{[]};
 ghost use Rattle.lists.specs.Lent.{came, left};
 ghost use Rattle.choices.specs.Choices.{asked};
-ghost use Rattle.consistency.specs.Lent.{tablesIn};
+ghost use Rattle.tables.specs.Lent.{tablesIn};
 ghost use Rattle.header_code.specs.Code.{codeword};
 ghost use Rattle.header.specs.Reading.{reading};
 ghost use Rattle.entries.specs.Bits.{huntReturned, dsrHunt, dsrReadBits};
@@ -56,10 +56,10 @@ pub extern "C" fn dsr_pack(indices: &[u8], stream: &mut [u8]) -> u32
     if stream.len() != MultiframeLayout::STREAM {
         return refusals::WRONG_LENGTH;
     }
-    match writer::first_wide(indices) {
+    match wrong_frames::first_wide(indices) {
         Found::At(f) => refusals::writing_number(Writing::WideIndex { frame: f }),
         Found::Nowhere => {
-            packet::put_stream(indices, Pair(0), stream, 0);
+            streams::put_stream(indices, Pair(0), stream, 0);
             refusals::SUCCESS
         }
     }

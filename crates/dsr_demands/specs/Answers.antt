@@ -16,7 +16,7 @@ use Rattle.reader.specs.declared.Answer.the-variants.{Read, Refused}
 use Rattle.writer.specs.Writing as W
 use Rattle.writer.specs.Writing.{roomAnswer, writing}
 use Rattle.entries.specs.Entries.{returning, givenOf, dsrWrite, dsrRead}
-use Rattle.consistency.specs.Tables.{tablesOf, sizesRight, admission}
+use Rattle.tables.specs.Tables.{tablesOf, sizesRight, admission}
 
 -- 16 kHz, noise robust, 2 multiframes, 30 frames of speech, 4 bad pairs, end
 abbrev pub talk : Outcome

@@ -10,9 +10,10 @@ use Rattle.lists.specs.Parts.{over}
 use Rattle.layout.specs.Layout.{frameIndices, multiframeOctets, indexOctets, reportOctets}
 use Rattle.choices.specs.declared.Choices.{Choices}
 use Rattle.choices.specs.declared.Asked.the-variants.{For}
-use Rattle.consistency.specs.Tables.{Tables}
+use Rattle.tables.specs.Tables.{Tables}
 use Rattle.image.specs.Made.{Small}
-use Rattle.writer.specs.Writing.{frameCount, multiframesFor}
+use Rattle.wrong_frames.specs.WrongFrames.{frameCount}
+use Rattle.writer.specs.Writing.{multiframesFor}
 use Rattle.writer.specs.Laws.{accepts}
 use Rattle.writer.specs.Utterance.{Utterance, whole-frames}
 use Rattle.reader.specs.Reading.{Outcome, reading}

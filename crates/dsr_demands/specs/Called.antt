@@ -11,7 +11,8 @@ use Rattle.settings.specs.Settings.{settings}
 use Rattle.writer.specs.Writing as W
 use Rattle.image.specs.Made.{Small}
 use Rattle.image.specs.Laws.{length-image}
-use Rattle.writer.specs.Writing.{frameCount, multiframesFor, needed, writing, verdict}
+use Rattle.wrong_frames.specs.WrongFrames.{frameCount}
+use Rattle.writer.specs.Writing.{multiframesFor, needed, writing, verdict}
 use Rattle.writer.specs.Laws.{Accepted, accepts}
 use Rattle.writer.specs.Laws as L
 use Rattle.writer.specs.Utterance.{Utterance, imageOf, success}

@@ -13,7 +13,7 @@ use Rattle.choices.specs.declared.Choices.{Choices}
 use Rattle.choices.specs.declared.Asked.the-variants.{For}
 use Rattle.lists.specs.Tests.{when}
 use Rattle.lists.specs.Parts.{over, drop-over}
-use Rattle.consistency.specs.Tables.{Tables}
+use Rattle.tables.specs.Tables.{Tables}
 use Rattle.settings.specs.Settings.{settings}
 use Rattle.writer.specs.Writing as W
 use Rattle.writer.specs.Writing.{writing}

@@ -17,7 +17,7 @@ use Rattle.choices.specs.declared.Choices.{Choices}
 use Rattle.choices.specs.declared.Asked.{Asked}
 use Rattle.choices.specs.declared.Asked.the-variants.{For, NoSuchChoice}
 use Rattle.layout.specs.Layout.{mostMultiframes}
-use Rattle.consistency.specs.Tables.{Tables, RightTables, zeroTables}
+use Rattle.tables.specs.Tables.{Tables, RightTables, zeroTables}
 use Rattle.bits.specs.Bits.{bits}
 use Rattle.hunt.specs.Hunt.{inRange}
 use Rattle.gathering.specs.Gathering.{whole, gathering}

@@ -9,7 +9,7 @@ use Rattle.lists.specs.Parts.{over}
 use Rattle.layout.specs.Layout.{multiframePairs, multiframeFrames, multiframeOctets, mostMultiframes, reportOctets, inverseFirst, inverseSecond}
 use Rattle.choices.specs.declared.Choices.{Choices}
 use Rattle.choices.specs.declared.Asked.the-variants.{For}
-use Rattle.consistency.specs.Tables.{Tables, RightTables}
+use Rattle.tables.specs.Tables.{Tables, RightTables}
 use Rattle.cutting.specs.Cutting.{cutting, whole}
 use Rattle.refusals.specs.Refusals.{readingNumber, readingPlace}
 use Rattle.reader.specs.Reading.{Outcome, reading}

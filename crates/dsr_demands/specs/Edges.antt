@@ -8,7 +8,7 @@ use native.Mathlib.Omega.{arith}
 use lib.Dec.{lit≤}
 use lib.ListN.{length}
 use Rattle.choices.specs.Choices.{asked}
-use Rattle.consistency.specs.Tables.{Tables, zeroTables}
+use Rattle.tables.specs.Tables.{Tables, zeroTables}
 use Rattle.cutting.specs.Cutting.{Cutting, whole, cutting}
 use Rattle.cutting.specs.Laws.{every-length}
 use Rattle.cutting.specs.Reached.{whole-exactly}

@@ -9,7 +9,7 @@ use lib.ListN.{length, getD}
 use Rattle.layout.specs.Layout.{reportOctets}
 use Rattle.choices.specs.declared.Choices.{Choices}
 use Rattle.choices.specs.declared.Asked.the-variants.{For}
-use Rattle.consistency.specs.Tables.{Tables}
+use Rattle.tables.specs.Tables.{Tables}
 use Rattle.image.specs.Made.{syncIn}
 use Rattle.writer.specs.Utterance.{Utterance, imageOf}
 use Rattle.entries.specs.Entries.{Returned, dsrRead}

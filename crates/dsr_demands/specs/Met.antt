@@ -34,7 +34,7 @@ use Rattle.dsr_demands.specs.Named.{Tells, c-names-the-damage}
 use Rattle.dsr_demands.specs.OnAir.{c-names-on-air}
 use Rattle.dsr_demands.specs.Called.{Call, octetsOf}
 use Rattle.dsr_demands.specs.Apart.{Meet}
-use Rattle.consistency.specs.Tables.{zeroTables}
+use Rattle.tables.specs.Tables.{zeroTables}
 
 -- room for six numbers, and for eight
 abbrev pub six : List ℕ

@@ -19,7 +19,7 @@ use Rattle.lists.specs.Parts.{over}
 use Rattle.layout.specs.Layout.{indexOctets, reportOctets, multiframePairs}
 use Rattle.choices.specs.declared.Choices.{Choices}
 use Rattle.choices.specs.declared.Asked.the-variants.{For}
-use Rattle.consistency.specs.Tables.{Tables}
+use Rattle.tables.specs.Tables.{Tables}
 use Rattle.settings.specs.declared.Settings.{Settings}
 use Rattle.bits.specs.Bits.{bits}
 use Rattle.reader.specs.Reading as R
@@ -31,7 +31,7 @@ use Rattle.hunting.specs.Hunting.{huntingReading}
 use Rattle.hunting.specs.Says as F
 use Rattle.hunting.specs.declared.Counted.{Counted}
 use Rattle.hunting.specs.declared.Answer.the-variants.{Read}
-use Rattle.writer.specs.Writing.{frameCount}
+use Rattle.wrong_frames.specs.WrongFrames.{frameCount}
 use Rattle.writer.specs.Utterance.{Utterance, multiframesOf, imageOf, whole-frames, pairsOf}
 use Rattle.entries.specs.Entries.{Returned}
 use Rattle.entries.specs.Bits.{countedNumbers, numbersOf, dsrReadBits}

@@ -16,8 +16,8 @@ use Rattle.lists.specs.Search.{firstFrom}
 use Rattle.layout.specs.Layout.{thresholdNumbers}
 use Rattle.choices.specs.declared.Choices.{Choices}
 use Rattle.choices.specs.declared.Asked.the-variants.{For}
-use Rattle.consistency.specs.Tables.{Tables, tablesOf, at as numberAt, negative, RightSizes, RightTables, FirstNegative, sizesRight, admission}
-use Rattle.consistency.specs.Admitted.{ten-exactly}
+use Rattle.tables.specs.Tables.{Tables, tablesOf, at as numberAt, negative, RightSizes, RightTables, FirstNegative, sizesRight, admission}
+use Rattle.tables.specs.Admitted.{ten-exactly}
 use Rattle.refusals.specs.Refusals.{noRoom, readingNumber, readingPlace, huntingNumber, huntingPlace}
 use Rattle.refusals.specs.declared.Reading.{Reading as Refusal}
 use Rattle.refusals.specs.declared.Reading.the-variants as RV

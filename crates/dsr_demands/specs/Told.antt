@@ -42,7 +42,7 @@ use Rattle.dsr_demands.specs.Named.{headerNoteAt, got-is, HearsAll, c-ne
 use Rattle.dsr_demands.specs.OnAir as O
 use Rattle.dsr_demands.specs.Cut.{c-cut-off}
 use Rattle.dsr_demands.specs.Met.{six, eight, roomFor, call-met}
-use Rattle.consistency.specs.Tables.{zeroTables}
+use Rattle.tables.specs.Tables.{zeroTables}
 
 -- a reading with tables of zeros and just enough room that succeeds is answered with 0
 answers-0 : (ch : Choices) (s : List ℕ) (m : ℕ) (g : Summary) → reading ch s zeroTables (indexFor m) (reportFor m) .answer ≡ Read g

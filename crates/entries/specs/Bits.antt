@@ -10,7 +10,7 @@ use Rattle.lists.specs.Tests.{by-test}
 use Rattle.choices.specs.declared.Choices.{Choices}
 use Rattle.choices.specs.declared.Asked.{Asked}
 use Rattle.choices.specs.declared.Asked.the-variants.{For, NoSuchChoice}
-use Rattle.consistency.specs.Tables.{Tables}
+use Rattle.tables.specs.Tables.{Tables}
 use Rattle.hunt.specs.Hunt as H
 use Rattle.hunt.specs.declared.Hunted.{Hunted}
 use Rattle.hunt.specs.declared.Hunted.the-variants as HA

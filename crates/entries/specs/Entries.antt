@@ -11,7 +11,7 @@ use Rattle.layout.specs.Layout.{streamOctets, indexOctets, multiframePairs}
 use Rattle.choices.specs.declared.Choices.{Choices}
 use Rattle.choices.specs.declared.Asked.{Asked}
 use Rattle.choices.specs.declared.Asked.the-variants.{For, NoSuchChoice}
-use Rattle.consistency.specs.Tables.{Tables}
+use Rattle.tables.specs.Tables.{Tables}
 use Rattle.settings.specs.Settings.{settings}
 use Rattle.bits.specs.Bits.{bits, octets}
 use Rattle.carrier.specs.Carrier.{streamPacket}
@@ -26,7 +26,8 @@ use Rattle.reader.specs.declared.Summary.{Summary}
 use Rattle.reader.specs.declared.Answer.{Answer}
 use Rattle.reader.specs.declared.Answer.the-variants.{Read, Refused}
 use Rattle.writer.specs.Writing as W
-use Rattle.writer.specs.Writing.{firstWide, writing}
+use Rattle.wrong_frames.specs.WrongFrames.{firstWide}
+use Rattle.writer.specs.Writing.{writing}
 
 -- Every entry but the encoder of headers answers 0 if it is done, and else the number of a refusal.
 

@@ -26,7 +26,7 @@ use Rattle.notes.specs.Notes.{pairFails, framesOf, allFrames}
 use Rattle.header.specs.Reading.{reading}
 use Rattle.header.specs.Reading.Examples as H
 use Rattle.choices.specs.Choices.{asked}
-use Rattle.consistency.specs.Tables.{tablesOf, zeroTables, sizesRight, admission}
+use Rattle.tables.specs.Tables.{tablesOf, zeroTables, sizesRight, admission}
 use Rattle.hunt.specs.Hunt.{hunted, found, inRange, misses}
 use Rattle.hunting.specs.Hunting.{huntingReading}
 use Rattle.entries.specs.Entries.{headerRead, packed, packing, unpacked, unpacking, returning, unchosen, givenOf, dsrWrite, dsrRead}

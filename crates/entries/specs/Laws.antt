@@ -22,7 +22,8 @@ use Rattle.refusals.specs.Refusals.{success, noSuchChoice, wrongLength, noRoom,
 use Rattle.refusals.specs.declared.Writing.the-variants.{WideIndex, WrongSettings}
 use Rattle.notes.specs.Notes.{allFrames, crcNotes}
 use Rattle.notes.specs.Laws.{over-all}
-use Rattle.writer.specs.Writing.{firstWide, verdict, writing}
+use Rattle.wrong_frames.specs.WrongFrames.{firstWide}
+use Rattle.writer.specs.Writing.{verdict, writing}
 use Rattle.entries.specs.Entries.{packed, narrowPacking, packing, unpacked, unpacking, Told, numbers, refusal, Given, given, Returned, returned, answered, returning, unchosen, choosing, writeReturned, dsrWrite}
 
 -- ---- packing

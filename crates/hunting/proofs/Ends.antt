@@ -8,8 +8,8 @@ use native.Mathlib.Omega.{arith}
 use lib.ListN.{length, take}
 use Rattle.layout.specs.Layout.{multiframeOctets, mostMultiframes}
 use Rattle.choices.specs.declared.Choices.{Choices}
-use Rattle.consistency.specs.Tables.{Tables, admission}
-use Rattle.consistency.specs.declared.Admission.the-variants as A
+use Rattle.tables.specs.Tables.{Tables, admission}
+use Rattle.tables.specs.declared.Admission.the-variants as A
 use Rattle.bits.specs.Bits.{bits}
 use Rattle.hunt.specs.Hunt.{multiframeBits, inRange, searched}
 use Rattle.reader.specs.Reading as R

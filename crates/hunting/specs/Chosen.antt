@@ -10,8 +10,8 @@ use Rattle.lists.specs.Tests.{when}
 use Rattle.layout.specs.Layout.{mostMultiframes}
 use Rattle.choices.specs.Choices.{oneSettles}
 use Rattle.choices.specs.declared.Choices.{Choices}
-use Rattle.consistency.specs.Tables.{Tables, RightTables, admission, ifAdmitted}
-use Rattle.consistency.specs.Admitted.{right-passes}
+use Rattle.tables.specs.Tables.{Tables, RightTables, admission, ifAdmitted}
+use Rattle.tables.specs.Admitted.{right-passes}
 use Rattle.refusals.specs.declared.Reading.{Reading as OctetRefusal}
 use Rattle.cutting.specs.Cutting.{Cutting, cutting}
 use Rattle.cutting.specs.Reached.{whole-exactly}

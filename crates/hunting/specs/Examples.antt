@@ -7,7 +7,7 @@ use lib.ListN.{replicate}
 use Rattle.choices.specs.declared.Choices.{Choices}
 use Rattle.bits.specs.Bits.{fields}
 use Rattle.lists.specs.Search.{firstFrom}
-use Rattle.consistency.specs.Tables.{tablesOf, sizesRight, admission}
+use Rattle.tables.specs.Tables.{tablesOf, sizesRight, admission}
 use Rattle.hunt.specs.Hunt.{inRange, found, misses}
 use Rattle.refusals.specs.declared.Reading.the-variants as RR
 use Rattle.gathering.specs.Gathering.{gathering}

@@ -6,7 +6,7 @@ use lib.ListN.{length}
 use Rattle.lists.specs.Tests.{when}
 use Rattle.layout.specs.Layout.{mostMultiframes}
 use Rattle.choices.specs.declared.Choices.{Choices}
-use Rattle.consistency.specs.Tables.{Tables, admission, ifAdmitted}
+use Rattle.tables.specs.Tables.{Tables, admission, ifAdmitted}
 use Rattle.bits.specs.Bits.{bits}
 use Rattle.hunt.specs.Hunt.{inRange}
 use Rattle.gathering.specs.Gathering.{Ending, whole, tooMany, Gathering, gathering, outsideOf, imageOf}

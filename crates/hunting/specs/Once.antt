@@ -8,8 +8,8 @@ use native.Mathlib.Omega.{arith}
 use lib.ListN.{length}
 use Rattle.layout.specs.Layout.{mostMultiframes}
 use Rattle.choices.specs.declared.Choices.{Choices}
-use Rattle.consistency.specs.Tables.{Tables, RightSizes, RightTables, FirstNegative}
-use Rattle.consistency.specs.Admitted.{right-passes, wrong-sizes, negative-refused}
+use Rattle.tables.specs.Tables.{Tables, RightSizes, RightTables, FirstNegative}
+use Rattle.tables.specs.Admitted.{right-passes, wrong-sizes, negative-refused}
 use Rattle.bits.specs.Bits.{bits}
 use Rattle.hunt.specs.Hunt.{inRange}
 use Rattle.refusals.specs.declared.Reading.the-variants as RR

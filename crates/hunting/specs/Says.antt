@@ -14,16 +14,16 @@ use borrow.Author.Tests.{ne-eqb}
 use Rattle.lists.specs.Tests.{by-test, true-false}
 use Rattle.layout.specs.Layout.{multiframeOctets, mostMultiframes, indexOctets, reportOctets, syncFirst, syncSecond}
 use Rattle.choices.specs.declared.Choices.{Choices}
-use Rattle.consistency.specs.Tables.{Tables, RightSizes, RightTables, FirstNegative, admission}
-use Rattle.consistency.specs.Admitted.{Shown, shown, by-shown, right-passes}
-use Rattle.consistency.specs.declared.Admission.{Admission}
-use Rattle.consistency.specs.declared.Admission.the-variants as A
+use Rattle.tables.specs.Tables.{Tables, RightSizes, RightTables, FirstNegative, admission}
+use Rattle.tables.specs.Admitted.{Shown, shown, by-shown, right-passes}
+use Rattle.tables.specs.declared.Admission.{Admission}
+use Rattle.tables.specs.declared.Admission.the-variants as A
 use Rattle.bits.specs.Bits.{bits}
 use Rattle.cutting.specs.Cutting.{Cutting, cutting, whole as uncut}
 use Rattle.cutting.specs.Laws.{every, every-length, whole-image}
 use Rattle.settling.specs.declared.Settlement.{Settlement}
 use Rattle.settling.specs.declared.Settlement.the-variants as S
-use Rattle.settling.specs.Settling.{unfit}
+use Rattle.unfit.specs.Unfit.{unfit}
 use Rattle.hunt.specs.Hunt.{multiframeBits, inRange, searched, passes, placesLeft}
 use Rattle.reader.specs.Reading as R
 use Rattle.deciding.specs.Deciding.{receivedNotes, roomVerdict, settledVerdict, wholeVerdict}

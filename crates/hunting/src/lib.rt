@@ -1,17 +1,17 @@
 // The hunting reader (02, C-13): the multiframes found at any bit are read as the octet reader reads them.
 use choices::Choices;
-use consistency::Admission;
 use gathering::Gathered;
 use layout::MultiframeLayout;
 use layout::UtteranceLayout;
 use reader::Summary;
 use refusals::Hunting;
+use tables::Admission;
 ghost use mathlib.Core.Path.{_≡_};
 ghost use Prim.Native.Nat.{_*_, _≤_};
 ghost use lib.ListN.{length, take};
 ghost use Rattle.lists.specs.Lent.{came, left};
 ghost use Rattle.layout.specs.Layout.{multiframeOctets, mostMultiframes};
-ghost use Rattle.consistency.specs.Lent.{tablesIn};
+ghost use Rattle.tables.specs.Lent.{tablesIn};
 ghost use Rattle.hunt.specs.Hunt.{syncBits};
 ghost use Rattle.reader.specs.Reading.{reading};
 ghost use Rattle.hunting.specs.Hunting.{counted, outcome, readingFound, huntingReading};
@@ -112,7 +112,7 @@ pub fn read(
     ensures { λ r. ⌜ outcome r (left index) (left report)
         ≡ huntingReading choices (came octets) from least (tablesIn codebook thresholds) (came index) (came report) ⌝ }
 {
-    if let Admission::Refused(r) = consistency::admit(codebook, thresholds) {
+    if let Admission::Refused(r) = tables::admit(codebook, thresholds) {
         return Answer::Refused(Hunting::Octets(r));
     }
     if hunt::in_range(least) {

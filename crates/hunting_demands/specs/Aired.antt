@@ -40,7 +40,7 @@ use Rattle.hunting_demands.specs.Laid.{laidMultiframe, laidOctets, Sizes
 use Rattle.hunting_demands.specs.HuntsBack.{receivedFlips}
 use Rattle.hunting_demands.specs.Met.{worstSync, worst-matches, threeZeros, manyZeros, earlier, fails-before, zeros-match, zeros-part, two-ones}
 use Rattle.hunting_demands.specs.Radio.{receivedPacket, together, Caught, OnAir, packet-there, Premises}
-use Rattle.consistency.specs.Tables.{zeroTables}
+use Rattle.tables.specs.Tables.{zeroTables}
 
 module _ (u : Utterance) where
   abbrev pub aired : List ℕ

@@ -12,7 +12,7 @@ use Rattle.lists.specs.Parts.{part, part-left}
 use Rattle.lists.specs.Rows.{same-joined}
 use Rattle.layout.specs.Layout.{syncOctets, headerOctets, streamOctets, multiframeOctets, mostMultiframes, syncFirst, syncSecond}
 use Rattle.choices.specs.declared.Choices.{Choices}
-use Rattle.consistency.specs.Tables.{Tables, RightTables}
+use Rattle.tables.specs.Tables.{Tables, RightTables}
 use Rattle.bits.specs.Bits.{value, bits}
 use Rattle.bits.specs.Laws.{length-bits, bits-part}
 use Rattle.header.specs.Reading.{reading}

@@ -19,7 +19,7 @@ use Rattle.lists.specs.Rows.{joined, same-joined}
 use Rattle.layout.specs.Layout.{multiframePairs, mostMultiframes, indexOctets, reportOctets}
 use Rattle.choices.specs.Choices.{oneSettles}
 use Rattle.choices.specs.declared.Choices.{Choices}
-use Rattle.consistency.specs.Tables.{Tables}
+use Rattle.tables.specs.Tables.{Tables}
 use Rattle.bits.specs.Bits.{bits}
 use Rattle.carrier.specs.Carrier.{streamPacket}
 use Rattle.header.specs.Reading.{reading}

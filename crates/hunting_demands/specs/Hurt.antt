@@ -13,7 +13,7 @@ use Rattle.lists.specs.Parts.{part, part-left}
 use Rattle.lists.specs.Rows.{joined}
 use Rattle.layout.specs.Layout.{multiframePairs, streamOctets, mostMultiframes, firstPair}
 use Rattle.choices.specs.declared.Choices.{Choices}
-use Rattle.consistency.specs.Tables.{Tables}
+use Rattle.tables.specs.Tables.{Tables}
 use Rattle.bits.specs.Bits.{bits}
 use Rattle.bits.specs.Laws.{bits-octets}
 use Rattle.packet.specs.Packet.{stream}

@@ -19,8 +19,8 @@ use Rattle.lists.specs.Rows.{each, joined, length-joined, joined-part}
 use Rattle.layout.specs.Layout.{packetBits, multiframePairs, multiframeOctets, mostMultiframes, indexOctets, reportOctets, syncFirst, syncSecond}
 use Rattle.choices.specs.Choices.{oneSettles, byDefault, oneHeaderSettles}
 use Rattle.choices.specs.declared.Choices.{Choices}
-use Rattle.consistency.specs.Tables.{Tables, RightTables, zeroTables}
-use Rattle.consistency.specs.Admitted.{right-passes}
+use Rattle.tables.specs.Tables.{Tables, RightTables, zeroTables}
+use Rattle.tables.specs.Admitted.{right-passes}
 use Rattle.settings.specs.Settings.{settings}
 use Rattle.bits.specs.Bits.{field, fields, value, bits}
 use Rattle.bits.specs.Laws.{length-field, length-bits}
@@ -39,8 +39,11 @@ use Rattle.header.specs.Reading.Laws.{mended}
 use Rattle.header.specs.declared.Decoded.{Decoded}
 use Rattle.header.specs.declared.Header.{Header}
 use Rattle.header.specs.declared.Header.the-variants.{Codeword}
-use Rattle.settling.specs.Settling.{readings, settling, firstAgreeing}
-use Rattle.settling.specs.Laws.{length-readings, one-default, two-or-more, only-clean, only-mended, Usable, fit-is}
+use Rattle.header_readings.specs.Readings.{readings}
+use Rattle.settling.specs.Settling.{settling, firstAgreeing}
+use Rattle.header_readings.specs.Laws.{length-readings}
+use Rattle.settling.specs.Laws.{one-default, two-or-more, only-clean, only-mended}
+use Rattle.unfit.specs.Laws.{Usable, fit-is}
 use Rattle.settling.specs.declared.Settlement.the-variants as S
 use Rattle.hunt.specs.Hunt.{syncBits, headerBits, multiframeBits, fewestMatches, inRange, sync, matches, passes, searched, placesLeft}
 use Rattle.hunt.specs.Laws.{searched-all, in-range}

@@ -14,7 +14,7 @@ use Rattle.lists.specs.Parts.{part, length-part, part-left}
 use Rattle.lists.specs.Rows.{each-at}
 use Rattle.layout.specs.Layout.{syncOctets, headerOctets, multiframeOctets, reportOctets}
 use Rattle.choices.specs.declared.Choices.{Choices}
-use Rattle.consistency.specs.Tables.{Tables}
+use Rattle.tables.specs.Tables.{Tables}
 use Rattle.bits.specs.Bits.{field, value, bits}
 use Rattle.bits.specs.Laws.{length-field, value-field, value-lt, bits-octets}
 use Rattle.header.specs.Reading.{ReadAs, reading}
@@ -23,10 +23,11 @@ use Rattle.header.specs.declared.Header.{Header}
 use Rattle.header.specs.declared.Header.the-variants.{Codeword, Lost}
 use Rattle.cutting.specs.Cutting.{Cutting, cutting}
 use Rattle.cutting.specs.Laws.{every-length}
-use Rattle.settling.specs.Settling.{readings, headerNote}
+use Rattle.header_readings.specs.Readings.{readings}
+use Rattle.header_notes.specs.HeaderNotes.{headerNote}
 use Rattle.deciding.specs.Deciding.{receivedNotes}
 use Rattle.carrier.specs.Carrier.{received, pairCount}
-use Rattle.settling.specs.Laws.{note-flips}
+use Rattle.header_notes.specs.Laws.{note-flips}
 use Rattle.notes.specs.Laws.{length-notes}
 use Rattle.reader.specs.Reading as R
 use Rattle.hunt.specs.Hunt.{syncBits, headerBits, multiframeBits, sync, matches, readable, passes}

@@ -13,7 +13,7 @@ use lib.Count.{ones}
 use lib.ListN.{length}
 use Rattle.layout.specs.Layout.{multiframePairs, multiframeOf, mostMultiframes}
 use Rattle.choices.specs.declared.Choices.{Choices}
-use Rattle.consistency.specs.Tables.{Tables}
+use Rattle.tables.specs.Tables.{Tables}
 use Rattle.bits.specs.Bits.{bits}
 use Rattle.carrier.specs.Carrier.{streamPacket}
 use Rattle.crc.specs.Crc.{Damaged}

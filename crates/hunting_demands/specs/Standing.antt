@@ -14,8 +14,8 @@ use Rattle.lists.specs.Tests.{both}
 use Rattle.lists.specs.Parts.{part, length-part}
 use Rattle.layout.specs.Layout.{headerOctets, streamOctets, multiframeOctets, mostMultiframes, syncFirst, syncSecond}
 use Rattle.choices.specs.declared.Choices.{Choices}
-use Rattle.consistency.specs.Tables.{Tables, RightTables}
-use Rattle.consistency.specs.Admitted.{right-passes}
+use Rattle.tables.specs.Tables.{Tables, RightTables}
+use Rattle.tables.specs.Admitted.{right-passes}
 use Rattle.bits.specs.Bits.{field, fields, value, bits, octets}
 use Rattle.bits.specs.Laws.{field-value, value-lt, bits-octets, octets-append}
 use Rattle.header.specs.Reading.{reading}

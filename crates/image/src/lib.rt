@@ -33,7 +33,7 @@ fn put_multiframe(settings: Settings, indices: &[u8], k: Multiframe, out: &mut [
         word,
         MultiframeLayout::HEADER,
     );
-    packet::put_stream(
+    streams::put_stream(
         indices,
         k.first_pair(),
         out,

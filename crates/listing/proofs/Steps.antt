@@ -8,7 +8,7 @@ use lib.ListN.{length, replicate, length-replicate}
 use Rattle.lists.specs.Rows.{joined}
 use Rattle.choices.specs.Choices.{oneHeaderSettles}
 use Rattle.choices.specs.declared.Choices.{Choices}
-use Rattle.consistency.specs.Tables.{Tables, zeroTables}
+use Rattle.tables.specs.Tables.{Tables, zeroTables}
 use Rattle.layout.specs.Layout.{mostMultiframes, indexOctets, reportOctets}
 use Rattle.refusals.specs.declared.Reading.{Reading}
 use Rattle.cutting.specs.Cutting.{cutting}

@@ -15,8 +15,8 @@ use Rattle.reader.specs.declared.Answer.the-variants.{Refused}
 use Rattle.lines.specs.Examples.{empty-refused}
 use Rattle.listing.specs.Listing.{listed, listing}
 use Rattle.choices.specs.Choices.{oneHeaderSettles}
-use Rattle.consistency.specs.Tables.{zeroTables}
-use Rattle.consistency.specs.Admitted.{zero-right, right-passes}
+use Rattle.tables.specs.Tables.{zeroTables}
+use Rattle.tables.specs.Admitted.{zero-right, right-passes}
 
 -- "refused 14 0"
 pub empty-listed : listing [] ≡ 114 ∷ 101 ∷ 102 ∷ 117 ∷ 115 ∷ 101 ∷ 100 ∷ 32 ∷ 49 ∷ 52 ∷ 32 ∷ 48 ∷ 10 ∷ []

@@ -6,7 +6,7 @@ use lib.ListN.{replicate}
 use Rattle.lists.specs.Rows.{joined}
 use Rattle.layout.specs.Layout.{mostMultiframes, indexOctets, reportOctets}
 use Rattle.choices.specs.Choices.{oneHeaderSettles}
-use Rattle.consistency.specs.Tables.{zeroTables}
+use Rattle.tables.specs.Tables.{zeroTables}
 use Rattle.reader.specs.Reading.{Outcome, reading}
 use Rattle.reader.specs.declared.Answer.{Answer}
 use Rattle.reader.specs.declared.Answer.the-variants.{Read, Refused}

@@ -13,7 +13,7 @@ use Rattle.lists.specs.Tests.{when}
 use Rattle.lists.specs.Parts.{part, over, over-none, set-over, behind, over-behind}
 use Rattle.lists.specs.Rows.{each, joined, length-each, each-at, same-each, same-joined, each-add, joined-add}
 use Rattle.layout.specs.Layout.{widths, frameIndices, pairIndices, dataBits, packetBits, multiframePairs, streamOctets, indexOctets, multiframeOf, firstPair, packetStart}
-use Rattle.consistency.specs.Tables.{Tables}
+use Rattle.tables.specs.Tables.{Tables}
 use Rattle.cutting.specs.Laws.{Placed}
 use Rattle.carrier.specs.Carrier.{streamAt, streamPacket, inPlaces, received, pairCount}
 use Rattle.carrier.specs.Laws.{length-stream, packet-inside, packet-of}

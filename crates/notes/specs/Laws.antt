@@ -11,7 +11,7 @@ use native.Mathlib.Omega.{arith}
 use Rattle.lists.specs.Parts.{part, over}
 use Rattle.lists.specs.Rows.{each, length-each, each-at, length-joined, joined-part}
 use Rattle.layout.specs.Layout.{widths, pairIndices}
-use Rattle.consistency.specs.Tables.{Tables}
+use Rattle.tables.specs.Tables.{Tables}
 use Rattle.bits.specs.Bits.{total}
 use Rattle.bits.specs.Laws.{length-numbers}
 use Rattle.packet.specs.Packet.{apart}

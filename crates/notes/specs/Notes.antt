@@ -7,7 +7,7 @@ use mathlib.Core.Bool.{Bool, false, not}
 use lib.ListN.{take, drop}
 use Rattle.lists.specs.Rows.{each, joined}
 use Rattle.layout.specs.Layout.{widths, frameIndices, dataBits}
-use Rattle.consistency.specs.Tables.{Tables}
+use Rattle.tables.specs.Tables.{Tables}
 use Rattle.crc.specs.Crc.{right}
 use Rattle.packet.specs.Packet.{apart}
 use Rattle.consistency.specs.Consistency.{inconsistent}

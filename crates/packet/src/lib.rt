@@ -1,48 +1,20 @@
-// Frames and pair packets of a feature stream, written and read by words: a frame is 44 bits of a word, a packet a word of 64 bits and 28
-// more, two packets 23 whole octets.
+// Pair packets of a feature stream, read by words: a frame is 44 bits of a word, a packet a word of 64 bits and 28 more.
 use crc::Crc;
-use layout::Frame;
 use layout::FrameLayout;
-use layout::MultiframeLayout;
 use layout::PacketLayout;
 use layout::Pair;
 ghost use mathlib.Core.Path.{_≡_};
-ghost use mathlib.Core.List.{_++_};
-ghost use Prim.Native.Nat.{_+_, _*_, _%_, _^_, _≤_, _<_};
+ghost use Prim.Native.Nat.{_+_, _*_, _≤_};
 ghost use lib.ListN.{length};
 ghost use Rattle.lists.specs.Parts.{part, over};
 ghost use Rattle.lists.specs.Lent.{came, left};
-ghost use Rattle.layout.specs.Layout.{widths, frameIndices, frameBits, pairIndices, dataBits, packetBits, packetStart, multiframePairs, streamOctets};
-ghost use Rattle.bits.specs.Bits.{bits, field, value, octets};
-ghost use Rattle.crc.specs.Crc.{crc, code, right};
-ghost use Rattle.packet.specs.Packet.{restBits, halfBits, secondBits, twoPackets, frame, indices, apart, frameAt, packetOf, stream};
+ghost use Rattle.layout.specs.Layout.{widths, frameIndices, frameBits, pairIndices, dataBits, packetBits, packetStart};
+ghost use Rattle.bits.specs.Bits.{bits, field, value};
+ghost use Rattle.crc.specs.Crc.{right};
+ghost use Rattle.packet.specs.Packet.{secondBits, indices, apart};
 
-// Bits of a word, and the packet's bits that are left when one is full.
-const WORD: usize = 64;
-
-const REST: usize = PacketLayout::BITS - WORD;
-
-// Octets of two packets, and of a word.
-const TWO: usize = 2 * PacketLayout::BITS / 8;
-
-const FULL: usize = WORD / 8;
-
-// Of two packets the second begins in the middle of this octet, behind these bits of the first.
-const ODD: usize = PacketLayout::BITS / 8;
-
-const HALF: usize = PacketLayout::BITS % 8;
-
-// Octets of what is left of a packet when a word is full, with half an octet that is not its own.
-const TAIL: usize = (REST + HALF) / 8;
-
-// A frame's whole octets, their bits, and the bits behind them; with the CRC's four bits more a frame is one octet more.
-const WHOLE: u32 = (FrameLayout::BITS / 8) as u32;
-
-const WHOLE_BITS: usize = FrameLayout::BITS / 8 * 8;
-
-const LEFT_BITS: usize = FrameLayout::BITS - WHOLE_BITS;
-
-const WITH_CRC: u32 = WHOLE + 1;
+// Octets of a frame with the CRC's four bits more.
+const WITH_CRC: u32 = (FrameLayout::BITS / 8) as u32 + 1;
 
 // From a packet's first octet to the word of its second frame, and from that word's start to the frame.
 const AHEAD: usize = 4;
@@ -60,92 +32,6 @@ const LAST_MASK: u64 = (1 << FrameLayout::LAST_BITS) - 1;
 const FRAME_MASK: u64 = (1 << FrameLayout::BITS) - 1;
 
 const SECOND_MASK: u64 = (1 << (FrameLayout::BITS + PacketLayout::CRC_BITS)) - 1;
-
-fn wide(x: u8) -> u64
-    ensures { λ r. ⌜ r ≡ x ⌝ }
-{
-    x as u64
-}
-
-// frame_word gives the bits of frame k as a word; past the end of idx a frame is zeros.
-// It asks for whole frames (refusal 2 of the writer) and a frame number whose octets can be counted.
-pub fn frame_word(idx: &[u8], k: Frame) -> u64
-    requires { ⌜ (length (now idx) % frameIndices ≡ 0) × (k .0 < 2 ^ 21) ⌝ }
-    ensures { λ r. ⌜ r ≡ value (frame widths (frameAt (came idx) (k .0))) ⌝ }
-{
-    let from = FrameLayout::INDICES * k.0;
-    if idx.len() <= from {
-        return 0;
-    }
-    let mut x: u64 = 0;
-    for i in 0..FrameLayout::NARROW {
-        x = x | ((wide(idx[from + i]) & NARROW_MASK) << (FrameLayout::NARROW_BITS * i));
-    }
-    x | (wide(idx[from + FrameLayout::NARROW]) << LAST)
-}
-
-// crc_of gives the CRC, as the field that is sent, of two frames.
-fn crc_of(a: u64, b: u64) -> u64
-    requires { ⌜ a < 2 ^ frameBits ⌝ }
-    ensures { λ r. ⌜ r ≡ code (crc (field frameBits a ++ field frameBits b)) ⌝ }
-{
-    let first = Crc::new().octets(a, WHOLE);
-    wide(
-        first
-            .octets((a >> WHOLE_BITS) | (b << LEFT_BITS), WITH_CRC)
-            .0,
-    )
-}
-
-// A packet behind n leading bits, as two numbers: the first 64 bits, and the last 28 + n.
-pub struct Packed {
-    pub low: u64,
-    pub high: u64,
-}
-
-// pack gives the packet of pair q behind the n bits lead. It asks for a lead that fits n bits, at most the half octet in which an odd packet
-// begins.
-pub fn pack(idx: &[u8], q: Pair, lead: u64, n: usize) -> Packed
-    requires { ⌜ (length (now idx) % frameIndices ≡ 0) × (q .0 < 2 ^ 20) ⌝ }
-    requires { ⌜ (n ≤ halfBits) × (lead < 2 ^ n) ⌝ }
-    ensures bits { λ r. ⌜ field 64 (r .low) ++ field (restBits + n) (r .high) ≡ field n lead ++ packetOf (came idx) (q .0) ⌝ }
-    ensures fits { λ r. ⌜ (r .low < 2 ^ 64) × (r .high < 2 ^ (restBits + n)) ⌝ }
-{
-    let a = frame_word(idx, q.first());
-    let b = frame_word(idx, q.second());
-    let c = crc_of(a, b);
-    Packed {
-        low: lead | (a << n) | (b << (FrameLayout::BITS + n)),
-        high: (b >> (WORD - FrameLayout::BITS - n)) | (c << (PacketLayout::DATA_BITS - WORD + n)),
-    }
-}
-
-// put_two stores the packets of pairs q and q + 1 from octet at on, and reads nothing back. The second is packed behind the bits of the first
-// that share its octet, so that each store is a word or half of one as it stands: of two words joined in a store the compiler makes octets.
-fn put_two(idx: &[u8], q: Pair, out: &mut [u8], at: usize)
-    requires { ⌜ (length (now idx) % frameIndices ≡ 0) × (q .0 + 1 < 2 ^ 20) ⌝ }
-    requires { ⌜ at + twoPackets ≤ length (now out) ⌝ }
-    ensures { λ _. ⌜ left out ≡ over (came out) at twoPackets (octets twoPackets (stream (came idx) (q .0) 2)) ⌝ }
-{
-    let a = pack(idx, q, 0, 0);
-    let b = pack(idx, Pair(q.0 + 1), a.high >> (REST - HALF), HALF);
-    bits::store(out, at, a.low, FULL);
-    bits::store(out, at + FULL, a.high, TAIL);
-    bits::store(out, at + ODD, b.low, FULL);
-    bits::store(out, at + ODD + FULL, b.high, TAIL);
-}
-
-// put_stream stores a multiframe's stream, the packets of twelve pairs from pair q on, from octet at on; every other octet stays.
-// It asks for whole frames and for room.
-pub fn put_stream(idx: &[u8], q: Pair, out: &mut [u8], at: usize)
-    requires { ⌜ (length (now idx) % frameIndices ≡ 0) × (q .0 + multiframePairs < 2 ^ 20) ⌝ }
-    requires { ⌜ at + streamOctets ≤ length (now out) ⌝ }
-    ensures { λ _. ⌜ left out ≡ over (came out) at streamOctets (octets streamOctets (stream (came idx) (q .0) multiframePairs)) ⌝ }
-{
-    for g in 0..MultiframeLayout::PAIRS / 2 {
-        put_two(idx, Pair(q.0 + 2 * g), out, at + TWO * g);
-    }
-}
 
 // first_word gives the bits of the first frame of pair p's packet in a stream. It asks, as those below, that the packet lies
 // inside.

@@ -19,8 +19,8 @@ use Rattle.lists.specs.Search.{firstFrom}
 use Rattle.layout.specs.Layout.{widths, streamOctets, firstPair, multiframePairs}
 use Rattle.choices.specs.Choices.{oneHeaderSettles}
 use Rattle.choices.specs.declared.Choices.{Choices}
-use Rattle.consistency.specs.Tables.{Tables, tablesOf, zeroTables}
-use Rattle.consistency.specs.Admitted.{zero-right}
+use Rattle.tables.specs.Tables.{Tables, tablesOf, zeroTables}
+use Rattle.tables.specs.Admitted.{zero-right}
 use Rattle.settings.specs.Settings.{settings}
 use Rattle.frames.specs.Frames.{zeroFrame as isZeroFrame}
 use Rattle.bits.specs.Bits.{numbers, value, laid, field, fields, bits, octets}

@@ -17,8 +17,8 @@ use Rattle.lists.specs.Parts.{part, over}
 use Rattle.lists.specs.Rows.{joined, each, each-at, same-each}
 use Rattle.layout.specs.Layout.{indexOctets, reportOctets, firstPair, multiframePairs}
 use Rattle.choices.specs.declared.Choices.{Choices}
-use Rattle.consistency.specs.Tables.{Tables, tablesOf, zeroTables}
-use Rattle.consistency.specs.Admitted.{none-by-test, zero-right}
+use Rattle.tables.specs.Tables.{Tables, tablesOf, zeroTables}
+use Rattle.tables.specs.Admitted.{none-by-test, zero-right}
 use Rattle.settings.specs.Settings.{settings}
 use Rattle.frames.specs.Frames.{zeroFrame}
 use Rattle.bits.specs.Bits.{value, numbers, field, fields, total}
@@ -33,8 +33,12 @@ use Rattle.header.specs.Reading.Laws.{lost-at-three}
 use Rattle.header.specs.declared.Header.{Header}
 use Rattle.header.specs.declared.Header.the-variants.{Codeword, Lost}
 use Rattle.cutting.specs.Cutting.{syncMet, lastMet, pieceBy, whole, Cutting, walk, cutting}
-use Rattle.settling.specs.Settling.{readings, firstAgreeing, settling, headerNote}
-use Rattle.settling.specs.Laws.{all-agree, note-lost, Usable}
+use Rattle.header_readings.specs.Readings.{readings}
+use Rattle.settling.specs.Settling.{firstAgreeing, settling}
+use Rattle.header_notes.specs.HeaderNotes.{headerNote}
+use Rattle.settling.specs.Laws.{all-agree}
+use Rattle.unfit.specs.Laws.{Usable}
+use Rattle.header_notes.specs.Laws.{note-lost}
 use Rattle.settling.specs.declared.Settlement.the-variants as S
 use Rattle.consistency.specs.Consistency.{flagged, flags, inconsistent}
 use Rattle.carrier.specs.Carrier.{received, pairCount}

@@ -20,8 +20,8 @@ use Rattle.lists.specs.Search.{firstFrom}
 use Rattle.layout.specs.Layout.{multiframeOctets, mostMultiframes, indexOctets, reportOctets, syncFirst, syncSecond}
 use Rattle.choices.specs.Choices.{byDefault, oneHeaderSettles}
 use Rattle.choices.specs.declared.Choices.{Choices}
-use Rattle.consistency.specs.Tables.{Tables}
-use Rattle.consistency.specs.Admitted.{right-passes, wrong-sizes}
+use Rattle.tables.specs.Tables.{Tables}
+use Rattle.tables.specs.Admitted.{right-passes, wrong-sizes}
 use Rattle.settings.specs.Settings.{settings}
 use Rattle.frames.specs.Frames.{zeroFrame}
 use Rattle.bits.specs.Bits.{value, bits, field, fields}
@@ -37,8 +37,11 @@ use Rattle.header.specs.declared.Header.the-variants.{Codeword, Lost}
 use Rattle.cutting.specs.Cutting.{syncMet, lastMet, pieceBy, pieceOf, Ending, whole, refused, Cutting, walk, cutting}
 use Rattle.cutting.specs.declared.Piece.the-variants.{Multiframe}
 use Rattle.cutting.specs.Laws.{multiframe-met, at-place, every-length}
-use Rattle.settling.specs.Settling.{readings, firstAgreeing, onlyOne, settling}
-use Rattle.settling.specs.Laws.{length-readings, neither, one-default, only-clean, only-mended, all-agree, Usable, fit-is, unfit-is}
+use Rattle.header_readings.specs.Readings.{readings}
+use Rattle.settling.specs.Settling.{firstAgreeing, onlyOne, settling}
+use Rattle.header_readings.specs.Laws.{length-readings}
+use Rattle.settling.specs.Laws.{neither, one-default, only-clean, only-mended, all-agree}
+use Rattle.unfit.specs.Laws.{Usable, fit-is, unfit-is}
 use Rattle.carrier.specs.Carrier.{received, pairCount}
 use Rattle.settling.specs.declared.Settlement.{Settlement}
 use Rattle.settling.specs.declared.Settlement.the-variants as S

@@ -17,14 +17,15 @@ use Rattle.message.specs.Message.{message, rateOf, commonBits}
 use Rattle.message.specs.Message.Laws.{rate-back, count-back, common-rate, common-message, message-counts, message-rate-1}
 use Rattle.header.specs.declared.Header.{Header}
 use Rattle.header.specs.declared.Header.the-variants.{Codeword, Lost}
-use Rattle.settling.specs.Settling.{firstAgreeing, onlyOne, settling, headerNote}
+use Rattle.settling.specs.Settling.{firstAgreeing, onlyOne, settling}
+use Rattle.header_notes.specs.HeaderNotes.{headerNote}
 use Rattle.settling.specs.Laws.{two-or-more, only-mended}
 use Rattle.settling.specs.declared.Settlement.the-variants.{Settled, Unsettled}
 use Rattle.consistency.specs.Consistency.{exceeding, elementExceeds, flagged, flags, inconsistent}
 use Rattle.replacing.specs.Replacing.{source, sourceBy, runStart, leading}
 use Rattle.replacing.specs.Examples.{standIns}
 use Rattle.replacing.specs.Speech.{lastNonzero, speechOf, endOf}
-use Rattle.consistency.specs.Tables.{tablesOf}
+use Rattle.tables.specs.Tables.{tablesOf}
 use Rattle.consistency.specs.Laws.{inconsistent-turned}
 
 -- ---- tables

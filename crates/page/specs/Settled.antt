@@ -30,8 +30,10 @@ use Rattle.refusals.specs.declared.Reading.{Reading as Refusal}
 use Rattle.refusals.specs.declared.Reading.the-variants.{Unknown, CutShort, Empty, TooMany, Unsettled, Unfit}
 use Rattle.cutting.specs.Cutting.{pieceBy, syncMet, lastMet, Ending, whole, refused, Cutting, ended, walk, cutting}
 use Rattle.cutting.specs.Laws.{every, every-length, every-at}
-use Rattle.settling.specs.Settling.{readings, firstAgreeing, settling}
-use Rattle.settling.specs.Laws.{Usable, not-one, fit-is, unfit-is, only-clean, only-mended, only-default}
+use Rattle.header_readings.specs.Readings.{readings}
+use Rattle.settling.specs.Settling.{firstAgreeing, settling}
+use Rattle.settling.specs.Laws.{not-one, only-clean, only-mended, only-default}
+use Rattle.unfit.specs.Laws.{Usable, fit-is, unfit-is}
 use Rattle.settling.specs.declared.Settlement.{Settlement}
 use Rattle.settling.specs.declared.Settlement.the-variants as S
 use Rattle.until_settled.specs.declared.Answer.{Answer}

@@ -31,7 +31,8 @@ use Rattle.message.specs.Message.Laws.{message-lt}
 use Rattle.header.specs.Reading.Laws.{flips-of}
 use Rattle.image.specs.Made.{packetIn, made-word, made-packet}
 use Rattle.image.specs.Laws.{image-packet}
-use Rattle.writer.specs.Writing.{frameCount, isWide, mustSpeak, endsEarly, needed, verdict, Outcome, writing}
+use Rattle.wrong_frames.specs.WrongFrames.{frameCount, isWide, mustSpeak, endsEarly}
+use Rattle.writer.specs.Writing.{needed, verdict, Outcome, writing}
 use Rattle.writer.specs.Laws.{Sized, accepts}
 use Rattle.writer.specs.Utterance.{Utterance, multiframesOf, pairsOf, imageOf, writes}
 use Rattle.writer.specs.declared.Answer.the-variants.{Written}
@@ -41,7 +42,7 @@ use Rattle.demands.specs.Met.{indexFor, reportFor, burstAt, doubleAt, distance,
 use Rattle.demands.specs.Whole.{headerNoteIn, pairNoteIn}
 use Rattle.demands.specs.ReadsBack as R
 use Rattle.demands.specs.NamesTheDamage as N
-use Rattle.consistency.specs.Tables.{zeroTables}
+use Rattle.tables.specs.Tables.{zeroTables}
 
 -- n frames of ones
 abbrev pub ones : ℕ → List ℕ

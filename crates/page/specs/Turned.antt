@@ -9,8 +9,8 @@ use lib.IntN.{ℤ, pos, negsuc}
 use lib.ListN.{length, replicate}
 use Rattle.lists.specs.Search.{at, firstFrom}
 use Rattle.choices.specs.declared.Choices.{Choices}
-use Rattle.consistency.specs.Tables.{tablesOf, firstNegative, signAdmission}
-use Rattle.consistency.specs.Admitted.{signs-next, wrong-sizes}
+use Rattle.tables.specs.Tables.{tablesOf, firstNegative, signAdmission}
+use Rattle.tables.specs.Admitted.{signs-next, wrong-sizes}
 use Rattle.reader.specs.Steps.{not-admitted}
 use Rattle.refusals.specs.declared.Reading.the-variants.{WrongTables, NegativeThreshold}
 use Rattle.page.specs.Received.{Refuses, refuses}

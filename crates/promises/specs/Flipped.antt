@@ -21,7 +21,7 @@ use Rattle.lists.specs.Parts.{over}
 use Rattle.lists.specs.Rows.{each, length-each, each-at, joined, length-joined, joined-part, same-joined}
 use Rattle.layout.specs.Layout.{frameIndices, dataBits, packetBits, multiframePairs, streamOctets, indexOctets, reportOctets, multiframeOf, firstPair, firstFrame, secondFrame}
 use Rattle.choices.specs.declared.Choices.{Choices}
-use Rattle.consistency.specs.Tables.{Tables, zeroTables}
+use Rattle.tables.specs.Tables.{Tables, zeroTables}
 use Rattle.settings.specs.Settings.{settings, settingsRight}
 use Rattle.crc.specs.Crc.{right, flip, Damaged}
 use Rattle.crc.specs.Damage.{length-flip, flip-burst}
@@ -37,8 +37,11 @@ use Rattle.header.specs.Reading.Laws.{flips-of}
 use Rattle.header.specs.Reading as H
 use Rattle.header.specs.declared.Header.{Header}
 use Rattle.header.specs.declared.Header.the-variants.{Codeword, Lost}
-use Rattle.settling.specs.Settling.{readings, settling, headerNote}
-use Rattle.settling.specs.Laws.{Has, read-has, Usable}
+use Rattle.header_readings.specs.Readings.{readings}
+use Rattle.settling.specs.Settling.{settling}
+use Rattle.header_notes.specs.HeaderNotes.{headerNote}
+use Rattle.settling.specs.Laws.{Has, read-has}
+use Rattle.unfit.specs.Laws.{Usable}
 use Rattle.settling.specs.declared.Settlement.the-variants.{Settled}
 use Rattle.cutting.specs.Laws.{every-length}
 use Rattle.carrier.specs.Carrier.{streamPacket, received, pairCount}

@@ -11,7 +11,7 @@ use Rattle.lists.specs.Tests.{when}
 use Rattle.lists.specs.Parts.{over}
 use Rattle.layout.specs.Layout.{multiframeFrames, indexOctets, reportOctets, pairOf, firstPair}
 use Rattle.choices.specs.declared.Choices.{Choices}
-use Rattle.consistency.specs.Tables.{Tables}
+use Rattle.tables.specs.Tables.{Tables}
 use Rattle.frames.specs.Frames.{allZero, zeroFrame}
 use Rattle.cutting.specs.Laws.{every-length}
 use Rattle.replacing.specs.Speech.{lastNonzero, speechOf, endOf}
@@ -21,7 +21,7 @@ use Rattle.reader.specs.declared.Summary.{Summary}
 use Rattle.reader.specs.declared.Answer.the-variants.{Read}
 use Rattle.image.specs.Made.{packetIn}
 use Rattle.image.specs.Laws.{image-packet}
-use Rattle.writer.specs.Writing.{frameCount}
+use Rattle.wrong_frames.specs.WrongFrames.{frameCount}
 use Rattle.writer.specs.Utterance.{Utterance, multiframesOf, pairsOf, imageOf}
 use Rattle.demands.specs.Damage.{Fate, whole, hit, fate}
 use Rattle.demands.specs.Whole.{rowOf, pairNoteIn}

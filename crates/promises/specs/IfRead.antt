@@ -12,10 +12,11 @@ use Rattle.lists.specs.Tests.{true-false}
 use Rattle.lists.specs.Parts.{over}
 use Rattle.layout.specs.Layout.{indexOctets, reportOctets, sync}
 use Rattle.choices.specs.declared.Choices.{Choices}
-use Rattle.consistency.specs.Tables.{Tables}
+use Rattle.tables.specs.Tables.{Tables}
 use Rattle.cutting.specs.Cutting.{Cutting, cutting}
 use Rattle.cutting.specs.Laws.{every-length}
-use Rattle.settling.specs.Settling.{readings, settling}
+use Rattle.header_readings.specs.Readings.{readings}
+use Rattle.settling.specs.Settling.{settling}
 use Rattle.carrier.specs.Carrier.{received, pairCount}
 use Rattle.settling.specs.declared.Settlement.the-variants.{Settled}
 use Rattle.notes.specs.Laws.{length-notes}
@@ -27,7 +28,7 @@ use Rattle.reader.specs.declared.Summary.{Summary}
 use Rattle.reader.specs.declared.Answer.the-variants.{Read}
 use Rattle.image.specs.Made.{syncIn}
 use Rattle.image.specs.Laws.{length-image, image-sync}
-use Rattle.writer.specs.Writing.{frameCount}
+use Rattle.wrong_frames.specs.WrongFrames.{frameCount}
 use Rattle.writer.specs.Laws.{few-multiframes}
 use Rattle.writer.specs.Utterance.{Utterance, multiframesOf, pairsOf, imageOf, is-accepted}
 use Rattle.demands.specs.Damage.{DamageUpTo, headerFlips}

@@ -19,7 +19,7 @@ use Rattle.lists.specs.Rows.{same-joined}
 use Rattle.lists.specs.Search.{firstFrom}
 use Rattle.layout.specs.Layout.{multiframeOctets, widths, frameIndices, dataBits, packetBits, multiframePairs, indexOctets, reportOctets, firstFrame, secondFrame, firstPair}
 use Rattle.choices.specs.declared.Choices.{Choices}
-use Rattle.consistency.specs.Tables.{Tables, zeroTables}
+use Rattle.tables.specs.Tables.{Tables, zeroTables}
 use Rattle.settings.specs.declared.Settings.{Settings}
 use Rattle.settings.specs.Settings.{settings}
 use Rattle.frames.specs.Frames.{zeroFrame}
@@ -33,7 +33,9 @@ use Rattle.header_code.specs.Code.{codeword}
 use Rattle.message.specs.Message.{message}
 use Rattle.header.specs.Reading.{decodedAs}
 use Rattle.header.specs.declared.Header.the-variants.{Codeword, Lost}
-use Rattle.settling.specs.Settling.{readings, settling, headerNote}
+use Rattle.header_readings.specs.Readings.{readings}
+use Rattle.settling.specs.Settling.{settling}
+use Rattle.header_notes.specs.HeaderNotes.{headerNote}
 use Rattle.settling.specs.Laws.{Enough, two-settle}
 use Rattle.carrier.specs.Carrier.{received, pairCount}
 use Rattle.settling.specs.declared.Settlement.the-variants.{Settled}
@@ -44,7 +46,8 @@ use Rattle.reader.specs.declared.Summary.{Summary}
 use Rattle.reader.specs.declared.Answer.the-variants.{Read}
 use Rattle.image.specs.Made.{Small, wordIn, packetIn, framed, made}
 use Rattle.image.specs.Laws.{image-packet}
-use Rattle.writer.specs.Writing.{verdict, roomAnswer, frameCount, needed}
+use Rattle.wrong_frames.specs.WrongFrames.{frameCount}
+use Rattle.writer.specs.Writing.{verdict, roomAnswer, needed}
 use Rattle.writer.specs.Utterance.{Utterance, multiframesOf, pairsOf, imageOf}
 use Rattle.writer.specs.declared.Answer.the-variants.{Written}
 use Rattle.recordings.specs.CutOff as C

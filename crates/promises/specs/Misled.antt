@@ -13,7 +13,7 @@ use lib.ListN.{length}
 use Rattle.choices.specs.Choices.{oneSettles}
 use Rattle.choices.specs.declared.Choices.{Choices}
 use Rattle.lists.specs.Rows.{each}
-use Rattle.consistency.specs.Tables.{Tables}
+use Rattle.tables.specs.Tables.{Tables}
 use Rattle.cutting.specs.Cutting.{Cutting, cutting}
 use Rattle.cutting.specs.Laws.{every-length}
 use Rattle.header_code.specs.Code.Distance.{far-from-one}
@@ -23,7 +23,8 @@ use Rattle.header.specs.Reading as H
 use Rattle.header.specs.Reading.Laws.{flips-counted, reads}
 use Rattle.header.specs.declared.Header.{Header}
 use Rattle.header.specs.declared.Header.the-variants.{Codeword}
-use Rattle.settling.specs.Settling.{readings, settling}
+use Rattle.header_readings.specs.Readings.{readings}
+use Rattle.settling.specs.Settling.{settling}
 use Rattle.settling.specs.Laws.{only-settles}
 use Rattle.settling.specs.declared.Settlement.the-variants.{Settled}
 use Rattle.reader.specs.Reading.{reading}

@@ -21,7 +21,7 @@ use Rattle.lists.specs.Rows.{each}
 use Rattle.layout.specs.Layout.{frameIndices, dataBits, multiframeFrames, multiframePairs, multiframeOctets, syncOctets, headerOctets, pairOf, firstFrame, secondFrame, firstPair, inverseFirst, inverseSecond}
 use Rattle.choices.specs.Choices.{byDefault, oneHeaderSettles}
 use Rattle.choices.specs.declared.Choices.{Choices}
-use Rattle.consistency.specs.Tables.{Tables, zeroTables}
+use Rattle.tables.specs.Tables.{Tables, zeroTables}
 use Rattle.settings.specs.Settings.{settings}
 use Rattle.settings.specs.declared.Settings.{Settings}
 use Rattle.frames.specs.Frames.{allZero, zeroFrame, all-zero-at, Nonzero}
@@ -37,7 +37,8 @@ use Rattle.header.specs.Reading.{decodedAs}
 use Rattle.header.specs.declared.Decoded.{Decoded}
 use Rattle.header.specs.declared.Header.{Header}
 use Rattle.header.specs.declared.Header.the-variants.{Codeword, Lost}
-use Rattle.settling.specs.Settling.{readings, settling, firstAgreeing}
+use Rattle.header_readings.specs.Readings.{readings}
+use Rattle.settling.specs.Settling.{settling, firstAgreeing}
 use Rattle.settling.specs.Laws.{Enough, two-or-more}
 use Rattle.carrier.specs.Carrier.{received, pairCount}
 use Rattle.settling.specs.declared.Settlement.the-variants as Set
@@ -52,7 +53,8 @@ use Rattle.refusals.specs.declared.Reading.the-variants.{Unsettled}
 use Rattle.reader.specs.declared.Answer.the-variants.{Read, Refused}
 use Rattle.image.specs.Made.{syncIn, wordIn, packetIn}
 use Rattle.image.specs.Laws.{length-image, image-sync, image-word, image-packet, image-small}
-use Rattle.writer.specs.Writing.{frameCount, needed}
+use Rattle.wrong_frames.specs.WrongFrames.{frameCount}
+use Rattle.writer.specs.Writing.{needed}
 use Rattle.writer.specs.Laws.{few-multiframes}
 use Rattle.writer.specs.Utterance.{last-speaks, Utterance, multiframesOf, pairsOf, imageOf, is-accepted, whole-frames}
 use Rattle.demands.specs.Damage.{DamageUpTo, headerBits, loosened, headerFlips, sentMessage, header-near}

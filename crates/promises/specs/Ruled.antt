@@ -11,7 +11,7 @@ use native.Mathlib.Omega.{arith}
 use Rattle.choices.specs.Choices.{oneHeaderSettles}
 use Rattle.choices.specs.declared.Choices.{Choices}
 use Rattle.lists.specs.Tests.{true-false}
-use Rattle.consistency.specs.Tables.{Tables}
+use Rattle.tables.specs.Tables.{Tables}
 use Rattle.reader.specs.Reading.{outcome, reading}
 use Rattle.reader.specs.declared.Summary.{Summary}
 use Rattle.refusals.specs.declared.Reading.the-variants.{AllBad}

@@ -15,7 +15,7 @@ use Rattle.lists.specs.Parts.{over}
 use Rattle.lists.specs.Rows.{each-at}
 use Rattle.layout.specs.Layout.{multiframePairs, multiframeOctets, indexOctets, reportOctets, sync}
 use Rattle.choices.specs.declared.Choices.{Choices}
-use Rattle.consistency.specs.Tables.{Tables}
+use Rattle.tables.specs.Tables.{Tables}
 use Rattle.settings.specs.declared.Settings.{Settings}
 use Rattle.packet.specs.Packet.{packetOf}
 use Rattle.header_code.specs.Code.{codeword, flipsTo}
@@ -28,7 +28,8 @@ use Rattle.header.specs.declared.Header.{Header}
 use Rattle.header.specs.declared.Header.the-variants.{Lost}
 use Rattle.cutting.specs.Cutting.{Cutting, cutting}
 use Rattle.cutting.specs.Laws.{every-length}
-use Rattle.settling.specs.Settling.{readings, headerNote}
+use Rattle.header_readings.specs.Readings.{readings}
+use Rattle.header_notes.specs.HeaderNotes.{headerNote}
 use Rattle.carrier.specs.Carrier.{received, pairCount}
 use Rattle.notes.specs.Laws.{length-notes}
 use Rattle.deciding.specs.Deciding.{receivedNotes}
@@ -37,7 +38,8 @@ use Rattle.reader.specs.declared.Summary.{Summary}
 use Rattle.reader.specs.declared.Answer.the-variants.{Read}
 use Rattle.image.specs.Made.{syncIn, wordIn, packetIn}
 use Rattle.image.specs.Laws.{length-image, image-sync}
-use Rattle.settling.specs.Laws.{length-readings, Enough, settled-enough}
+use Rattle.header_readings.specs.Laws.{length-readings}
+use Rattle.settling.specs.Laws.{Enough, settled-enough}
 use Rattle.writer.specs.Laws.{few-multiframes}
 use Rattle.writer.specs.Utterance.{Utterance, multiframesOf, imageOf, is-accepted, settings-right}
 use Rattle.demands.specs.Damage.{DamageUpTo, Damage, headerBits, loosened, headerFlips, sentMessage, header-near, Fate, whole, hit, fate}

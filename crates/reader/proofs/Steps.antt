@@ -11,7 +11,7 @@ use Rattle.lists.specs.Tests.{when}
 use Rattle.lists.specs.Parts.{over, over-in, drop-over, part-left}
 use Rattle.layout.specs.Layout.{frameIndices, pairFrames, multiframeFrames, indexOctets, reportOctets}
 use Rattle.choices.specs.declared.Choices.{Choices}
-use Rattle.consistency.specs.Tables.{Tables}
+use Rattle.tables.specs.Tables.{Tables}
 use Rattle.settings.specs.declared.Settings.{Settings}
 use Rattle.frames.specs.Frames.{allZero, zeroFrame}
 use Rattle.message.specs.Message.{settingsOf}

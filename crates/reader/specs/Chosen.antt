@@ -11,16 +11,18 @@ use lib.Dec.{eqb}
 use Rattle.lists.specs.Tests.{when}
 use Rattle.choices.specs.Choices.{oneSettles}
 use Rattle.choices.specs.declared.Choices.{Choices}
-use Rattle.consistency.specs.Tables.{Tables, admission, ifAdmitted}
-use Rattle.consistency.specs.Admitted.{passes-right}
-use Rattle.consistency.specs.declared.Admission.{Admission}
-use Rattle.consistency.specs.declared.Admission.the-variants as A
+use Rattle.tables.specs.Tables.{Tables, admission, ifAdmitted}
+use Rattle.tables.specs.Admitted.{passes-right}
+use Rattle.tables.specs.declared.Admission.{Admission}
+use Rattle.tables.specs.declared.Admission.the-variants as A
 use Rattle.refusals.specs.declared.Reading.the-variants.{Empty, Unsettled}
 use Rattle.cutting.specs.Cutting.{Ending, whole, refused, cutting}
 use Rattle.cutting.specs.Reached.{whole-exactly}
 use Rattle.carrier.specs.Carrier.{pairCount}
-use Rattle.settling.specs.Settling.{readings, settling}
-use Rattle.settling.specs.Laws.{length-readings, not-one, one-default}
+use Rattle.header_readings.specs.Readings.{readings}
+use Rattle.settling.specs.Settling.{settling}
+use Rattle.header_readings.specs.Laws.{length-readings}
+use Rattle.settling.specs.Laws.{not-one, one-default}
 use Rattle.settling.specs.declared.Settlement.{Settlement}
 use Rattle.settling.specs.declared.Settlement.the-variants as S
 use Rattle.bad_pairs.specs.BadPairs.{badPairs}

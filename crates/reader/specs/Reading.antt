@@ -8,7 +8,7 @@ use Rattle.lists.specs.Tests.{when}
 use Rattle.lists.specs.Parts.{over}
 use Rattle.layout.specs.Layout.{indexOctets, reportOctets}
 use Rattle.choices.specs.declared.Choices.{Choices}
-use Rattle.consistency.specs.Tables.{Tables, admission, ifAdmitted}
+use Rattle.tables.specs.Tables.{Tables, admission, ifAdmitted}
 use Rattle.refusals.specs.Refusals.{success, readingNumber, readingPlace}
 use Rattle.cutting.specs.Cutting.{Ending, whole, refused, cutting}
 use Rattle.message.specs.Message.{settingsOf}

@@ -11,13 +11,14 @@ use Rattle.lists.specs.Tests.{when, by-test}
 use Rattle.lists.specs.Parts.{over}
 use Rattle.layout.specs.Layout.{indexOctets, reportOctets, codebookNumbers, thresholdNumbers}
 use Rattle.choices.specs.declared.Choices.{Choices}
-use Rattle.consistency.specs.Tables.{Tables, RightTables, admission, ifAdmitted}
-use Rattle.consistency.specs.Admitted.{right-passes, passes-right}
-use Rattle.consistency.specs.declared.Admission.{Admission}
-use Rattle.consistency.specs.declared.Admission.the-variants as A
+use Rattle.tables.specs.Tables.{Tables, RightTables, admission, ifAdmitted}
+use Rattle.tables.specs.Admitted.{right-passes, passes-right}
+use Rattle.tables.specs.declared.Admission.{Admission}
+use Rattle.tables.specs.declared.Admission.the-variants as A
 use Rattle.cutting.specs.Cutting.{Ending, whole, refused, cutting}
-use Rattle.settling.specs.Settling.{readings, settling}
-use Rattle.settling.specs.Laws.{fit-is}
+use Rattle.header_readings.specs.Readings.{readings}
+use Rattle.settling.specs.Settling.{settling}
+use Rattle.unfit.specs.Laws.{fit-is}
 use Rattle.carrier.specs.Carrier.{pairCount}
 use Rattle.bad_pairs.specs.BadPairs.{badPairs}
 use Rattle.replacing.specs.Replacing.{pairsOctets}

@@ -13,17 +13,19 @@ use borrow.Author.Tests.{eq-eqb, ne-eqb, lt-ltb, le-ltb, ltb-true, ltb-false, eq
 use Rattle.lists.specs.Tests.{by-test}
 use Rattle.layout.specs.Layout.{indexOctets, reportOctets}
 use Rattle.choices.specs.declared.Choices.{Choices}
-use Rattle.consistency.specs.Tables.{Tables, RightSizes, RightTables, FirstNegative, admission, ifAdmitted}
-use Rattle.consistency.specs.Admitted.{Shown, shown, by-shown, right-passes, wrong-sizes, negative-refused}
-use Rattle.consistency.specs.declared.Admission.{Admission}
-use Rattle.consistency.specs.declared.Admission.the-variants as A
+use Rattle.tables.specs.Tables.{Tables, RightSizes, RightTables, FirstNegative, admission, ifAdmitted}
+use Rattle.tables.specs.Admitted.{Shown, shown, by-shown, right-passes, wrong-sizes, negative-refused}
+use Rattle.tables.specs.declared.Admission.{Admission}
+use Rattle.tables.specs.declared.Admission.the-variants as A
 use Rattle.refusals.specs.declared.Reading.{Reading as Refusal}
 use Rattle.refusals.specs.declared.Reading.the-variants.{WrongTables, NegativeThreshold, Unknown, CutShort, Empty, TooMany, Unsettled, Unfit, IndexShort, ReportShort, AllBad}
 use Rattle.cutting.specs.Cutting.{Ending, whole, refused, cutting}
 use Rattle.cutting.specs.Reached.{Reached, Meets, Reason, ends-exactly, whole-exactly}
 use Rattle.cutting.specs.declared.Piece.the-variants as P
-use Rattle.settling.specs.Settling.{readings, settling, unfit}
-use Rattle.settling.specs.Laws.{Usable, Unusable, fit-is, unfit-is, fit-says, unfit-says}
+use Rattle.header_readings.specs.Readings.{readings}
+use Rattle.settling.specs.Settling.{settling}
+use Rattle.unfit.specs.Unfit.{unfit}
+use Rattle.unfit.specs.Laws.{Usable, Unusable, fit-is, unfit-is, fit-says, unfit-says}
 use Rattle.settling.specs.declared.Settlement.{Settlement}
 use Rattle.settling.specs.declared.Settlement.the-variants as S
 use Rattle.carrier.specs.Carrier.{pairCount}

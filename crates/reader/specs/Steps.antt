@@ -4,8 +4,8 @@ use Prim.Native.Nat.{ℕ}
 use mathlib.Core.Path.{_≡_, ap, _∙_}
 use mathlib.Core.List.{List}
 use Rattle.choices.specs.declared.Choices.{Choices}
-use Rattle.consistency.specs.Tables.{Tables, admission}
-use Rattle.consistency.specs.declared.Admission.the-variants as A
+use Rattle.tables.specs.Tables.{Tables, admission}
+use Rattle.tables.specs.declared.Admission.the-variants as A
 use Rattle.cutting.specs.Cutting.{whole, refused, cutting}
 use Rattle.reader.specs.Reading.{verdict, Outcome, outcome, readingFound, reading}
 use Rattle.reader.specs.declared.Answer.the-variants.{Refused}

@@ -1,23 +1,23 @@
 // The reader: received octets become indices and a report, or a refusal that changes nothing.
 // `reading` in specs/ says what it answers and leaves in both buffers, for every input.
 use choices::Choices;
-use consistency::Admission;
 use cutting::Cut;
 use deciding::Verdict;
 use layout::MultiframeLayout;
 use layout::UtteranceLayout;
 use refusals::Reading;
 use settings::Settings;
+use tables::Admission;
 ghost use mathlib.Core.Path.{_≡_};
 ghost use Prim.Native.Nat.{_*_, _≤_};
 ghost use lib.ListN.{length};
 ghost use Rattle.lists.specs.Parts.{over};
 ghost use Rattle.lists.specs.Lent.{came, left};
 ghost use Rattle.layout.specs.Layout.{mostMultiframes, indexOctets, reportOctets};
-ghost use Rattle.consistency.specs.Tables.{tablesOf, RightSizes};
-ghost use Rattle.consistency.specs.Lent.{tablesIn};
+ghost use Rattle.tables.specs.Tables.{tablesOf, RightSizes};
+ghost use Rattle.tables.specs.Lent.{tablesIn};
 ghost use Rattle.cutting.specs.Laws.{Placed};
-ghost use Rattle.settling.specs.Stored.{packAll};
+ghost use Rattle.header_readings.specs.Stored.{packAll};
 ghost use Rattle.carrier.specs.Carrier.{pairCount};
 ghost use Rattle.bad_pairs.specs.Laws.{Good};
 ghost use Rattle.report.specs.Report.{reportPart};
@@ -140,7 +140,7 @@ pub fn read(
     ensures values { λ r. ⌜ answerValues r
         ≡ answerValues (reading choices (came octets) (tablesIn codebook thresholds) (came index) (came report) .answer) ⌝ }
 {
-    if let Admission::Refused(r) = consistency::admit(codebook, thresholds) {
+    if let Admission::Refused(r) = tables::admit(codebook, thresholds) {
         return Answer::Refused(r);
     }
     let mut places = [0usize; MULTIFRAMES];

@@ -9,8 +9,8 @@ use lib.ListN.{length, take, drop, getD, length-append, length-drop, take-append
 use lib.Seq.{length-take-le, drop-at, getD-take, ext-getD}
 use Rattle.layout.specs.Layout.{multiframeOctets, syncOctets, mostMultiframes, syncFirst, syncSecond, inverseFirst, inverseSecond}
 use Rattle.choices.specs.declared.Choices.{Choices}
-use Rattle.consistency.specs.Tables.{Tables, RightTables}
-use Rattle.consistency.specs.Admitted.{right-passes}
+use Rattle.tables.specs.Tables.{Tables, RightTables}
+use Rattle.tables.specs.Admitted.{right-passes}
 use Rattle.cutting.specs.declared.Piece.{Piece}
 use Rattle.cutting.specs.declared.Piece.the-variants.{End, Multiframe, Inverse, Unknown, CutShort, TooMany}
 use Rattle.cutting.specs.Cutting.{pieceOf, whole, refused, Cutting, prepend, step, walk, cutting}

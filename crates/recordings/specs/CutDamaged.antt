@@ -13,7 +13,7 @@ use Rattle.lists.specs.Parts.{part, over}
 use Rattle.layout.specs.Layout.{dataBits, multiframePairs, multiframeFrames, multiframeOctets, indexOctets, reportOctets, frameIndices}
 use Rattle.choices.specs.Choices.{oneHeaderSettles}
 use Rattle.choices.specs.declared.Choices.{Choices}
-use Rattle.consistency.specs.Tables.{Tables, zeroTables}
+use Rattle.tables.specs.Tables.{Tables, zeroTables}
 use Rattle.frames.specs.Frames.{zeroFrame, allZero}
 use Rattle.crc.specs.Crc.{right}
 use Rattle.packet.specs.Packet.{packetOf}

@@ -19,7 +19,7 @@ use Rattle.lists.specs.Rows.{each-at, same-joined}
 use Rattle.layout.specs.Layout.{frameIndices, dataBits, multiframeFrames, multiframePairs, multiframeOctets, mostMultiframes, indexOctets, reportOctets, firstPair, sync, syncFirst, syncSecond}
 use Rattle.choices.specs.Choices.{oneHeaderSettles}
 use Rattle.choices.specs.declared.Choices.{Choices}
-use Rattle.consistency.specs.Tables.{Tables, RightTables, zeroTables}
+use Rattle.tables.specs.Tables.{Tables, RightTables, zeroTables}
 use Rattle.settings.specs.declared.Settings.{Settings}
 use Rattle.settings.specs.Settings.{settings}
 use Rattle.frames.specs.Frames.{zeroFrame}
@@ -34,8 +34,11 @@ use Rattle.message.specs.Message.{settingsOf}
 use Rattle.message.specs.Message.Laws.{count-back}
 use Rattle.header.specs.declared.Header.{Header}
 use Rattle.header.specs.declared.Header.the-variants.{Codeword, Lost}
-use Rattle.settling.specs.Settling.{readings, headerNote}
-use Rattle.settling.specs.Laws.{clean-note, length-readings, Enough, settled-enough}
+use Rattle.header_readings.specs.Readings.{readings}
+use Rattle.header_notes.specs.HeaderNotes.{headerNote}
+use Rattle.header_readings.specs.Laws.{length-readings}
+use Rattle.settling.specs.Laws.{Enough, settled-enough}
+use Rattle.header_notes.specs.Laws.{clean-note}
 use Rattle.carrier.specs.Carrier.{received, pairCount}
 use Rattle.notes.specs.Notes.{pairFails}
 use Rattle.notes.specs.Laws.{length-notes, length-all, no-failed-crc}

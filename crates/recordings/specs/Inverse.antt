@@ -10,7 +10,7 @@ use lib.Seq.{take-at, drop-length, drop-drop, getD-take}
 use Rattle.lists.specs.Parts.{part, part-right, length-part}
 use Rattle.layout.specs.Layout.{multiframeOctets, syncOctets, headerOctets, streamOctets, mostMultiframes, sync, syncFirst, syncSecond, inverseFirst, inverseSecond}
 use Rattle.choices.specs.declared.Choices.{Choices}
-use Rattle.consistency.specs.Tables.{Tables, RightTables, zeroTables}
+use Rattle.tables.specs.Tables.{Tables, RightTables, zeroTables}
 use Rattle.cutting.specs.declared.Piece.the-variants.{CutShort, TooMany}
 use Rattle.cutting.specs.Cutting.{pieceOf, Cutting, whole, cutting}
 use Rattle.cutting.specs.Laws.{one-too-many, lone-sync, every-length, Chunk, multiframe, inverse, octetsOf, placesOf, Proper, cut-chunks, places-placed}

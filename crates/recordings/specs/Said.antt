@@ -13,8 +13,8 @@ use Rattle.lists.specs.Tests.{when, true-false, all-holds}
 use Rattle.lists.specs.Rows.{joined}
 use Rattle.lists.specs.Search.{firstFrom}
 use Rattle.layout.specs.Layout.{frameIndices, indexOctets, reportOctets, thresholdNumbers, firstFrame, secondFrame}
-use Rattle.consistency.specs.Tables.{Tables, tablesOf, RightTables}
-use Rattle.consistency.specs.Admitted.{none-by-test}
+use Rattle.tables.specs.Tables.{Tables, tablesOf, RightTables}
+use Rattle.tables.specs.Admitted.{none-by-test}
 use Rattle.settings.specs.Settings.{settings}
 use Rattle.frames.specs.Frames.{zeroFrame}
 use Rattle.packet.specs.Packet.{row, frameAt}

@@ -12,7 +12,7 @@ use Rattle.lists.specs.Parts.{part, over}
 use Rattle.lists.specs.Rows.{each, joined, same-each, same-joined}
 use Rattle.layout.specs.Layout.{widths, frameIndices, dataBits, multiframePairs, streamOctets, multiframeOctets, indexOctets, reportOctets, firstPair}
 use Rattle.choices.specs.declared.Choices.{Choices}
-use Rattle.consistency.specs.Tables.{Tables, admission, ifAdmitted}
+use Rattle.tables.specs.Tables.{Tables, admission, ifAdmitted}
 use Rattle.bits.specs.Bits.{value, bits}
 use Rattle.crc.specs.Crc.{right}
 use Rattle.packet.specs.Packet.{apart}
@@ -22,7 +22,9 @@ use Rattle.header.specs.Reading as H
 use Rattle.message.specs.Message.{settingsOf}
 use Rattle.header.specs.declared.Header.{Header}
 use Rattle.header.specs.declared.Header.the-variants.{Lost}
-use Rattle.settling.specs.Settling.{readings, settling, headerNote}
+use Rattle.header_readings.specs.Readings.{readings}
+use Rattle.settling.specs.Settling.{settling}
+use Rattle.header_notes.specs.HeaderNotes.{headerNote}
 use Rattle.carrier.specs.Carrier.{streamPacket, wordAt, streamAt, inPlaces, received, pairCount}
 use Rattle.notes.specs.Notes.{pairFails, framesOf, allFrames, pairInconsistent, pairNotes}
 use Rattle.bad_pairs.specs.BadPairs.{notes, badPairs}

@@ -10,8 +10,8 @@ use lib.Seq.{take-suc, getD-drop}
 use Rattle.lists.specs.Parts.{part, over, length-part, set-over, behind}
 use Rattle.lists.specs.Rows.{joined-more}
 use Rattle.layout.specs.Layout.{multiframePairs, reportOctets, firstPair}
-use Rattle.settling.specs.Settling.{headerNote}
-use Rattle.settling.specs.Stored.{opened}
+use Rattle.header_notes.specs.HeaderNotes.{headerNote}
+use Rattle.header_readings.specs.Stored.{opened}
 use Rattle.report.specs.Sections.{section, sections}
 
 -- one note more of the twelve

@@ -9,7 +9,8 @@ use Rattle.lists.specs.Parts.{part, length-part}
 use Rattle.lists.specs.Rows.{joined, length-joined, joined-part}
 use Rattle.layout.specs.Layout.{multiframePairs, reportOctets, firstPair}
 use Rattle.header.specs.declared.Header.the-variants.{Lost}
-use Rattle.settling.specs.Settling.{readings, headerNote}
+use Rattle.header_readings.specs.Readings.{readings}
+use Rattle.header_notes.specs.HeaderNotes.{headerNote}
 use Rattle.carrier.specs.Carrier.{pairCount}
 
 -- the report's part: 13 octets a multiframe, a header note and then twelve pair notes

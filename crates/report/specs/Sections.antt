@@ -12,8 +12,9 @@ use Rattle.layout.specs.Layout.{multiframePairs, mostMultiframes, reportOctets,
 use Rattle.header.specs.Reading.{reading as readHeader}
 use Rattle.header.specs.declared.Header.{Header}
 use Rattle.header.specs.declared.Header.the-variants.{Lost}
-use Rattle.settling.specs.Settling.{readings, headerNote}
-use Rattle.settling.specs.Stored.{opened, packAll, packed, Mended, mended, opened-packed}
+use Rattle.header_readings.specs.Readings.{readings}
+use Rattle.header_notes.specs.HeaderNotes.{headerNote}
+use Rattle.header_readings.specs.Stored.{opened, packAll, packed, Mended, mended, opened-packed}
 use Rattle.carrier.specs.Carrier.{wordAt, inPlaces}
 use Rattle.report.specs.Report.{reportPart}
 

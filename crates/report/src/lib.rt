@@ -9,7 +9,7 @@ ghost use lib.ListN.{length, getD};
 ghost use Rattle.lists.specs.Parts.{part, over};
 ghost use Rattle.lists.specs.Lent.{came, left};
 ghost use Rattle.layout.specs.Layout.{multiframePairs, reportOctets};
-ghost use Rattle.settling.specs.Stored.{Mended, opened};
+ghost use Rattle.header_readings.specs.Stored.{Mended, opened};
 ghost use Rattle.report.specs.Sections.{Reportable, section, sections};
 
 // The notes of the twelve pairs from pair first on go to place to of the report.
@@ -32,7 +32,7 @@ fn put_section(headers: &[u32], notes: &[u8], common: u16, report: &mut [u8], k:
     ensures { λ _. ⌜ left report ≡ over (came report) (reportOctets * k .0) reportOctets (section (came headers) (came notes) common (k .0)) ⌝ }
 {
     let at = ReadingLayout::REPORT * k.0;
-    report[at] = settling::note_at(headers, k, common);
+    report[at] = header_notes::note_at(headers, k, common);
     put_notes(notes, k.first_pair(), report, at + 1);
 }
 

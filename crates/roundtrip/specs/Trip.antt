@@ -14,15 +14,16 @@ use Rattle.lists.specs.Parts.{over, length-over}
 use Rattle.lists.specs.Search.{firstFrom}
 use Rattle.layout.specs.Layout.{indexOctets, reportOctets, codebookNumbers}
 use Rattle.choices.specs.Choices.{oneHeaderSettles}
-use Rattle.consistency.specs.Tables.{Tables, tablesOf, zeroTables, RightSizes, FirstNegative, sizesRight, admission}
-use Rattle.consistency.specs.Admitted.{wrong-sizes, negative-refused, ten-exactly}
+use Rattle.tables.specs.Tables.{Tables, tablesOf, zeroTables, RightSizes, FirstNegative, sizesRight, admission}
+use Rattle.tables.specs.Admitted.{wrong-sizes, negative-refused, ten-exactly}
 use Rattle.settings.specs.declared.Settings.{Settings}
 use Rattle.settings.specs.Settings.{settings}
 use Rattle.writer.specs.Writing as W
 use Rattle.image.specs.Image.{image}
 use Rattle.image.specs.Made.{Small}
 use Rattle.image.specs.Laws.{length-image}
-use Rattle.writer.specs.Writing.{needed, multiframesFor, frameCount, verdict, writing}
+use Rattle.wrong_frames.specs.WrongFrames.{frameCount}
+use Rattle.writer.specs.Writing.{needed, multiframesFor, verdict, writing}
 use Rattle.writer.specs.Laws.{accepted, accepts}
 use Rattle.writer.specs.Utterance.{Utterance, imageOf, is-accepted}
 use Rattle.writer.specs.declared.Answer as WA

@@ -4,7 +4,7 @@ use reader::Summary;
 use settings::Settings;
 ghost use mathlib.Core.Path.{_≡_};
 ghost use Rattle.lists.specs.Lent.{came, left};
-ghost use Rattle.consistency.specs.Lent.{tablesIn};
+ghost use Rattle.tables.specs.Lent.{tablesIn};
 ghost use Rattle.roundtrip.specs.Trip.{made, trip, ComesBack, Unread, Unwritten};
 
 // What became of an utterance: refused by the writer, refused by the reader, or back with the reader's summary.

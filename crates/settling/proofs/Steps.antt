@@ -1,30 +1,28 @@
--- The steps by which the code settles and notes, one header at a time: what its functions find in the stored readings.
+-- The steps by which the code settles, one header at a time: what its functions find in the stored readings.
 -- Assumes nothing.
-use Prim.Native.Nat.{ℕ, suc, _+_, _%_, _≤_, _<_}
+use Prim.Native.Nat.{ℕ, suc, _+_, _<_}
 use mathlib.Core.Path.{_≡_, refl, ap, sym, _∙_}
 use mathlib.Core.List.{List, [], _∷_}
 use mathlib.Core.Bool.{Bool, true, false}
 use lib.Dec.{eqb}
-use lib.ListN.{length, getD, set, drop}
+use lib.ListN.{length, getD, drop}
 use lib.Seq.{drop-cons, drop-length}
 use native.Mathlib.Numerals.{add-one}
 use native.Mathlib.Omega.{arith}
 use borrow.Author.Tests.{eq-eqb, ne-eqb}
 use Rattle.lists.specs.Tests.{when}
-use Rattle.lists.specs.Parts.{over}
-use Rattle.carrier.specs.Carrier.{wordAt, inPlaces}
-use Rattle.lists.specs.Rows.{each-at, each-more}
-use Rattle.message.specs.Message.{countOf, commonBits}
-use Rattle.header.specs.Reading.{reading}
+use Rattle.lists.specs.Rows.{each-at}
+use Rattle.message.specs.Message.{commonBits}
 use Rattle.header.specs.declared.Decoded.{Decoded}
 use Rattle.header.specs.declared.Header.{Header}
 use Rattle.header.specs.declared.Header.the-variants.{Codeword, Lost}
 use Rattle.choices.specs.Choices.{oneSettles}
 use Rattle.choices.specs.declared.Choices.{Choices}
-use Rattle.settling.specs.Settling.{among, firstAgreeing, onlyOne, orElse, settling, headerNote}
+use Rattle.settling.specs.Settling.{among, firstAgreeing, onlyOne, orElse, settling}
 use Rattle.settling.specs.declared.Settlement.{Settlement}
 use Rattle.settling.specs.declared.Settlement.the-variants.{Settled, Unsettled}
-use Rattle.settling.specs.Stored.{packed, opened, openAll, length-open, packAll, withSeen, seenBefore, settledBy, hasCommon, stepNote, commonNote}
+use Rattle.header_readings.specs.Stored.{opened, openAll, length-open}
+use Rattle.settling.specs.Steps.{withSeen, seenBefore, settledBy, hasCommon}
 
 -- ---- the stored readings, opened
 pub open-at : (l : List ℕ) (k : ℕ) → k < length l → getD (openAll l) k Lost ≡ opened (getD l k 0)
@@ -75,36 +73,6 @@ only-is [] e = absurd (omega arith)
 only-is (Lost ∷ hs) e = refl
 only-is (Codeword d ∷ []) e = refl
 only-is (Codeword d ∷ h ∷ hs) e = absurd (omega arith)
-
-pub step-note-le : (count k : ℕ) → stepNote count k ≤ 4
-unfolding stepNote
-step-note-le count k = by (eqb count ((k + 1) % 16))
-  where
-    by : (t : Bool) → when t 0 4 ≤ 4
-    by true = omega arith
-    by false = omega arith
-
-pub common-note-le : (a b : ℕ) → commonNote a b ≤ 8
-unfolding commonNote
-common-note-le a b = by (eqb a b)
-  where
-    by : (t : Bool) → when t 0 8 ≤ 8
-    by true = omega arith
-    by false = omega arith
-
-pub note-sum : (c k s t : ℕ) (d : Decoded) (h : Header) → h ≡ Codeword d → s ≡ stepNote (countOf (d .message)) k → t ≡ commonNote (commonBits (d .message)) c
-    → d .flips + s + t ≡ headerNote c k h
-unfolding stepNote commonNote headerNote
-note-sum c k s t d h e es et = rw (e, es, et)
-
-pub note-lost : (c k : ℕ) (h : Header) → h ≡ Lost → 3 ≡ headerNote c k h
-unfolding headerNote
-note-lost c k h e = rw e
-
--- ---- one header more is stored
-pub stored-on : (octets places l m : List ℕ) (k x : ℕ) → k < length l → x ≡ packed (reading (wordAt octets (inPlaces places) k))
-    → m ≡ over l 0 k (packAll octets places k) → length m ≡ length l → set m k x ≡ over l 0 (k + 1) (packAll octets places (k + 1))
-stored-on octets places l m k x h e em size = each-more l m k (λ k. packed (reading (wordAt octets (inPlaces places) k))) x h e size em
 
 -- ---- what the code's branches find
 module _ (l : List ℕ) (k : ℕ) (h : k < length l) (r : Header) (e : r ≡ opened (getD l k 0)) where

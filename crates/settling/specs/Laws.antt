@@ -1,6 +1,6 @@
--- What a reader of 01 would ask of the settings and of the header notes.
+-- What a reader of 01 would ask of the settings.
 -- Assumes nothing.
-use Prim.Native.Nat.{ℕ, zero, suc, _+_, _/_, _%_, _≤_, _<_}
+use Prim.Native.Nat.{ℕ, zero, suc, _≤_, _<_}
 use mathlib.Core.Path.{_≡_, refl, ap, sym, _∙_, subst}
 use mathlib.Core.Logic.{_⊎_, inl, inr, ⊎-elim}
 use mathlib.Core.List.{List, [], _∷_}
@@ -9,79 +9,18 @@ use lib.ListN.{length, getD}
 use lib.Dec.{eqb}
 use native.Mathlib.Decide.{ℕ-discrete}
 use native.Mathlib.Omega.{arith}
-use borrow.Author.Tests.{eq-eqb, ne-eqb, eqb-true, eqb-false}
-use Rattle.lists.specs.Tests.{when, by-test, true-false}
-use Rattle.lists.specs.Rows.{length-each}
-use Rattle.carrier.specs.Carrier.{wordAt, inPlaces}
-use Rattle.message.specs.Message.{rateOf, countOf, expOf, commonBits}
+use borrow.Author.Tests.{eq-eqb, ne-eqb, eqb-true}
+use Rattle.lists.specs.Tests.{when, true-false}
+use Rattle.message.specs.Message.{commonBits}
 use Rattle.choices.specs.Choices.{oneSettles}
 use Rattle.choices.specs.declared.Choices.{Choices}
-use Rattle.header.specs.Reading as H
 use Rattle.header.specs.Reading.Laws.{lost-not-read, same-message}
 use Rattle.header.specs.declared.Decoded.{Decoded}
 use Rattle.header.specs.declared.Header.{Header}
 use Rattle.header.specs.declared.Header.the-variants.{Codeword, Lost}
-use Rattle.settling.specs.Settling.{readings, among, firstAgreeing, onlyOne, orElse, settling, unfit, headerNote}
+use Rattle.settling.specs.Settling.{among, firstAgreeing, onlyOne, orElse, settling}
 use Rattle.settling.specs.declared.Settlement.{Settlement}
 use Rattle.settling.specs.declared.Settlement.the-variants.{Settled, Unsettled}
-
--- the note says how many flips were mended, whether the counter is in step and whether the common bits are the settled ones
-module _ (c k : ℕ) (d : Decoded) (mended : d .flips ≤ 2) where
-  abbrev f : ℕ
-  f = d .flips
-
-  flips-by : (s t : Bool) → (f + when s 0 4 + when t 0 8) % 4 ≡ f
-  flips-by true true = omega arith
-  flips-by true false = omega arith
-  flips-by false true = omega arith
-  flips-by false false = omega arith
-
-  step-by : (s t : Bool) → (f + when s 0 4 + when t 0 8) / 4 % 2 ≡ when s 0 1
-  step-by true true = omega arith
-  step-by true false = omega arith
-  step-by false true = omega arith
-  step-by false false = omega arith
-
-  same-by : (s t : Bool) → (f + when s 0 4 + when t 0 8) / 8 ≡ when t 0 1
-  same-by true true = omega arith
-  same-by true false = omega arith
-  same-by false true = omega arith
-  same-by false false = omega arith
-
-  pub note-flips : headerNote c k (Codeword d) % 4 ≡ d .flips
-  unfolding headerNote
-  note-flips = flips-by (eqb (countOf (d .message)) ((k + 1) % 16)) (eqb (commonBits (d .message)) c)
-
-  pub note-counter : headerNote c k (Codeword d) / 4 % 2 ≡ when (eqb (countOf (d .message)) ((k + 1) % 16)) 0 1
-  unfolding headerNote
-  note-counter = step-by (eqb (countOf (d .message)) ((k + 1) % 16)) (eqb (commonBits (d .message)) c)
-
-  pub note-common : headerNote c k (Codeword d) / 8 ≡ when (eqb (commonBits (d .message)) c) 0 1
-  unfolding headerNote
-  note-common = same-by (eqb (countOf (d .message)) ((k + 1) % 16)) (eqb (commonBits (d .message)) c)
-
-  zero-by : (s t : Bool) → f + when s 0 4 + when t 0 8 ≡ 0 → (f ≡ 0) × (s ≡ true) × (t ≡ true)
-  zero-by true true e = (omega arith, refl, refl)
-  zero-by true false e = absurd (omega arith)
-  zero-by false true e = absurd (omega arith)
-  zero-by false false e = absurd (omega arith)
-
-  -- a note of 0: clean, in step, and as settled
-  pub note-zero : headerNote c k (Codeword d) ≡ 0 → (d .flips ≡ 0) × (countOf (d .message) ≡ (k + 1) % 16) × (commonBits (d .message) ≡ c)
-  unfolding headerNote
-  note-zero e =
-      let z = zero-by (eqb (countOf (d .message)) ((k + 1) % 16)) (eqb (commonBits (d .message)) c) e in
-      (z .0, eqb-true (countOf (d .message)) ((k + 1) % 16) (z .1), eqb-true (commonBits (d .message)) c (z .2))
-
--- and a clean header that is in step and as settled has the note 0
-pub clean-note : (c k : ℕ) (d : Decoded) → d .flips ≡ 0 → countOf (d .message) ≡ (k + 1) % 16 → commonBits (d .message) ≡ c → headerNote c k (Codeword d) ≡ 0
-unfolding headerNote
-clean-note c k d z e s = rw (z, eq-eqb (countOf (d .message)) ((k + 1) % 16) e, eq-eqb (commonBits (d .message)) c s)
-
--- a lost header is noted as lost, and no other is: its note is 3, where a readable one's flips are at most 2
-pub note-lost : (c k : ℕ) → headerNote c k Lost ≡ 3
-unfolding headerNote
-note-lost c k = refl
 
 -- ---- the settled common bits are those of two headers, and of the first two that agree
 
@@ -362,11 +301,6 @@ settled-enough ch [] c e = absurd (not-settled c (sym (none-settle ch) ∙ e))
 settled-enough ch (h ∷ []) c e = inr (only-settles ch h c e .asked-for)
 settled-enough ch (h ∷ x ∷ hs) c e = inl (omega arith)
 
--- every header has a reading
-pub length-readings : (octets places : List ℕ) → length (readings octets places) ≡ length places
-unfolding readings
-length-readings octets places = length-each (λ k. H.reading (wordAt octets (inPlaces places) k)) (length places)
-
 -- ---- header k of a list, as `Has` and as `getD` take it
 pub has-read : (hs : List Header) (k c : ℕ) → Has hs k c → (d : Decoded) × ((getD hs k Lost ≡ Codeword d) × (commonBits (d .message) ≡ c))
 has-read [] k c x = absurd x
@@ -381,42 +315,3 @@ read-has (Lost ∷ hs) zero d e = absurd (lost-not-read d e)
 read-has (Codeword x ∷ hs) zero d e = ap commonBits (same-message x d e)
 read-has (Lost ∷ hs) (suc k) d e = read-has hs k d e
 read-has (Codeword x ∷ hs) (suc k) d e = read-has hs k d e
-
--- ---- settled bits that can be used, and 17 of all others
-pub record Usable (c : ℕ) : Type 0 where
-  pub rate : rateOf c ≡ 2 → ⊥
-  pub exp : expOf c ≡ 0
-
-abbrev pub Unusable : ℕ → Type 0
-Unusable c = (rateOf c ≡ 2) ⊎ (expOf c ≡ 0 → ⊥)
-
-module _ (c : ℕ) where
-  pub fit-is : Usable c → unfit c ≡ false
-  unfolding unfit
-  fit-is u = rw (ne-eqb (rateOf c) 2 (u .rate), eq-eqb (expOf c) 0 (u .exp))
-
-  pub unfit-is : Unusable c → unfit c ≡ true
-  unfolding unfit
-  unfit-is (inl h) = rw (eq-eqb (rateOf c) 2 h)
-  unfit-is (inr h) = rw (ne-eqb (expOf c) 0 h) (by (eqb (rateOf c) 2))
-    where
-      by : (t : Bool) → when t true true ≡ true
-      by true = refl
-      by false = refl
-
-  -- one of both, and nothing else
-  abbrev FitSays : Bool → Type 0
-  FitSays true = Unusable c
-  FitSays false = Usable c
-
-  fit-by : FitSays (unfit c)
-  unfolding unfit
-  fit-by =
-      by-test FitSays (eqb (rateOf c) 2) (λ h. inl (eqb-true (rateOf c) 2 h)) (λ h.
-      by-test FitSays (eqb (expOf c) 0) (λ k. record { rate = eqb-false (rateOf c) 2 h; exp = eqb-true (expOf c) 0 k }) (λ k. inr (eqb-false (expOf c) 0 k)))
-
-  pub fit-says : unfit c ≡ false → Usable c
-  fit-says e = subst FitSays e fit-by
-
-  pub unfit-says : unfit c ≡ true → Unusable c
-  unfit-says e = subst FitSays e fit-by

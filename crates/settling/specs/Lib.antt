@@ -1,3 +1,3 @@
 pub mod Settling
 pub mod Laws
-pub mod Stored
+pub mod Steps

@@ -21,8 +21,10 @@ use Rattle.cutting.specs.declared.Piece.the-variants.{Multiframe, Inverse}
 use Rattle.cutting.specs.Cutting.{pieceOf, Ending, Cutting, ended, step, walk}
 use Rattle.cutting.specs.Laws.{at-place}
 use Rattle.cutting.specs.Reached.{Here, here-says}
-use Rattle.settling.specs.Settling.{readings, firstAgreeing, settling}
-use Rattle.settling.specs.Stored.{packed, opened, openAll, length-open, opened-packed, mended, seenBefore, settledBy}
+use Rattle.header_readings.specs.Readings.{readings}
+use Rattle.settling.specs.Settling.{firstAgreeing, settling}
+use Rattle.header_readings.specs.Stored.{packed, opened, openAll, length-open, opened-packed, mended}
+use Rattle.settling.specs.Steps.{seenBefore, settledBy}
 use Rattle.settling.specs.declared.Settlement.{Settlement}
 use Rattle.settling.specs.declared.Settlement.the-variants as S
 use Rattle.until_settled.specs.declared.Answer.{Answer}

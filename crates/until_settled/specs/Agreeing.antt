@@ -13,7 +13,7 @@ use Rattle.header.specs.declared.Decoded.{Decoded}
 use Rattle.header.specs.declared.Header.{Header}
 use Rattle.header.specs.declared.Header.the-variants.{Codeword, Lost}
 use Rattle.settling.specs.Settling.{among, firstAgreeing}
-use Rattle.settling.specs.Stored.{withSeen, seenBefore, settledBy}
+use Rattle.settling.specs.Steps.{withSeen, seenBefore, settledBy}
 use Rattle.settling.specs.declared.Settlement.the-variants.{Settled, Unsettled}
 use Rattle.until_settled.specs.UntilSettled.{readUntil}
 

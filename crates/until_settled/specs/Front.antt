@@ -21,7 +21,7 @@ use Rattle.cutting.specs.Cutting.{pieceOf, Cutting, step, walk, cutting}
 use Rattle.cutting.specs.Laws.{at-place}
 use Rattle.cutting.specs.Reached.{MultiframeAt, InverseAt, Reached, Here, here-piece, here-says, reached-within, reached-few}
 use Rattle.cutting.specs.Reached as C
-use Rattle.settling.specs.Settling.{readings}
+use Rattle.header_readings.specs.Readings.{readings}
 
 -- `Front s p ps`: cutting gets to octet p of s, and ps are the places of the multiframes that it met: 01's sentences, as in `Reached`
 pub data Front (s : List ℕ) : ℕ → List ℕ → Type 0 where

@@ -21,7 +21,9 @@ use Rattle.cutting.specs.declared.Piece.the-variants as P
 use Rattle.cutting.specs.Cutting.{Ending, whole, refused, Cutting, ended, step, cutting}
 use Rattle.cutting.specs.Laws.{Says, at-place}
 use Rattle.cutting.specs.Reached.{Here, here-piece, Meets, Reason, ends-exactly}
-use Rattle.settling.specs.Settling.{readings, firstAgreeing, settling, unfit}
+use Rattle.header_readings.specs.Readings.{readings}
+use Rattle.settling.specs.Settling.{firstAgreeing, settling}
+use Rattle.unfit.specs.Unfit.{unfit}
 use Rattle.settling.specs.Laws.{not-one}
 use Rattle.settling.specs.declared.Settlement.{Settlement}
 use Rattle.settling.specs.declared.Settlement.the-variants as S

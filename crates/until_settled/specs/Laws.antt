@@ -23,8 +23,12 @@ use Rattle.header.specs.declared.Header.{Header}
 use Rattle.cutting.specs.Cutting.{Ending, whole, refused, Cutting, ended, walk, cutting}
 use Rattle.cutting.specs.Laws.{places-placed, at-most-255}
 use Rattle.cutting.specs.Reached.{Reason, ends-exactly}
-use Rattle.settling.specs.Settling.{readings, firstAgreeing, settling, unfit}
-use Rattle.settling.specs.Laws.{length-readings, not-one, Usable, Unusable, fit-is, unfit-is, fit-says}
+use Rattle.header_readings.specs.Readings.{readings}
+use Rattle.settling.specs.Settling.{firstAgreeing, settling}
+use Rattle.unfit.specs.Unfit.{unfit}
+use Rattle.header_readings.specs.Laws.{length-readings}
+use Rattle.settling.specs.Laws.{not-one}
+use Rattle.unfit.specs.Laws.{Usable, Unusable, fit-is, unfit-is, fit-says}
 use Rattle.settling.specs.declared.Settlement.{Settlement}
 use Rattle.settling.specs.declared.Settlement.the-variants as S
 use Rattle.until_settled.specs.declared.Beginning.{Beginning}

@@ -12,7 +12,9 @@ use Rattle.refusals.specs.declared.Reading.the-variants.{Empty, Unsettled, Unfi
 use Rattle.header.specs.declared.Header.{Header}
 use Rattle.header.specs.declared.Header.the-variants.{Codeword, Lost}
 use Rattle.cutting.specs.Cutting.{Ending, whole, refused, cutting}
-use Rattle.settling.specs.Settling.{readings, among, firstAgreeing, settling, unfit}
+use Rattle.header_readings.specs.Readings.{readings}
+use Rattle.settling.specs.Settling.{among, firstAgreeing, settling}
+use Rattle.unfit.specs.Unfit.{unfit}
 use Rattle.settling.specs.declared.Settlement.{Settlement}
 use Rattle.settling.specs.declared.Settlement.the-variants as S
 use Rattle.until_settled.specs.declared.Answer.{Answer}

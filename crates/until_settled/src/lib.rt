@@ -13,7 +13,7 @@ ghost use lib.ListN.{length};
 ghost use Rattle.lists.specs.Lent.{came};
 ghost use Rattle.layout.specs.Layout.{mostMultiframes};
 ghost use Rattle.settling.specs.declared.Settlement.the-variants as S;
-ghost use Rattle.settling.specs.Stored.{openAll};
+ghost use Rattle.header_readings.specs.Stored.{openAll};
 ghost use Rattle.until_settled.specs.UntilSettled.{settledAnswer, endAnswer, untilSettled};
 
 // What the beginning of an utterance tells: the settled settings, and how many multiframes were read for them.
@@ -32,7 +32,7 @@ pub enum Answer {
 fn settled(common: u16, multiframes: usize) -> Answer
     ensures { λ r. ⌜ r ≡ settledAnswer multiframes (S.Settled common) ⌝ }
 {
-    if settling::is_unfit(common) {
+    if unfit::is_unfit(common) {
         return Answer::Refused(Reading::Unfit);
     }
     let settings = message::fields_of(common).settings;
@@ -66,7 +66,7 @@ fn read_into(octets: &[u8], choices: Choices, headers: &mut [u32]) -> Answer
     loop {
         match cutting::piece_of(&octets[p..], m) {
             Piece::Multiframe => {
-                headers[m] = settling::reading_at(octets, p);
+                headers[m] = header_readings::reading_at(octets, p);
                 if let Settlement::Settled { common } = settling::agreed(
                     &headers[..m + 1],
                     Multiframe(m),

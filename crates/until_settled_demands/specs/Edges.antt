@@ -9,12 +9,12 @@ use native.Mathlib.Omega.{arith}
 use Rattle.choices.specs.Choices.{byDefault, oneHeaderSettles}
 use Rattle.choices.specs.declared.Choices.{Choices}
 use Rattle.choices.specs.declared.Asked.the-variants.{For}
-use Rattle.consistency.specs.Tables.{Tables}
+use Rattle.tables.specs.Tables.{Tables}
 use Rattle.message.specs.Message.{settingsOf}
 use Rattle.refusals.specs.declared.Reading.the-variants.{Unknown, CutShort, TooMany, Unfit}
 use Rattle.refusals.specs.declared.Reading.{Reading as Refusal}
 use Rattle.settling.specs.Settling.{firstAgreeing}
-use Rattle.settling.specs.Laws.{Usable, Unusable}
+use Rattle.unfit.specs.Laws.{Usable, Unusable}
 use Rattle.settling.specs.declared.Settlement.the-variants as S
 use Rattle.reader.specs.Reading.{reading}
 use Rattle.reader.specs.declared.Answer.the-variants as R

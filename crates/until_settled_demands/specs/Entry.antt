@@ -16,7 +16,7 @@ use Rattle.choices.specs.Choices.{oneSettles}
 use Rattle.choices.specs.declared.Choices.{Choices}
 use Rattle.choices.specs.declared.Asked.{Asked}
 use Rattle.choices.specs.declared.Asked.the-variants.{For, NoSuchChoice}
-use Rattle.consistency.specs.Tables.{Tables, RightTables}
+use Rattle.tables.specs.Tables.{Tables, RightTables}
 use Rattle.refusals.specs.Laws.{reading-no-success}
 use Rattle.refusals.specs.Refusals.{noSuchChoice, noRoom, readingNumber, readingPlace}
 use Rattle.refusals.specs.declared.Reading.{Reading as Refusal}

@@ -9,11 +9,12 @@ use lib.ListN.{length}
 use native.Mathlib.Omega.{arith}
 use Rattle.choices.specs.declared.Choices.{Choices}
 use Rattle.choices.specs.declared.Asked.the-variants.{For}
-use Rattle.consistency.specs.Tables.{Tables, RightTables}
+use Rattle.tables.specs.Tables.{Tables, RightTables}
 use Rattle.refusals.specs.declared.Reading.{Reading as Refusal}
 use Rattle.refusals.specs.declared.Reading.the-variants.{Unknown, TooMany, Unfit}
-use Rattle.settling.specs.Settling.{firstAgreeing, unfit}
-use Rattle.settling.specs.Laws.{fit-says, unfit-says}
+use Rattle.settling.specs.Settling.{firstAgreeing}
+use Rattle.unfit.specs.Unfit.{unfit}
+use Rattle.unfit.specs.Laws.{fit-says, unfit-says}
 use Rattle.settling.specs.declared.Settlement.{Settlement}
 use Rattle.settling.specs.declared.Settlement.the-variants as S
 use Rattle.reader.specs.Reading.{reading}

@@ -12,14 +12,17 @@ use native.Mathlib.Omega.{arith}
 use Rattle.lists.specs.Tests.{true-false}
 use Rattle.choices.specs.declared.Choices.{Choices}
 use Rattle.settings.specs.declared.Settings.{Settings}
-use Rattle.consistency.specs.Tables.{Tables, RightTables}
+use Rattle.tables.specs.Tables.{Tables, RightTables}
 use Rattle.message.specs.Message.{settingsOf}
 use Rattle.refusals.specs.declared.Reading.{Reading as Refusal}
 use Rattle.refusals.specs.declared.Reading.the-variants.{WrongTables, NegativeThreshold, Unknown, CutShort, Empty, TooMany, Unsettled, Unfit, IndexShort, ReportShort, AllBad}
 use Rattle.cutting.specs.Cutting.{whole, refused, cutting}
 use Rattle.cutting.specs.Reached.{ends-exactly, whole-exactly}
-use Rattle.settling.specs.Settling.{readings, firstAgreeing, settling, unfit}
-use Rattle.settling.specs.Laws.{Usable, Unusable, fit-is, unfit-is, fit-says, unfit-says, length-readings}
+use Rattle.header_readings.specs.Readings.{readings}
+use Rattle.settling.specs.Settling.{firstAgreeing, settling}
+use Rattle.unfit.specs.Unfit.{unfit}
+use Rattle.header_readings.specs.Laws.{length-readings}
+use Rattle.unfit.specs.Laws.{Usable, Unusable, fit-is, unfit-is, fit-says, unfit-says}
 use Rattle.settling.specs.declared.Settlement.{Settlement}
 use Rattle.settling.specs.declared.Settlement.the-variants as S
 use Rattle.deciding.specs.declared.Verdict.{Verdict}

@@ -18,8 +18,11 @@ use Rattle.header.specs.declared.Header.the-variants.{Codeword}
 use Rattle.settings.specs.declared.Settings.{Settings}
 use Rattle.cutting.specs.Cutting.{whole, Cutting, cutting}
 use Rattle.cutting.specs.Laws.{every-length}
-use Rattle.settling.specs.Settling.{readings, firstAgreeing, settling}
-use Rattle.settling.specs.Laws.{Usable, fit-is, length-readings, two-or-more}
+use Rattle.header_readings.specs.Readings.{readings}
+use Rattle.settling.specs.Settling.{firstAgreeing, settling}
+use Rattle.header_readings.specs.Laws.{length-readings}
+use Rattle.settling.specs.Laws.{two-or-more}
+use Rattle.unfit.specs.Laws.{Usable, fit-is}
 use Rattle.settling.specs.declared.Settlement.{Settlement}
 use Rattle.settling.specs.declared.Settlement.the-variants as S
 use Rattle.image.specs.Made.{syncIn, wordIn}

@@ -12,7 +12,8 @@ use Rattle.lists.specs.Search.{Search, at, nowhere, Says, first-says}
 use Rattle.settings.specs.declared.Settings.{Settings}
 use Rattle.settings.specs.Settings.{settingsRight}
 use Rattle.layout.specs.Layout.{frameIndices, mostFrames}
-use Rattle.writer.specs.Writing.{numberOf, placeOf, frameCount, isWide, endsEarly, firstWide, firstEarly, roomAnswer, earlyAnswer, wideAnswer, needed, verdict, Outcome, finished, writing}
+use Rattle.wrong_frames.specs.WrongFrames.{frameCount, isWide, endsEarly, firstWide, firstEarly}
+use Rattle.writer.specs.Writing.{numberOf, placeOf, roomAnswer, earlyAnswer, wideAnswer, needed, verdict, Outcome, finished, writing}
 use Rattle.writer.specs.declared.Answer.{Answer}
 use Rattle.writer.specs.declared.Answer.the-variants.{Written, Refused}
 

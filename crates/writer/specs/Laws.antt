@@ -1,10 +1,9 @@
--- Laws of the writer's definitions: searches, answers, and what an accepted utterance has.
+-- Laws of the writer's definitions: answers, and what an accepted utterance has.
 -- Assumes nothing.
-use mathlib.Core.Path.{_≡_, refl, ap, _∙_, subst}
-use mathlib.Core.Bool.{Bool, true, false}
+use mathlib.Core.Path.{_≡_, refl, ap, _∙_}
+use mathlib.Core.Bool.{true, false}
 use mathlib.Core.List.{List}
-use Prim.Native.Nat.{ℕ, zero, suc, _+_, _%_, _≤_, _<_}
-use native.Mathlib.Decide.{ℕ-discrete}
+use Prim.Native.Nat.{ℕ, _%_, _≤_, _<_}
 use native.Mathlib.Omega.{arith}
 use lib.ListN.{length}
 use lib.Dec.{eqb, ltb}
@@ -13,30 +12,12 @@ use Rattle.lists.specs.Tests.{by-test}
 use Rattle.lists.specs.Search.{Search, at, nowhere}
 use Rattle.settings.specs.declared.Settings.{Settings}
 use Rattle.settings.specs.Settings.{settingsRight}
-use Rattle.layout.specs.Layout.{frameIndices, multiframeFrames, mostFrames, mostMultiframes}
-use Rattle.frames.specs.Frames.{zeroFrame}
-use Rattle.writer.specs.Writing.{frameCount, endsEarly, firstWide, firstEarly, roomAnswer, earlyAnswer, wideAnswer, needed, verdict, multiframesFor}
+use Rattle.layout.specs.Layout.{frameIndices, mostFrames, mostMultiframes}
+use Rattle.wrong_frames.specs.WrongFrames.{frameCount, firstWide, firstEarly}
+use Rattle.writer.specs.Writing.{roomAnswer, earlyAnswer, wideAnswer, needed, verdict, multiframesFor}
 use Rattle.writer.specs.declared.Answer.{Answer}
 use Rattle.refusals.specs.declared.Writing.the-variants.{WrongSettings, PartFrame, TooMany, WideIndex, ZeroFrame, OutputShort}
 use Rattle.writer.specs.declared.Answer.the-variants.{Written, Refused}
-use Rattle.writer.specs.declared.Found.{Found}
-use Rattle.writer.specs.declared.Found.the-variants.{At, Nowhere}
-
--- what the code's search found
-abbrev pub foundAs : Found → Search
-foundAs (At f) = at (f .0)
-foundAs Nowhere = nowhere
-
--- ---- when a zero frame ends the utterance too early
-module _ (idx : List ℕ) (k : ℕ) where
-  pub early-last : k + 1 ≡ frameCount idx → endsEarly idx k ≡ zeroFrame idx k
-  early-last e = rw (eq-eqb (k + 1) (frameCount idx) e)
-
-  pub early-boundary : (k + 1 ≡ frameCount idx → ⊥) → (k + 1) % multiframeFrames ≡ 0 → endsEarly idx k ≡ zeroFrame idx k
-  early-boundary n e = rw (ne-eqb (k + 1) (frameCount idx) n, eq-eqb ((k + 1) % multiframeFrames) 0 e)
-
-  pub early-never : (k + 1 ≡ frameCount idx → ⊥) → ((k + 1) % multiframeFrames ≡ 0 → ⊥) → endsEarly idx k ≡ false
-  early-never n m = rw (ne-eqb (k + 1) (frameCount idx) n, ne-eqb ((k + 1) % multiframeFrames) 0 m)
 
 -- ---- the answers, one by one, in 01's order
 -- the settings are right, the frames whole and not too many

@@ -28,8 +28,10 @@ use Rattle.message.specs.Message.Laws.{message-lt, settings-back}
 use Rattle.image.specs.Image.{image}
 use Rattle.image.specs.Made.{wordIn, packetIn, Small}
 use Rattle.image.specs.Laws.{length-image, image-word, image-packet}
-use Rattle.writer.specs.Writing.{frameCount, isWide, endsEarly, multiframesFor, needed, verdict, outcome, finished, writing}
-use Rattle.writer.specs.Laws.{early-last, early-boundary, Accepted, accepted, accepts}
+use Rattle.wrong_frames.specs.WrongFrames.{frameCount, isWide, endsEarly}
+use Rattle.wrong_frames.specs.Laws.{early-last, early-boundary}
+use Rattle.writer.specs.Writing.{multiframesFor, needed, verdict, outcome, finished, writing}
+use Rattle.writer.specs.Laws.{Accepted, accepted, accepts}
 use Rattle.writer.specs.declared.Answer.{Answer}
 use Rattle.refusals.specs.declared.Writing.{Writing as Refusal}
 use Rattle.writer.specs.declared.Answer.the-variants.{Written, Refused}

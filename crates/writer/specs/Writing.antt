@@ -1,18 +1,17 @@
 -- What the writer answers and leaves in the output, for every input (01, "Writing"). Frames count from 0; the places of refusals 4 and
 -- 5 count them from 1, as 01 does.
 -- Assumes nothing.
-use Prim.Native.Nat.{ℕ, zero, suc, _+_, _-_, _*_, _/_, _%_}
-use mathlib.Core.Bool.{Bool, true, false}
+use Prim.Native.Nat.{ℕ, _+_, _*_, _/_, _%_}
 use mathlib.Core.List.{List}
 use lib.Dec.{eqb, ltb}
-use lib.ListN.{length, getD}
+use lib.ListN.{length}
 use Rattle.lists.specs.Tests.{when}
 use Rattle.lists.specs.Parts.{over}
-use Rattle.lists.specs.Search.{Search, at, nowhere, firstFrom, isFound}
+use Rattle.lists.specs.Search.{Search, at, nowhere, isFound}
 use Rattle.settings.specs.declared.Settings.{Settings}
 use Rattle.settings.specs.Settings.{settingsRight}
-use Rattle.layout.specs.Layout.{frameIndices, mostNarrow, multiframeFrames, multiframeOctets, mostFrames}
-use Rattle.frames.specs.Frames.{zeroFrame}
+use Rattle.layout.specs.Layout.{frameIndices, multiframeFrames, multiframeOctets, mostFrames}
+use Rattle.wrong_frames.specs.WrongFrames.{frameCount, firstWide, firstEarly}
 use Rattle.image.specs.Image.{image}
 use Rattle.refusals.specs.Refusals.{success, writingNumber, writingPlace}
 use Rattle.refusals.specs.declared.Writing.the-variants.{WrongSettings, PartFrame, TooMany, WideIndex, ZeroFrame, OutputShort}
@@ -28,31 +27,10 @@ abbrev pub placeOf : Answer → ℕ
 placeOf (Written n) = n
 placeOf (Refused r) = writingPlace r
 
--- ---- frames
-abbrev pub frameCount : List ℕ → ℕ
-frameCount idx = length idx / frameIndices
-
+-- ---- multiframes
 -- "for n frames, m = n div 24 + 1 multiframes"
 abbrev pub multiframesFor : ℕ → ℕ
 multiframesFor n = n / multiframeFrames + 1
-
--- one of the first six indices of frame k is above 63
-abbrev pub isWide : List ℕ → ℕ → Bool
-isWide idx k = isFound (firstFrom (λ j. ltb mostNarrow (getD idx j 0)) (frameIndices * k) (frameIndices - 1))
-
--- frame k of n must not be zero: it is the last, or its number from 1 is a multiple of 24
-abbrev pub mustSpeak : ℕ → ℕ → Bool
-mustSpeak n k = when (eqb (k + 1) n) true (eqb ((k + 1) % multiframeFrames) 0)
-
-abbrev pub endsEarly : List ℕ → ℕ → Bool
-endsEarly idx k = when (mustSpeak (frameCount idx) k) (zeroFrame idx k) false
-
--- ---- the first frame that 4 or 5 is about
-abbrev pub firstWide : List ℕ → Search
-firstWide idx = firstFrom (isWide idx) 0 (frameCount idx)
-
-abbrev pub firstEarly : List ℕ → Search
-firstEarly idx = firstFrom (endsEarly idx) 0 (frameCount idx)
 
 -- ---- every refusal, in 01's order
 -- 6: output shorter than 144m

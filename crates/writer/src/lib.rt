@@ -1,85 +1,18 @@
 // The writer: index octets, seven a frame, become the protected multiframes of an utterance, or a refusal with 01's number and place.
-use layout::Frame;
 use layout::FrameLayout;
 use layout::MultiframeLayout;
 use layout::UtteranceLayout;
 use refusals::Writing;
 use settings::Settings;
+use wrong_frames::Found;
 ghost use mathlib.Core.Path.{_≡_};
-ghost use Prim.Native.Nat.{_+_, _*_, _^_, _≤_, _<_};
-ghost use lib.ListN.{length};
+ghost use Prim.Native.Nat.{_^_, _<_};
 ghost use Rattle.lists.specs.Lent.{came, left};
-ghost use Rattle.layout.specs.Layout.{frameIndices};
-ghost use Rattle.writer.specs.Writing.{isWide, endsEarly, firstWide, firstEarly, verdict, outcome, writing, numberOf, placeOf};
-ghost use Rattle.writer.specs.Laws.{foundAs};
-
-// The largest index of six bits.
-const LARGEST: u8 = 63;
+ghost use Rattle.writer.specs.Writing.{verdict, outcome, writing, numberOf, placeOf};
 
 pub enum Answer {
     Written { octets: usize },
     Refused(Writing),
-}
-
-// What a search over the frames finds: a frame, or none.
-pub enum Found {
-    At(Frame),
-    Nowhere,
-}
-
-// Is one of the first six indices of the frame above 63?
-fn is_wide(indices: &[u8], frame: Frame) -> bool
-    requires { ⌜ frameIndices * (frame .0 + 1) ≤ length (now indices) ⌝ }
-    ensures { λ r. ⌜ r ≡ isWide (came indices) (frame .0) ⌝ }
-{
-    let from = FrameLayout::INDICES * frame.0;
-    for i in 0..FrameLayout::NARROW {
-        if LARGEST < indices[from + i] {
-            return true;
-        }
-    }
-    false
-}
-
-// Is it a zero frame that must not be one: the last, or one whose number from 1 is a multiple of 24?
-fn ends_early(indices: &[u8], frame: Frame) -> bool
-    requires { ⌜ frameIndices * (frame .0 + 1) ≤ length (now indices) ⌝ }
-    ensures { λ r. ⌜ r ≡ endsEarly (came indices) (frame .0) ⌝ }
-{
-    let number = frame.0 + 1;
-    if number == indices.len() / FrameLayout::INDICES {
-        return frames::is_zero(indices, frame);
-    }
-    if number % MultiframeLayout::FRAMES == 0 {
-        return frames::is_zero(indices, frame);
-    }
-    false
-}
-
-// first_wide gives the first frame with an index that is too large.
-pub fn first_wide(indices: &[u8]) -> Found
-    ensures { λ r. ⌜ foundAs r ≡ firstWide (came indices) ⌝ }
-{
-    let frames = indices.len() / FrameLayout::INDICES;
-    for k in 0..frames {
-        if is_wide(indices, Frame(k)) {
-            return Found::At(Frame(k));
-        }
-    }
-    Found::Nowhere
-}
-
-// The first zero frame that must not be one.
-fn first_early(indices: &[u8]) -> Found
-    ensures { λ r. ⌜ foundAs r ≡ firstEarly (came indices) ⌝ }
-{
-    let frames = indices.len() / FrameLayout::INDICES;
-    for k in 0..frames {
-        if ends_early(indices, Frame(k)) {
-            return Found::At(Frame(k));
-        }
-    }
-    Found::Nowhere
 }
 
 // Every refusal, in 01's order. Nothing that can be written is lent, so that a refusal can change nothing.
@@ -98,10 +31,10 @@ fn decide(settings: Settings, indices: &[u8], room: usize) -> Answer
     if UtteranceLayout::FRAMES < frames {
         return Answer::Refused(Writing::TooMany { frames });
     }
-    if let Found::At(f) = first_wide(indices) {
+    if let Found::At(f) = wrong_frames::first_wide(indices) {
         return Answer::Refused(Writing::WideIndex { frame: f });
     }
-    if let Found::At(f) = first_early(indices) {
+    if let Found::At(f) = wrong_frames::first_early(indices) {
         return Answer::Refused(Writing::ZeroFrame { frame: f });
     }
     let needed = MultiframeLayout::OCTETS * (frames / MultiframeLayout::FRAMES + 1);

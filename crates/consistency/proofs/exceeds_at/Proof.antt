@@ -1,6 +1,6 @@
 -- `exceeds_at` meets its contract: the call is handed the numbers that stand there.
 -- Assumes nothing.
-use Rattle.consistency.specs.Tables.{at}
+use Rattle.tables.specs.Tables.{at}
 use Rattle.consistency.specs.Consistency.{exceeding}
 use Rattle.consistency.proofs.Signed.{handed}
 use borrow.Author.Needs.{needs, sfits-of}

@@ -1,6 +1,6 @@
 -- `is_flagged` meets its contract: it is flagged by its first element, or else by its second (`Flags`).
 -- Assumes nothing.
-use Rattle.consistency.specs.Tables.{tablesOf}
+use Rattle.tables.specs.Tables.{tablesOf}
 use Rattle.consistency.proofs.Flags.{flagged-first, flagged-second}
 use borrow.Author.Needs.{needs}
 use Rattle.consistency.proofs.is_flagged.Statement.{statement}

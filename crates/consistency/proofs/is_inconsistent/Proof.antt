@@ -7,7 +7,7 @@ use mathlib.Core.Logic.{⊎-elim}
 use native.Mathlib.Omega.{arith}
 use Rattle.lists.specs.Parts.{part}
 use Rattle.layout.specs.Layout.{frameIndices}
-use Rattle.consistency.specs.Tables.{tablesOf}
+use Rattle.tables.specs.Tables.{tablesOf}
 use Rattle.consistency.specs.Consistency.{flags}
 use Rattle.consistency.proofs.Flags.{index-of, in-codebook, one-more, no-more, judged}
 use Rattle.consistency.proofs.is_inconsistent.Statement.{statement}

@@ -9,7 +9,7 @@ use Rattle.deciding.proofs.Steps.{decided-empty, decided-unsettled, dec
 use borrow.Author.Needs.{needs}
 use Rattle.deciding.proofs.decide.Statement.{statement}
 use Rattle.deciding.proofs.decide.Tie as tie
-use Rattle.consistency.specs.Tables.{tablesOf}
+use Rattle.tables.specs.Tables.{tablesOf}
 
 returns : tie.Need-returns
 returns c =

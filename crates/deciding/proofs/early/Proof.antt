@@ -3,7 +3,7 @@ use Prim.Native.Nat.{_*_}
 use mathlib.Core.Path.{_≡_, sym, _∙_}
 use mathlib.Core.Bool.{false}
 use borrow.Author.Tests.{lt-ltb, le-ltb}
-use Rattle.settling.specs.Settling.{unfit}
+use Rattle.unfit.specs.Unfit.{unfit}
 use Rattle.deciding.specs.Steps.{earlyVerdict}
 use borrow.Author.Needs.{needs}
 use Rattle.deciding.proofs.early.Statement.{statement}

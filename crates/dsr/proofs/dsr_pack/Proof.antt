@@ -1,7 +1,7 @@
 -- Each answer is the definition's, by the tests that led to it. Assumes nothing.
 use mathlib.Core.Path.{_≡_, sym, ap, _∙_}
 use native.Mathlib.Omega.{arith}
-use Rattle.writer.specs.Laws.{foundAs}
+use Rattle.wrong_frames.specs.Laws.{foundAs}
 use Rattle.entries.specs.Laws.{packs-no-length, packs-no-room, packs-no-wide, packs}
 use borrow.Author.Needs.{needs}
 use Rattle.dsr.proofs.dsr_pack.Statement.{statement}

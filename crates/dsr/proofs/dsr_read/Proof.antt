@@ -2,7 +2,7 @@
 use mathlib.Core.Path.{sym, ap, _∙_}
 use native.Mathlib.Omega.{arith}
 use Rattle.choices.specs.Choices.{asked}
-use Rattle.consistency.specs.Tables.{tablesOf}
+use Rattle.tables.specs.Tables.{tablesOf}
 use Rattle.reader.specs.Reading.{reading}
 use Rattle.entries.specs.Entries.{answerNumbers, givenOf}
 use Rattle.entries.specs.Laws.{returns-no-room, returns-unchosen, returns-chosen, returns-told}

@@ -2,7 +2,7 @@
 use mathlib.Core.Path.{sym, ap, _∙_}
 use native.Mathlib.Omega.{arith}
 use Rattle.choices.specs.Choices.{asked}
-use Rattle.consistency.specs.Tables.{tablesOf}
+use Rattle.tables.specs.Tables.{tablesOf}
 use Rattle.hunting.specs.Hunting.{huntingReading}
 use Rattle.entries.specs.Laws.{returns-no-room, returns-unchosen, returns-chosen, returns-told}
 use Rattle.entries.specs.Bits.{countedNumbers, bitsGiven}

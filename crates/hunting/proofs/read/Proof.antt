@@ -9,8 +9,8 @@ use Rattle.hunting.proofs.read.Reads as reads
 use Rattle.hunting.proofs.read.Lts as lts
 use Rattle.hunt.proofs.in_range.Reads as in-range-reads
 use Rattle.hunting.proofs.read_found.Reads as read-found-reads
-use Rattle.consistency.specs.Tables.{tablesOf, admission}
-use Rattle.consistency.specs.declared.Admission.the-variants.{Admitted}
+use Rattle.tables.specs.Tables.{tablesOf, admission}
+use Rattle.tables.specs.declared.Admission.the-variants.{Admitted}
 
 -- past the first test the tables are admitted
 right : (i : tie.After-enum-told)

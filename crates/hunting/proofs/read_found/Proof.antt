@@ -10,7 +10,7 @@ use Rattle.hunting.proofs.read_found.Lts as lts
 use Rattle.gathering.proofs.gather.Reads as gather-reads
 use Rattle.gathering.proofs.outside_of.Reads as outside-of-reads
 use Rattle.hunting.proofs.read_front.Reads as read-front-reads
-use Rattle.consistency.specs.Tables.{tablesOf}
+use Rattle.tables.specs.Tables.{tablesOf}
 
 slice-aggregate-gather : tie.Need-slice-aggregate-gather
 slice-aggregate-gather c = search needs

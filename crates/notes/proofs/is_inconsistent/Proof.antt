@@ -7,7 +7,7 @@ use denote.Ref.{now}
 use lib.ListN.{length, replicate}
 use Rattle.lists.specs.Parts.{over}
 use Rattle.layout.specs.Layout.{widths, pairIndices}
-use Rattle.consistency.specs.Tables.{tablesOf}
+use Rattle.tables.specs.Tables.{tablesOf}
 use Rattle.bits.specs.Bits.{bits}
 use Rattle.carrier.specs.Carrier.{streamPacket, received}
 use Rattle.packet.specs.Packet.{apart}

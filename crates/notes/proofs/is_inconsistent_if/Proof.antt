@@ -2,7 +2,7 @@
 use mathlib.Core.Path.{sym, ap, _∙_}
 use mathlib.Core.Bool.{Bool, false}
 use Rattle.lists.specs.Tests.{when}
-use Rattle.consistency.specs.Tables.{tablesOf}
+use Rattle.tables.specs.Tables.{tablesOf}
 use Rattle.carrier.specs.Carrier.{received}
 use Rattle.notes.specs.Notes.{pairInconsistent}
 use borrow.Author.Needs.{needs}

@@ -5,7 +5,7 @@ use mathlib.Core.Bool.{Bool, false}
 use native.Mathlib.Omega.{arith}
 use lib.ListN.{length}
 use Rattle.lists.specs.Tests.{when}
-use Rattle.consistency.specs.Tables.{tablesOf}
+use Rattle.tables.specs.Tables.{tablesOf}
 use Rattle.carrier.specs.Carrier.{received, pairCount}
 use Rattle.bad_pairs.specs.BadPairs.{badPairs}
 use Rattle.notes.specs.Notes.{pairInconsistent, pairNotes}

@@ -11,9 +11,9 @@ use Rattle.reader.proofs.Steps.{cut-whole, cut-refused, front-places, i
 use borrow.Author.Needs.{needs}
 use Rattle.reader.proofs.read.Statement.{statement}
 use Rattle.reader.proofs.read.Tie as tie
-use Rattle.consistency.specs.Tables.{tablesOf, admission}
-use Rattle.consistency.specs.Admitted.{passes-right}
-use Rattle.consistency.specs.declared.Admission.the-variants.{Admitted}
+use Rattle.tables.specs.Tables.{tablesOf, admission}
+use Rattle.tables.specs.Admitted.{passes-right}
+use Rattle.tables.specs.declared.Admission.the-variants.{Admitted}
 
 -- cutting met nothing that it refuses, and counted the places
 counted : (c : tie.After-count)

@@ -13,7 +13,7 @@ use Rattle.reader.proofs.Steps.{has-front, ready, finished-refused, fin
 use borrow.Author.Needs.{needs}
 use Rattle.reader.proofs.read_found.Statement.{statement}
 use Rattle.reader.proofs.read_found.Tie as tie
-use Rattle.consistency.specs.Tables.{tablesOf}
+use Rattle.tables.specs.Tables.{tablesOf}
 
 -- what `decide` leaves in its parts of both arrays has their sizes
 headers-size : (d : tie.After-decide) → length (d .decide .last .1 .1 .1 .1 .1 .1 .1 .0) ≡ length (d .before .before .before .before .before .before .before .args .places .now)

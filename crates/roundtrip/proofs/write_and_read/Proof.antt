@@ -5,7 +5,7 @@ use Rattle.roundtrip.specs.Trip.{tripOf, ends-unwritten, ends-read, fits
 use borrow.Author.Needs.{needs}
 use Rattle.roundtrip.proofs.write_and_read.Statement.{statement}
 use Rattle.roundtrip.proofs.write_and_read.Tie as tie
-use Rattle.consistency.specs.Tables.{tablesOf}
+use Rattle.tables.specs.Tables.{tablesOf}
 
 write-requires : tie.Need-write-requires
 write-requires c κs = search needs

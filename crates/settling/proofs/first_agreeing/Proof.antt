@@ -6,7 +6,8 @@ use native.Mathlib.Omega.{arith}
 use lib.ListN.{length, drop}
 use Rattle.settling.specs.Settling.{firstAgreeing, orElse}
 use Rattle.settling.specs.declared.Settlement.{Settlement}
-use Rattle.settling.specs.Stored.{openAll, seenBefore, length-open}
+use Rattle.header_readings.specs.Stored.{openAll, length-open}
+use Rattle.settling.specs.Steps.{seenBefore}
 use Rattle.settling.proofs.Steps.{agreeing-on, agreeing-end}
 use borrow.Author.Needs.{needs}
 use Rattle.settling.proofs.first_agreeing.Statement.{statement}

@@ -1,7 +1,7 @@
 -- `only_one` meets its contract. Assumes nothing.
 use mathlib.Core.Path.{sym, _∙_}
 use Rattle.settling.specs.Laws.{not-only}
-use Rattle.settling.specs.Stored.{length-open}
+use Rattle.header_readings.specs.Stored.{length-open}
 use Rattle.settling.proofs.Steps.{only-lost, only-clean, only-mended}
 use borrow.Author.Needs.{needs}
 use Rattle.settling.proofs.only_one.Statement.{statement}

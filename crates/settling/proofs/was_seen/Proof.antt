@@ -7,7 +7,8 @@ use native.Mathlib.Omega.{arith}
 use lib.ListN.{length}
 use Rattle.lists.specs.Tests.{when}
 use Rattle.settling.specs.Settling.{among}
-use Rattle.settling.specs.Stored.{openAll, seenBefore}
+use Rattle.header_readings.specs.Stored.{openAll}
+use Rattle.settling.specs.Steps.{seenBefore}
 use Rattle.settling.proofs.Steps.{looked, among-none}
 use borrow.Author.Needs.{needs}
 use Rattle.settling.proofs.was_seen.Statement.{statement}

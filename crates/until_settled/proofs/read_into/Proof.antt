@@ -6,7 +6,8 @@ use Rattle.carrier.specs.Carrier.{headerWord}
 use Rattle.refusals.specs.declared.Reading.the-variants as R
 use Rattle.header.specs.Reading.{reading}
 use Rattle.header.specs.declared.Header.the-variants.{Lost}
-use Rattle.settling.specs.Stored.{packed, openAll, seenBefore, settledBy}
+use Rattle.header_readings.specs.Stored.{packed, openAll}
+use Rattle.settling.specs.Steps.{seenBefore, settledBy}
 use Rattle.settling.specs.declared.Settlement.{Settlement}
 use Rattle.settling.specs.declared.Settlement.the-variants.{Settled, Unsettled}
 use Rattle.until_settled.specs.UntilSettled.{settledAnswer, untilSettled}

@@ -2,7 +2,7 @@
 use mathlib.Core.Path.{_≡_, ap, sym, _∙_}
 use mathlib.Core.Bool.{false}
 use Rattle.settings.specs.declared.Settings.{Settings}
-use Rattle.settling.specs.Settling.{unfit}
+use Rattle.unfit.specs.Unfit.{unfit}
 use Rattle.until_settled.specs.declared.Answer.the-variants.{Read}
 use borrow.Author.Needs.{needs}
 use Rattle.until_settled.proofs.settled.Statement.{statement}

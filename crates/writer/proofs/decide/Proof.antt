@@ -5,7 +5,8 @@ use native.Mathlib.Omega.{arith}
 use lib.ListN.{length}
 use Rattle.lists.specs.Tests.{not-false, not-true}
 use Rattle.layout.specs.Layout.{frameIndices}
-use Rattle.writer.specs.Laws.{foundAs, Sized, refuses-settings, refuses-part, refuses-many, refuses-wide, refuses-zero, refuses-short, accepts}
+use Rattle.wrong_frames.specs.Laws.{foundAs}
+use Rattle.writer.specs.Laws.{Sized, refuses-settings, refuses-part, refuses-many, refuses-wide, refuses-zero, refuses-short, accepts}
 use borrow.Author.Needs.{needs}
 use Rattle.writer.proofs.decide.Statement.{statement}
 use Rattle.writer.proofs.decide.Tie as tie

@@ -1,0 +1,3 @@
+pub mod HeaderNotes
+pub mod Laws
+pub mod Steps

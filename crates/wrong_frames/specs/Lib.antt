@@ -1,0 +1,2 @@
+pub mod WrongFrames
+pub mod Laws
