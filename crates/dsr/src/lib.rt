@@ -153,7 +153,7 @@ pub extern "C" fn dsr_settle(
     let Asked::For(chosen) = choices::asked_by(choices) else {
         return refusals::NO_SUCH_CHOICE;
     };
-    answers::tell_beginning(until_settled::read(octets, chosen), answer, place)
+    answers::tell_beginning(beginning::read(octets, chosen), answer, place)
 }
 
 // dsr_hunt answers 0 and puts the bit found and the number of places tested into found and tested; or 02's number, and puts the refusal's

@@ -3,9 +3,6 @@ use Rattle.answers.proofs.Stored.{eight-stored}
 use borrow.Author.Needs.{needs}
 use Rattle.answers.proofs.put_counted.Statement.{statement}
 use Rattle.answers.proofs.put_counted.Tie as tie
-use Rattle.answers.proofs.put_counted.Reads as reads
-use Rattle.answers.proofs.put_counted.Lts as lts
-use Rattle.answers.proofs.put_summary.Reads as put-summary-reads
 
 put-summary-requires : tie.Need-put-summary-requires
 put-summary-requires c κs = search needs

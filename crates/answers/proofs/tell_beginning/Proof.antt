@@ -5,11 +5,6 @@ use Rattle.entries.specs.Laws.{tells-numbers, tells-refusal}
 use borrow.Author.Needs.{needs}
 use Rattle.answers.proofs.tell_beginning.Statement.{statement}
 use Rattle.answers.proofs.tell_beginning.Tie as tie
-use Rattle.answers.proofs.tell_beginning.Reads as reads
-use Rattle.answers.proofs.tell_beginning.Lts as lts
-use Rattle.answers.proofs.put_beginning.Reads as put-beginning-reads
-use Rattle.refusals.proofs.reading_number.Reads as reading-number-reads
-use Rattle.refusals.proofs.reading_place.Reads as reading-place-reads
 
 enum-known-a : tie.Need-enum-known-a
 enum-known-a c = search needs

@@ -4,8 +4,6 @@ use Rattle.entries.specs.Entries.{headerRead}
 use borrow.Author.Needs.{needs}
 use Rattle.answers.proofs.tell_header.Statement.{statement}
 use Rattle.answers.proofs.tell_header.Tie as tie
-use Rattle.answers.proofs.tell_header.Reads as reads
-use Rattle.answers.proofs.tell_header.Lts as lts
 
 enum-known-h : tie.Need-enum-known-h
 enum-known-h c = search needs

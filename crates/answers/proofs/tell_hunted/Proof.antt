@@ -4,11 +4,6 @@ use Rattle.entries.specs.Bits.{hunt-found, hunt-refused}
 use borrow.Author.Needs.{needs}
 use Rattle.answers.proofs.tell_hunted.Statement.{statement}
 use Rattle.answers.proofs.tell_hunted.Tie as tie
-use Rattle.answers.proofs.tell_hunted.Reads as reads
-use Rattle.answers.proofs.tell_hunted.Lts as lts
-use Rattle.refusals.proofs.hunt_number.Reads as hunt-number-reads
-use Rattle.refusals.proofs.hunt_place.Reads as hunt-place-reads
-use Rattle.refusals.proofs.hunt_tested.Reads as hunt-tested-reads
 
 enum-known-h : tie.Need-enum-known-h
 enum-known-h c = search needs

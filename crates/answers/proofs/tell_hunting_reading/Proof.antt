@@ -5,11 +5,6 @@ use Rattle.entries.specs.Laws.{tells-numbers, tells-refusal}
 use borrow.Author.Needs.{needs}
 use Rattle.answers.proofs.tell_hunting_reading.Statement.{statement}
 use Rattle.answers.proofs.tell_hunting_reading.Tie as tie
-use Rattle.answers.proofs.tell_hunting_reading.Reads as reads
-use Rattle.answers.proofs.tell_hunting_reading.Lts as lts
-use Rattle.answers.proofs.put_counted.Reads as put-counted-reads
-use Rattle.refusals.proofs.hunting_number.Reads as hunting-number-reads
-use Rattle.refusals.proofs.hunting_place.Reads as hunting-place-reads
 
 enum-known-a : tie.Need-enum-known-a
 enum-known-a c = search needs

@@ -5,11 +5,6 @@ use Rattle.entries.specs.Laws.{tells-numbers, tells-refusal}
 use borrow.Author.Needs.{needs}
 use Rattle.answers.proofs.tell_reading.Statement.{statement}
 use Rattle.answers.proofs.tell_reading.Tie as tie
-use Rattle.answers.proofs.tell_reading.Reads as reads
-use Rattle.answers.proofs.tell_reading.Lts as lts
-use Rattle.answers.proofs.put_summary.Reads as put-summary-reads
-use Rattle.refusals.proofs.reading_number.Reads as reading-number-reads
-use Rattle.refusals.proofs.reading_place.Reads as reading-place-reads
 
 enum-known-a : tie.Need-enum-known-a
 enum-known-a c = search needs

@@ -3,10 +3,10 @@ use mathlib.Core.Path.{_≡_, ap, sym, _∙_}
 use mathlib.Core.Bool.{false}
 use Rattle.settings.specs.declared.Settings.{Settings}
 use Rattle.unfit.specs.Unfit.{unfit}
 use Rattle.until_settled.specs.declared.Answer.the-variants.{Read}
 use borrow.Author.Needs.{needs}
-use Rattle.until_settled.proofs.settled.Statement.{statement}
-use Rattle.until_settled.proofs.settled.Tie as tie
+use Rattle.beginning.proofs.settled.Statement.{statement}
+use Rattle.beginning.proofs.settled.Tie as tie
 
 is-unfit-requires : tie.Need-is-unfit-requires
 is-unfit-requires c κs = search needs

@@ -1,11 +1,11 @@
 -- `at_end` meets its contract: no multiframe, or what all the headers settle. Assumes nothing.
 use mathlib.Core.Path.{ap, sym, _∙_}
 use lib.ListN.{length}
 use Rattle.until_settled.specs.UntilSettled.{settledAnswer}
-use Rattle.until_settled.proofs.Steps.{ended-empty, ended-by}
+use Rattle.beginning.proofs.Steps.{ended-empty, ended-by}
 use borrow.Author.Needs.{needs}
-use Rattle.until_settled.proofs.at_end.Statement.{statement}
-use Rattle.until_settled.proofs.at_end.Tie as tie
+use Rattle.beginning.proofs.at_end.Statement.{statement}
+use Rattle.beginning.proofs.at_end.Tie as tie
 
 returns : tie.Need-returns
 returns c = let a = c .before .before .args in ended-empty (a .choices) (a .octets) (a .headers .now) (c .if1 .taken)

@@ -19,10 +19,10 @@ use Rattle.cutting.specs.declared.Piece.the-variants.{End, Multiframe, Inverse,
 use Rattle.cutting.specs.Cutting.{pieceOf, whole, refused}
 use Rattle.cutting.specs.Laws.{rest-of}
 use native.Mathlib.Omega.{arith}
-use Rattle.until_settled.proofs.Steps.{Going, begun, ends, steps, below, inside, room-for-it, settles, goes-on, front-length, last-inside}
+use Rattle.beginning.proofs.Steps.{Going, begun, ends, steps, below, inside, room-for-it, settles, goes-on, front-length, last-inside}
 use borrow.Author.Needs.{needs}
-use Rattle.until_settled.proofs.read_into.Statement.{statement}
-use Rattle.until_settled.proofs.read_into.Tie as tie
+use Rattle.beginning.proofs.read_into.Statement.{statement}
+use Rattle.beginning.proofs.read_into.Tie as tie
 
 abbrev Inv-loop : tie.InvT-loop
 Inv-loop octets choices headers₀ p₀ m₀ headers p m = Going octets headers p m × (length headers ≡ length headers₀)
