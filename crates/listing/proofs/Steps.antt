@@ -22,7 +22,8 @@ use Rattle.reader.specs.declared.Answer.{Answer}
 use Rattle.reader.specs.declared.Answer.the-variants.{Read, Refused}
 use Rattle.text.specs.Text.{Put}
 use Rattle.text.proofs.Steps.{put-on}
-use Rattle.lines.specs.Lines.{lineOf, total, refusal}
+use Rattle.lines.specs.Lines.{lineOf}
+use Rattle.last_line.specs.LastLine.{total, refusal}
 use Rattle.listing.specs.Listing.{listed, readingOf, listing}
 
 module _ (ch : Choices) (octets : List ℕ) (tables : Tables) (index report : List ℕ) where

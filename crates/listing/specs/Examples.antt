@@ -12,7 +12,7 @@ use Rattle.deciding.specs.Deciding.{wholeVerdict}
 use Rattle.reader.specs.Reading.{Outcome, outcome}
 use Rattle.reader.specs.Steps.{whole-reading}
 use Rattle.reader.specs.declared.Answer.the-variants.{Refused}
-use Rattle.lines.specs.Examples.{empty-refused}
+use Rattle.last_line.specs.Examples.{empty-refused}
 use Rattle.listing.specs.Listing.{listed, listing}
 use Rattle.choices.specs.Choices.{oneHeaderSettles}
 use Rattle.tables.specs.Tables.{zeroTables}

@@ -10,7 +10,8 @@ use Rattle.tables.specs.Tables.{zeroTables}
 use Rattle.reader.specs.Reading.{Outcome, reading}
 use Rattle.reader.specs.declared.Answer.{Answer}
 use Rattle.reader.specs.declared.Answer.the-variants.{Read, Refused}
-use Rattle.lines.specs.Lines.{mostLine, mostTotal, lineOf, total, refusal}
+use Rattle.lines.specs.Lines.{mostLine, lineOf}
+use Rattle.last_line.specs.LastLine.{mostTotal, total, refusal}
 
 -- a line for each multiframe and a total, or the refusal alone
 abbrev pub listed : List ℕ → Answer → List ℕ

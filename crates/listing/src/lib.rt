@@ -11,7 +11,7 @@ ghost use Rattle.text.specs.Text.{Put};
 ghost use Rattle.listing.specs.Listing.{mostListing, listing};
 
 // MOST is the most octets of a listing.
-pub const MOST: usize = lines::LINE * UtteranceLayout::MULTIFRAMES + lines::TOTAL;
+pub const MOST: usize = lines::LINE * UtteranceLayout::MULTIFRAMES + last_line::TOTAL;
 
 const INDEX: usize = ReadingLayout::INDEX * UtteranceLayout::MULTIFRAMES;
 
@@ -41,8 +41,8 @@ pub fn put_listing(octets: &[u8], text: &mut [u8]) -> usize
     ) {
         Answer::Read(s) => {
             let end = lines::put_lines(&report, s.multiframes, text, 0);
-            lines::put_total(s, text, end)
+            last_line::put_total(s, text, end)
         }
-        Answer::Refused(r) => lines::put_refusal(r, text, 0),
+        Answer::Refused(r) => last_line::put_refusal(r, text, 0),
     }
 }

@@ -10,8 +10,8 @@ use Rattle.listing.proofs.put_listing.Tie as tie
 use Rattle.listing.proofs.put_listing.Reads as reads
 use Rattle.listing.proofs.put_listing.Lts as lts
 use Rattle.lines.proofs.put_lines.Reads as put-lines-reads
-use Rattle.lines.proofs.put_refusal.Reads as put-refusal-reads
-use Rattle.lines.proofs.put_total.Reads as put-total-reads
+use Rattle.last_line.proofs.put_refusal.Reads as put-refusal-reads
+use Rattle.last_line.proofs.put_total.Reads as put-total-reads
 use Rattle.reader.proofs.read.Reads as read-reads
 
 -- src/lib.rt:175:32

@@ -1,10 +1,10 @@
 -- `put_total` meets its contract: its fields two by two, each two behind those before. Assumes nothing.
-use Rattle.lines.proofs.Steps.{total-done}
+use Rattle.last_line.proofs.Steps.{total-done}
 use borrow.Author.Needs.{needs}
-use Rattle.lines.proofs.put_total.Statement.{statement}
-use Rattle.lines.proofs.put_total.Tie as tie
-use Rattle.lines.proofs.put_total.Reads as reads
-use Rattle.lines.proofs.put_total.Lts as lts
+use Rattle.last_line.proofs.put_total.Statement.{statement}
+use Rattle.last_line.proofs.put_total.Tie as tie
+use Rattle.last_line.proofs.put_total.Reads as reads
+use Rattle.last_line.proofs.put_total.Lts as lts
 use Rattle.text.proofs.put_two.Reads as put-two-reads
 use Rattle.text.proofs.put_words.Reads as put-words-reads
 

@@ -1,10 +1,10 @@
 -- `put_refusal` meets its contract: number and place behind the word, and a line feed. Assumes nothing.
-use Rattle.lines.proofs.Steps.{refusal-done}
+use Rattle.last_line.proofs.Steps.{refusal-done}
 use borrow.Author.Needs.{needs}
-use Rattle.lines.proofs.put_refusal.Statement.{statement}
-use Rattle.lines.proofs.put_refusal.Tie as tie
-use Rattle.lines.proofs.put_refusal.Reads as reads
-use Rattle.lines.proofs.put_refusal.Lts as lts
+use Rattle.last_line.proofs.put_refusal.Statement.{statement}
+use Rattle.last_line.proofs.put_refusal.Tie as tie
+use Rattle.last_line.proofs.put_refusal.Reads as reads
+use Rattle.last_line.proofs.put_refusal.Lts as lts
 use Rattle.text.proofs.put_two.Reads as put-two-reads
 use Rattle.text.proofs.put_words.Reads as put-words-reads
 use Rattle.refusals.proofs.reading_number.Reads as reading-number-reads

@@ -1,0 +1,3 @@
+pub mod LastLine
+pub mod Laws
+pub mod Examples
