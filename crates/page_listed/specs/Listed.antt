@@ -53,10 +53,10 @@ use Rattle.reader.specs.declared.Answer.the-variants.{Read}
 use Rattle.demands.specs.Examples as E
 use Rattle.demands.specs.Met.{zero-consistent}
 use Rattle.demands.specs.ReadsBack.{zeros}
-use Rattle.page.specs.Headers.{word-of, ReadsAs, clean, flips}
-use Rattle.page.specs.Headers as Headers
-use Rattle.page.specs.Images.{Right}
-use Rattle.page.specs.Received.{Reads, headed}
+use Rattle.page_images.specs.Headers.{word-of, ReadsAs, clean, flips}
+use Rattle.page_images.specs.Headers as Headers
+use Rattle.page_images.specs.Images.{Right}
+use Rattle.page_received.specs.Received.{Reads, headed}
 
 -- ---- the first listing: bad pairs, and what stands in for their frames
 abbrev pub hurtFirst : List ℕ

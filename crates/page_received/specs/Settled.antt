@@ -39,9 +39,9 @@ use Rattle.until_settled.specs.declared.Answer.the-variants.{Read, Refused}
 use Rattle.until_settled.specs.UntilSettled.{readUntil, settledAnswer, endAnswer, answerBy, untilSettled}
 use Rattle.until_settled.specs.Front.{Front, start, met}
 use Rattle.until_settled.specs.Laws.{headers, settlingEnd, only-the-front, longer, ends-here}
-use Rattle.page.specs.Headers.{ReadsAs, clean, word-of}
-use Rattle.page.specs.Headers as Headers
-use Rattle.page.specs.Received.{headed, count1, count2, flipped, lost, exp9, rate2, one, two, again, length-again, part-again, octet-again, all-lost, read-1, read-2, read-exp, read-flipped, read-rate-2, read-lost, usable-8, common-16, cut-one, head-one, cut-two, heads-two, cut-twice, heads-twice, cut-exp-twice, heads-exp-twice, read-flipped-2}
+use Rattle.page_images.specs.Headers.{ReadsAs, clean, word-of}
+use Rattle.page_images.specs.Headers as Headers
+use Rattle.page_received.specs.Received.{headed, count1, count2, flipped, lost, exp9, rate2, one, two, again, length-again, part-again, octet-again, all-lost, read-1, read-2, read-exp, read-flipped, read-rate-2, read-lost, usable-8, common-16, cut-one, head-one, cut-two, heads-two, cut-twice, heads-twice, cut-exp-twice, heads-exp-twice, read-flipped-2}
 
 -- the first header of 11 kHz, type 0
 abbrev pub eleven : List ℕ

@@ -58,9 +58,9 @@ use Rattle.writer.specs.declared.Answer.the-variants.{Written}
 use Rattle.demands.specs.Whole.{rowOf, cut-is, readings-are}
 use Rattle.demands.specs.ReadsBack.{reads-image}
 use Rattle.demands.specs.Instances.{lone, small-lone}
-use Rattle.page.specs.Headers.{header, word-of, ReadsAs, clean, flips}
-use Rattle.page.specs.Headers as Headers
-use Rattle.page.specs.Images.{Right, spokenBehind, spoken-image}
+use Rattle.page_images.specs.Headers.{header, word-of, ReadsAs, clean, flips}
+use Rattle.page_images.specs.Headers as Headers
+use Rattle.page_images.specs.Images.{Right, spokenBehind, spoken-image}
 
 -- ---- what a line of the table says
 -- the reading is refused with this number and this place, which `readingNumber` and `readingPlace` give of its refusal, and both buffers are as they came

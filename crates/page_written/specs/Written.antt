@@ -18,10 +18,10 @@ use Rattle.image.specs.Image.{image}
 use Rattle.writer.specs.Writing.{numberOf, placeOf, roomAnswer, verdict, writing}
 use Rattle.writer.specs.declared.Answer.{Answer}
 use Rattle.writer.specs.declared.Answer.the-variants.{Written}
-use Rattle.page.specs.Headers.{header, multiframe-is}
-use Rattle.page.specs.Headers as H
-use Rattle.page.specs.Images.{lent}
-use Rattle.page.specs.Spoken.{written-ones}
+use Rattle.page_images.specs.Headers.{header, multiframe-is}
+use Rattle.page_images.specs.Headers as H
+use Rattle.page_images.specs.Images.{lent}
+use Rattle.page_images.specs.Spoken.{written-ones}
 
 -- what is seen of a call: the answer's number and place, and the output
 pub record Seen : Type 0 where

@@ -45,8 +45,8 @@ use Rattle.demands.specs.Examples.{header8}
 use Rattle.demands.specs.Examples as E
 use Rattle.demands.specs.Instances.{says1}
 use Rattle.demands.specs.ReadsBack.{reads-image}
-use Rattle.page.specs.Headers.{same-octets, multiframe-is}
-use Rattle.page.specs.Headers as H
+use Rattle.page_images.specs.Headers.{same-octets, multiframe-is}
+use Rattle.page_images.specs.Headers as H
 
 -- tables that nothing turns away: "codebook, 1,280 numbers", "14 thresholds", and no "negative threshold" (02, C-12)
 abbrev pub Right : Tables → Type 0

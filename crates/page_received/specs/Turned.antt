@@ -13,7 +13,7 @@ use Rattle.consistency.specs.Tables.{tablesOf, firstNegative, signAdmission}
 use Rattle.consistency.specs.Admitted.{signs-next, wrong-sizes}
 use Rattle.reader.specs.Steps.{not-admitted}
 use Rattle.refusals.specs.declared.Reading.the-variants.{WrongTables, NegativeThreshold}
-use Rattle.page.specs.Received.{Refuses, refuses}
+use Rattle.page_received.specs.Received.{Refuses, refuses}
 
 -- ---- what a line says: whatever the octets and the buffers, and whatever numbers the codebook of c holds, these thresholds are refused so
 abbrev pub Turns : (ch : Choices) → ℕ → List ℤ → ℕ → ℕ → Type 0
