@@ -31,7 +31,7 @@ use Rattle.settling.specs.Laws.{Has, Earlier, First, settled-first, has-read, r
 use Rattle.settling.specs.declared.Settlement.the-variants.{Settled, Unsettled}
 use Rattle.image.specs.Made.{wordIn}
 use Rattle.writer.specs.Utterance.{Utterance, multiframesOf, imageOf, settings-right}
-use Rattle.demands.specs.Damage.{Damage, headerFlips, sentMessage, header-read, header-lost, header-near}
+use Rattle.damage.specs.Damage.{Damage, headerFlips, sentMessage, header-read, header-lost, header-near}
 use Rattle.demands.specs.Whole.{rowOf, readings-are}
 
 -- the common bits that the writer sends, whatever the counter

@@ -53,18 +53,18 @@ use Rattle.gathering.specs.Gathering.{outsideOf}
 use Rattle.hunting.specs.Hunting.{counted, outcome, huntingReading}
 use Rattle.hunting.specs.declared.Answer.the-variants.{Read, Refused}
 use Rattle.refusals.specs.declared.Hunting.the-variants.{Octets}
-use Rattle.demands.specs.Damages.{unharmed}
-use Rattle.demands.specs.Needed.{default-unsettled}
+use Rattle.damage.specs.Damages.{unharmed}
+use Rattle.demands_met.specs.Needed.{default-unsettled}
 use Rattle.image.specs.Made.{Small, syncIn, wordIn, streamIn, packetIn, made, length-made, small-made, made-sync, made-word, made-stream}
 use Rattle.image.specs.Laws.{length-image, image-small, image-sync, image-word, image-stream}
 use Rattle.settling.specs.Laws.{two-or-more}
 use Rattle.writer.specs.Writing.{verdict, roomAnswer, frameCount, needed}
 use Rattle.writer.specs.Utterance.{Utterance, multiframesOf, pairsOf, imageOf}
 use Rattle.writer.specs.declared.Answer.the-variants.{Written}
-use Rattle.demands.specs.Damage.{any-header, headerFlips, header-lost}
+use Rattle.damage.specs.Damage.{any-header, headerFlips, header-lost}
 use Rattle.demands.specs.Whole.{Lent, rowOf, readings-are, refuses-16}
 use Rattle.demands.specs.ReadsBack.{spoken, padded, reads-image}
-use Rattle.demands.specs.Met.{indexFor, reportFor, lent-zeros}
+use Rattle.demands_met.specs.Met.{indexFor, reportFor, lent-zeros}
 use Rattle.promises.specs.Misled as NeverMisled
 use Rattle.promises.specs.Trusted as Trusted
 use Rattle.hunting_demands.specs.Standing.{placeInRow, syncAt, wordAt, streamAt, all-match, passes-there, unlike-fails, lost-fails, InARow, testedInRow}

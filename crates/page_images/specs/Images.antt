@@ -41,9 +41,9 @@ use Rattle.writer.specs.Utterance.{Utterance, writes}
 use Rattle.reader.specs.Reading.{reading}
 use Rattle.reader.specs.Reading as R
 use Rattle.reader.specs.declared.Answer.the-variants.{Read}
-use Rattle.demands.specs.Examples.{header8}
-use Rattle.demands.specs.Examples as E
-use Rattle.demands.specs.Instances.{says1}
+use Rattle.worked_examples.specs.Examples.{header8}
+use Rattle.worked_examples.specs.Examples as E
+use Rattle.damage.specs.Instances.{says1}
 use Rattle.demands.specs.ReadsBack.{reads-image}
 use Rattle.page_images.specs.Headers.{same-octets, multiframe-is}
 use Rattle.page_images.specs.Headers as H

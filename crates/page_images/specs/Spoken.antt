@@ -35,9 +35,9 @@ use Rattle.writer.specs.Writing.{frameCount, isWide, mustSpeak, endsEarly, need
 use Rattle.writer.specs.Laws.{Sized, accepts}
 use Rattle.writer.specs.Utterance.{Utterance, multiframesOf, pairsOf, imageOf, writes}
 use Rattle.writer.specs.declared.Answer.the-variants.{Written}
-use Rattle.demands.specs.Damage.{headerFlips, Touched, sentMessage, differs, header-near}
+use Rattle.damage.specs.Damage.{headerFlips, Touched, sentMessage, differs, header-near}
 use Rattle.demands.specs.Received.{BadPair, Count, count-once, count-one, count-none}
-use Rattle.demands.specs.Met.{indexFor, reportFor, burstAt, doubleAt, distance, hurtWord, hurtStream, hurtImage, length-hurt, part-0, part-1, part-on, zero-consistent, small-ones, reads-back-met, names-met}
+use Rattle.demands_met.specs.Met.{indexFor, reportFor, burstAt, doubleAt, distance, hurtWord, hurtStream, hurtImage, length-hurt, part-0, part-1, part-on, zero-consistent, small-ones, reads-back-met, names-met}
 use Rattle.demands.specs.Whole.{headerNoteIn, pairNoteIn}
 use Rattle.demands.specs.ReadsBack as R
 use Rattle.demands.specs.NamesTheDamage as N

@@ -50,8 +50,8 @@ use Rattle.deciding.specs.Laws.{Fitting}
 use Rattle.reader.specs.ReadingLaws.{Accepted, accepting}
 use Rattle.deciding.specs.declared.Verdict.{Verdict}
 use Rattle.reader.specs.declared.Answer.the-variants.{Read}
-use Rattle.demands.specs.Examples as E
-use Rattle.demands.specs.Met.{zero-consistent}
+use Rattle.worked_examples.specs.Examples as E
+use Rattle.demands_met.specs.Met.{zero-consistent}
 use Rattle.demands.specs.ReadsBack.{zeros}
 use Rattle.page_images.specs.Headers.{word-of, ReadsAs, clean, flips}
 use Rattle.page_images.specs.Headers as Headers

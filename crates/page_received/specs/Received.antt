@@ -57,7 +57,7 @@ use Rattle.writer.specs.Utterance.{Utterance}
 use Rattle.writer.specs.declared.Answer.the-variants.{Written}
 use Rattle.demands.specs.Whole.{rowOf, cut-is, readings-are}
 use Rattle.demands.specs.ReadsBack.{reads-image}
-use Rattle.demands.specs.Instances.{lone, small-lone}
+use Rattle.damage.specs.Instances.{lone, small-lone}
 use Rattle.page_images.specs.Headers.{header, word-of, ReadsAs, clean, flips}
 use Rattle.page_images.specs.Headers as Headers
 use Rattle.page_images.specs.Images.{Right, spokenBehind, spoken-image}

@@ -18,7 +18,7 @@ use Rattle.header_code.specs.Code.{flipsTo}
 use Rattle.image.specs.Made.{wordIn, packetIn, made, length-made, small-made, made-sync, made-word, made-packet}
 use Rattle.image.specs.Laws.{length-image, image-sync, image-word, image-packet, image-small}
 use Rattle.writer.specs.Utterance.{Utterance, multiframesOf, pairsOf, imageOf}
-use Rattle.demands.specs.Damage.{DamageUpTo, Damage, sentMessage}
+use Rattle.damage.specs.Damage.{DamageUpTo, Damage, sentMessage}
 
 -- any header words within so many flips of those sent, and any streams of packets that are damaged or not, make one
 module _ (most : ℕ) (u : Utterance) (w : ℕ → ℕ) (x : ℕ → List Bool) where

@@ -41,14 +41,14 @@ use Rattle.writer.specs.Writing.{verdict, roomAnswer, frameCount, needed, writi
 use Rattle.writer.specs.Writing as W
 use Rattle.writer.specs.Utterance.{Utterance, multiframesOf, imageOf, whole-frames, writes}
 use Rattle.writer.specs.declared.Answer.the-variants.{Written}
-use Rattle.demands.specs.Damage.{Damage, sentMessage}
-use Rattle.demands.specs.Damages.{damage-made}
+use Rattle.damage.specs.Damage.{Damage, sentMessage}
+use Rattle.damage.specs.Damages.{damage-made}
 use Rattle.demands.specs.Whole.{Lent, front-at}
 use Rattle.demands.specs.Received.{BadPair}
 use Rattle.demands.specs.ReadsBack.{spoken, padded, no-more, reads-image}
 use Rattle.demands.specs.ReadsBack as R
 use Rattle.demands.specs.WritesAgain as A
 use Rattle.demands.specs.NamesTheDamage as N
 
 -- ---- tables of zeros, and just enough room
 abbrev pub indexFor : ℕ → List ℕ

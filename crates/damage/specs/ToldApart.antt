@@ -16,7 +16,7 @@ use Rattle.message.specs.Message.Laws.{message-lt}
 use Rattle.image.specs.Made.{wordIn}
 use Rattle.image.specs.Laws.{length-image}
 use Rattle.writer.specs.Utterance.{Utterance, multiframesOf, pairsOf, imageOf, same-settings, same-pair}
-use Rattle.demands.specs.Damage.{DamageUpTo, Damage, headerBits, loosened, headerFlips, Touched, sentMessage, header-near, fate, Fate, whole, hit, not-touched}
+use Rattle.damage.specs.Damage.{DamageUpTo, Damage, headerBits, loosened, headerFlips, Touched, sentMessage, header-near, fate, Fate, whole, hit, not-touched}
 
 -- a damaged image of one accepted utterance equals a damaged image of another
 pub record Equal (u v : Utterance) (s t : List ℕ) : Type 0 where

@@ -1,5 +1,5 @@
 -- Why premises are there: what happens instead of one multiframe by default (02, C-20), where a single header was mended, where every pair is bad, where two flips are 15 apart, where a
--- header has three flips, and where an image has no end or an inverse sync. Sizes, tables and room are refusals by definition and stand in `page`.
+-- header has three flips, and where an image has no end or an inverse sync. Sizes, tables and room are refusals by definition and stand in `page_written` and `page_received`.
 -- Assumes nothing.
 use mathlib.Core.Path.{_≡_, refl, sym, ap, ap₂, _∙_, subst}
 use mathlib.Core.Bool.{Bool, true, false, xor}
@@ -60,13 +60,13 @@ use Rattle.writer.specs.Writing.{verdict, roomAnswer, needed, writing}
 use Rattle.writer.specs.Laws.{few-multiframes}
 use Rattle.writer.specs.Utterance.{Utterance, multiframesOf, pairsOf, imageOf, is-accepted, rate-not-2}
 use Rattle.writer.specs.declared.Answer.the-variants.{Written}
-use Rattle.demands.specs.Damage.{Damage, loosened, headerFlips, sentMessage, header-near, differs}
-use Rattle.demands.specs.Damages.{damage-made, unharmed}
-use Rattle.demands.specs.Instances.{lone, small-lone, says1, past-packet}
-use Rattle.demands.specs.Met.{indexFor, reportFor, lent-zeros, hurtWord, hurtStream, hurtImage, hurts}
+use Rattle.damage.specs.Damage.{Damage, loosened, headerFlips, sentMessage, header-near, differs}
+use Rattle.damage.specs.Damages.{damage-made, unharmed}
+use Rattle.damage.specs.Instances.{lone, small-lone, says1, past-packet}
+use Rattle.demands_met.specs.Met.{indexFor, reportFor, lent-zeros, hurtWord, hurtStream, hurtImage, hurts}
 use Rattle.demands.specs.Whole.{rowOf, Lent, refuses-16, refuses-20}
 use Rattle.demands.specs.Headers.{CanSettle, enough, settles, touched-unsettles, default-unsettles, sentCommon, rate-sent, exp-sent}
 use Rattle.demands.specs.Received.{BadPair, Tells, is-so, not-so, tells-bad}
 
 -- ---- A SINGLE MENDED HEADER UNSETTLES: of one multiframe, a header that is touched at all is refusal 16, and both buffers stay
 module _ (ch : Choices) (u : Utterance) (s : List ℕ) (d : Damage (multiframesOf u) (imageOf u) s) (tables : Tables) (index report : List ℕ)

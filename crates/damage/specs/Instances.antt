@@ -32,9 +32,9 @@ use Rattle.image.specs.Made.{Small, made}
 use Rattle.writer.specs.Writing.{verdict, roomAnswer, needed}
 use Rattle.writer.specs.Utterance.{Utterance, multiframesOf, pairsOf, imageOf}
 use Rattle.writer.specs.declared.Answer.the-variants.{Written}
-use Rattle.demands.specs.Damage.{Damage, sentMessage}
-use Rattle.demands.specs.Damages.{damage-made}
-use Rattle.demands.specs.ToldApart.{Equal}
+use Rattle.damage.specs.Damage.{Damage, sentMessage}
+use Rattle.damage.specs.Damages.{damage-made}
+use Rattle.damage.specs.ToldApart.{Equal}
 
 -- ---- utterances of one frame, one multiframe long
 -- index x first, zeros behind
