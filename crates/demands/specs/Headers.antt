@@ -35,7 +35,7 @@ use Rattle.header_notes.specs.Laws.{note-lost}
 use Rattle.settling.specs.declared.Settlement.the-variants.{Settled, Unsettled}
 use Rattle.image.specs.Made.{wordIn}
 use Rattle.writer.specs.Utterance.{Utterance, multiframesOf, imageOf, settings-right}
-use Rattle.demands.specs.Damage.{Damage, headerFlips, sentMessage, header-read, header-lost, header-near}
+use Rattle.damage.specs.Damage.{Damage, headerFlips, sentMessage, header-read, header-lost, header-near}
 use Rattle.demands.specs.Whole.{rowOf, readings-are}
 
 -- the common bits that the writer sends, whatever the counter

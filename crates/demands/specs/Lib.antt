@@ -1,14 +1,7 @@
-pub mod Examples
-pub mod Damage
-pub mod ToldApart
 pub mod Whole
 pub mod Headers
 pub mod Received
 pub mod NamesTheDamage
-pub mod Damages
 pub mod ReadsBack
 pub mod Noteless
 pub mod WritesAgain
-pub mod Instances
-pub mod Met
-pub mod Needed

@@ -42,7 +42,7 @@ use Rattle.image.specs.Laws.{length-image, image-sync}
 use Rattle.wrong_frames.specs.WrongFrames.{frameCount}
 use Rattle.writer.specs.Laws.{few-multiframes}
 use Rattle.writer.specs.Utterance.{Utterance, multiframesOf, pairsOf, imageOf, is-accepted, rate-not-2, whole-frames}
-use Rattle.demands.specs.Damage.{DamageUpTo, Damage, loosened, Touched, headerFlips}
+use Rattle.damage.specs.Damage.{DamageUpTo, Damage, loosened, Touched, headerFlips}
 use Rattle.demands.specs.Whole.{rowOf, Lent, reads-as, headerNoteIn, pairNoteIn, header-note-is, pair-note-is, front-part}
 use Rattle.demands.specs.Headers.{Settling, CanSettle, enough, settles, note-of-header, sentCommon, settings-sent, rate-sent, exp-sent}
 use Rattle.demands.specs.Received.{BadPair, ByRule, Tells, is-so, not-so, Count, tells-rule, tells-bad, touched-note, note-one, note-two, bad-counted, frames-kept}

@@ -50,8 +50,8 @@ use Rattle.writer.specs.Writing.{needed, writing}
 use Rattle.writer.specs.Writing as W
 use Rattle.writer.specs.declared.Answer.the-variants.{Written}
 use Rattle.writer.specs.Utterance.{last-speaks, Utterance, multiframesOf, pairsOf, imageOf, is-accepted, whole-frames, writes}
-use Rattle.demands.specs.Damage.{DamageUpTo, Damage, loosened, headerFlips}
-use Rattle.demands.specs.Damages.{unharmed}
+use Rattle.damage.specs.Damage.{DamageUpTo, Damage, loosened, headerFlips}
+use Rattle.damage.specs.Damages.{unharmed}
 use Rattle.demands.specs.Whole.{rowOf, Lent, nothing-replaced}
 use Rattle.demands.specs.Headers.{Settling, CanSettle, can-settle, enough, sentCommon, note-of-header, settings-sent}
 use Rattle.demands.specs.Received.{BadBefore, BadPair, Tells, is-so, not-so, tells-bad}

@@ -28,7 +28,7 @@ use Rattle.bad_pairs.specs.BadPairs.{bad, badPairs, noteBy, notes}
 use Rattle.bad_pairs.specs.Laws.{badBefore, note-at, failed-is-1}
 use Rattle.image.specs.Made.{packetIn}
 use Rattle.writer.specs.Utterance.{Utterance, multiframesOf, pairsOf, imageOf, fits-each-frame}
-use Rattle.demands.specs.Damage.{DamageUpTo, Touched, Fate, whole, hit, fate, not-touched}
+use Rattle.damage.specs.Damage.{DamageUpTo, Touched, Fate, whole, hit, fate, not-touched}
 use Rattle.demands.specs.Whole.{rowOf, packet-at}
 
 -- ---- 01's bad pairs, of a damaged image: said of the utterance and the damage alone

@@ -1,1 +1,1 @@
-// What the yards are told, as theorems over the other crates' definitions, and the table of 01's worked examples. They stand in specs/; no code.
+// What the yards are told, as theorems over the other crates' definitions. They stand in specs/; no code.

@@ -12,8 +12,8 @@ use Rattle.packet.specs.Packet.{frameAt}
 use Rattle.packet.specs.Laws.{getD-row}
 use Rattle.writer.specs.Utterance.{imageOf}
 use Rattle.entries.specs.Entries.{dsrWrite}
-use Rattle.demands.specs.Damage.{DamageUpTo, headerBits, headerFlips, Touched}
-use Rattle.demands.specs.ToldApart.{Alike, told-by-one}
+use Rattle.damage.specs.Damage.{DamageUpTo, headerBits, headerFlips, Touched}
+use Rattle.damage.specs.ToldApart.{Alike, told-by-one}
 use Rattle.dsr_demands.specs.Called.{Call, octetsOf, countOf, called, place-is, octets-are}
 
 -- two calls, and octets that both outputs can be damaged into

@@ -34,9 +34,9 @@ use Rattle.entries.specs.Entries.{answerNumbers, Returned, returned, unchosen, 
 use Rattle.entries.specs.Entries as E
 use Rattle.entries.specs.Bits.{countedNumbers, bitsGiven, dsrReadBits}
 use Rattle.writer.specs.Utterance.{imageOf}
-use Rattle.demands.specs.Instances.{says1}
-use Rattle.demands.specs.Met.{indexFor, reportFor, lent-zeros}
-use Rattle.demands.specs.Needed.{default-1}
+use Rattle.damage.specs.Instances.{says1}
+use Rattle.demands_met.specs.Met.{indexFor, reportFor, lent-zeros}
+use Rattle.demands_met.specs.Needed.{default-1}
 use Rattle.demands.specs.ReadsBack.{spoken, reads-image}
 use Rattle.hunting_demands.specs.Met as H
 use Rattle.hunting_demands.specs.HuntsBack.{one-shifted-refused}

@@ -16,7 +16,7 @@ use Rattle.reader.specs.Reading.{Outcome, reading}
 use Rattle.reader.specs.declared.Summary.{Summary}
 use Rattle.writer.specs.Utterance.{Utterance, multiframesOf, imageOf}
 use Rattle.entries.specs.Entries.{answerNumbers, Returned, returned, returning, givenOf, dsrRead}
-use Rattle.demands.specs.Damage.{Damage}
+use Rattle.damage.specs.Damage.{Damage}
 use Rattle.demands.specs.Whole.{pairNoteIn}
 use Rattle.recordings.specs.Chunks.{Refuses}
 use Rattle.recordings.specs.Inverse.{found, one-inverse, spaced, spaced-image}

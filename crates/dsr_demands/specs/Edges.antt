@@ -17,8 +17,8 @@ use Rattle.writer.specs.Laws.{few-multiframes}
 use Rattle.writer.specs.Utterance.{Utterance, multiframesOf, imageOf, is-accepted}
 use Rattle.reader.specs.RefusalLaws.{CutUp}
 use Rattle.demands.specs.Whole.{rowOf, cut-is}
-use Rattle.demands.specs.Instances.{says1}
-use Rattle.demands.specs.Met.{says24, two-multiframes, lent-zeros}
+use Rattle.damage.specs.Instances.{says1}
+use Rattle.demands_met.specs.Met.{says24, two-multiframes, lent-zeros}
 use Rattle.entries.specs.Entries.{dsrRead}
 use Rattle.entries.specs.Bits.{dsrReadBits}
 use Rattle.dsr_demands.specs.Met.{six, eight}

@@ -13,7 +13,7 @@ use Rattle.tables.specs.Tables.{Tables}
 use Rattle.image.specs.Made.{syncIn}
 use Rattle.writer.specs.Utterance.{Utterance, imageOf}
 use Rattle.entries.specs.Entries.{Returned, dsrRead}
-use Rattle.demands.specs.Damage.{DamageUpTo, headerBits, headerFlips}
+use Rattle.damage.specs.Damage.{DamageUpTo, headerBits, headerFlips}
 use Rattle.dsr_demands.specs.Called.{Call, octetsOf, countOf, called, octets-are}
 use Rattle.dsr_demands.specs.Named.{Tells, HearsAll, c-names-if-read, c-trusted, c-never-misled}
 

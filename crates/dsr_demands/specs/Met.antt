@@ -22,9 +22,9 @@ use Rattle.writer.specs.Utterance.{Utterance, multiframesOf, imageOf, writes}
 use Rattle.settling.specs.Laws.{Enough}
 use Rattle.entries.specs.Entries.{answerNumbers, summaryNumbers, Returned, returned, dsrWrite, dsrRead}
 use Rattle.entries.specs.Bits.{dsrReadBits}
-use Rattle.demands.specs.Damage.{DamageUpTo, headerBits, loosened, headerFlips}
-use Rattle.demands.specs.Instances.{says1, says2, hurt1, equal-images}
-use Rattle.demands.specs.Met.{indexFor, reportFor, lent-zeros, writes-again-met, says24, hurtImage, names-says24}
+use Rattle.damage.specs.Damage.{DamageUpTo, headerBits, loosened, headerFlips}
+use Rattle.damage.specs.Instances.{says1, says2, hurt1, equal-images}
+use Rattle.demands_met.specs.Met.{indexFor, reportFor, lent-zeros, writes-again-met, says24, hurtImage, names-says24}
 use Rattle.demands.specs.ReadsBack.{spoken}
 use Rattle.hunting_demands.specs.Aired.{aired, aired-on-air, names-aired-24}
 use Rattle.hunting_demands.specs.Radio.{together}

@@ -28,7 +28,7 @@ use Rattle.reader.specs.declared.Answer.the-variants.{Read}
 use Rattle.wrong_frames.specs.WrongFrames.{frameCount}
 use Rattle.writer.specs.Utterance.{Utterance, multiframesOf, pairsOf, imageOf, whole-frames}
 use Rattle.entries.specs.Entries.{answerNumbers, summaryNumbers, Returned, returned, dsrRead}
-use Rattle.demands.specs.Damage.{DamageUpTo, Touched, headerFlips}
+use Rattle.damage.specs.Damage.{DamageUpTo, Touched, headerFlips}
 use Rattle.demands.specs.Whole.{front-at, pairNoteIn}
 use Rattle.demands.specs.Received.{ByRule, BadPair, Count}
 use Rattle.demands.specs.NamesTheDamage as N

@@ -35,7 +35,7 @@ use Rattle.wrong_frames.specs.WrongFrames.{frameCount}
 use Rattle.writer.specs.Utterance.{Utterance, multiframesOf, imageOf, whole-frames, pairsOf}
 use Rattle.entries.specs.Entries.{Returned}
 use Rattle.entries.specs.Bits.{countedNumbers, numbersOf, dsrReadBits}
-use Rattle.demands.specs.Damage.{headerFlips}
+use Rattle.damage.specs.Damage.{headerFlips}
 use Rattle.demands.specs.Whole.{front-at}
 use Rattle.demands.specs.NamesTheDamage as N
 use Rattle.demands.specs.ReadsBack.{spoken, padded, length-padded, padded-at, no-more}

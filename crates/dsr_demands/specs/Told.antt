@@ -22,9 +22,9 @@ use Rattle.writer.specs.Utterance.{Utterance, multiframesOf, imageOf}
 use Rattle.settling.specs.Laws.{Enough}
 use Rattle.entries.specs.Entries.{answerNumbers, Returned, dsrRead}
 use Rattle.entries.specs.Bits.{dsrReadBits}
-use Rattle.demands.specs.Damage.{loosened, headerFlips, DamageUpTo}
-use Rattle.demands.specs.Damages.{unharmed}
-use Rattle.demands.specs.Met.{indexFor, reportFor, lent-zeros, says24}
+use Rattle.damage.specs.Damage.{loosened, headerFlips, DamageUpTo}
+use Rattle.damage.specs.Damages.{unharmed}
+use Rattle.demands_met.specs.Met.{indexFor, reportFor, lent-zeros, says24}
 use Rattle.demands.specs.NamesTheDamage as N
 use Rattle.demands.specs.ReadsBack.{spoken}
 use Rattle.promises.specs.Flipped.{flipped, butOne, rateBits}

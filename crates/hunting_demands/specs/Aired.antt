@@ -32,9 +32,9 @@ use Rattle.image.specs.Made.{packetIn, made-packet}
 use Rattle.image.specs.Laws.{image-word, image-packet}
 use Rattle.writer.specs.Laws.{few-multiframes}
 use Rattle.writer.specs.Utterance.{Utterance, multiframesOf, pairsOf, imageOf, is-accepted}
-use Rattle.demands.specs.Damage.{sentMessage}
+use Rattle.damage.specs.Damage.{sentMessage}
 use Rattle.demands.specs.Received.{BadPair}
-use Rattle.demands.specs.Met.{zero-consistent, indexFor, reportFor, lent-zeros, hurtWord, hurtStream, hurtImage, length-hurt, part-on, hurts, says24, two-multiframes}
+use Rattle.demands_met.specs.Met.{zero-consistent, indexFor, reportFor, lent-zeros, hurtWord, hurtStream, hurtImage, length-hurt, part-on, hurts, says24, two-multiframes}
 use Rattle.hunting_demands.specs.Standing.{syncAt, unlike-fails}
 use Rattle.hunting_demands.specs.Laid.{laidMultiframe, laidOctets, Sizes, bits-laid, size-laid, laid-behind, laid-sync, laid-word, laid-stream}
 use Rattle.hunting_demands.specs.HuntsBack.{receivedFlips}

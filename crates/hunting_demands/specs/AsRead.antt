@@ -29,7 +29,7 @@ use Rattle.image.specs.Made.{Small, syncIn, wordIn, streamIn, framed, made-agai
 use Rattle.image.specs.Laws.{length-image, image-sync}
 use Rattle.writer.specs.Laws.{few-multiframes}
 use Rattle.writer.specs.Utterance.{Utterance, multiframesOf, imageOf, is-accepted}
-use Rattle.demands.specs.Damage.{Damage, header-read}
+use Rattle.damage.specs.Damage.{Damage, header-read}
 use Rattle.demands.specs.NamesTheDamage as N
 use Rattle.hunting_demands.specs.Standing.{placeInRow, row, syncAt, wordAt, streamAt, at-most-all, passes-there, InARow, testedInRow, reads-in-a-row, image-made}
 

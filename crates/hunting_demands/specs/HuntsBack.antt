@@ -38,9 +38,9 @@ use Rattle.writer.specs.Laws.{few-multiframes}
 use Rattle.image.specs.Laws as I
 use Rattle.writer.specs.Utterance.{Utterance, multiframesOf, pairsOf, imageOf, is-accepted}
 use Rattle.demands.specs.Headers.{CanSettle, can-settle}
-use Rattle.demands.specs.Damage.{Damage, headerFlips, header-read}
-use Rattle.demands.specs.Damages.{unharmed}
-use Rattle.demands.specs.Needed.{default-unsettled}
+use Rattle.damage.specs.Damage.{Damage, headerFlips, header-read}
+use Rattle.damage.specs.Damages.{unharmed}
+use Rattle.demands_met.specs.Needed.{default-unsettled}
 use Rattle.demands.specs.Whole.{Lent}
 use Rattle.demands.specs.ReadsBack.{spoken, padded, reads-mended}
 use Rattle.hunting_demands.specs.Standing.{placeInRow, row, all-match, at-most-all, passes-there, InARow, testedInRow, reads-in-a-row, syncAt, wordAt, streamAt, image-size, image-small, image-sync, image-word, image-stream}

@@ -30,7 +30,7 @@ use Rattle.image.specs.Made.{streamIn}
 use Rattle.image.specs.Laws.{image-word, image-stream}
 use Rattle.writer.specs.Laws.{few-multiframes}
 use Rattle.writer.specs.Utterance.{Utterance, multiframesOf, imageOf, is-accepted}
-use Rattle.demands.specs.Damage.{sentMessage}
+use Rattle.damage.specs.Damage.{sentMessage}
 use Rattle.hunting_demands.specs.Standing.{placeInRow, syncAt, wordAt, streamAt, passes-there}
 use Rattle.hunting_demands.specs.Laid.{laidMultiframe, laidOctets, Sizes, bits-laid, size-laid, laid-behind, laid-sync, laid-word, laid-stream}
 use Rattle.hunting_demands.specs.HuntsBack.{receivedFlips, Premise, Begins, Inside, Syncs, Headers, Streams, NoneBefore, NoneBehind, Low, Settled, TablesAndRoom, Holds}

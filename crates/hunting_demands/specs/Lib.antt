@@ -8,4 +8,3 @@ pub mod Needed
 pub mod Radio
 pub mod Aired
 pub mod NeverLost
-pub mod Missed

@@ -33,7 +33,7 @@ use Rattle.writer.specs.Laws.{few-multiframes}
 use Rattle.writer.specs.Utterance.{Utterance, multiframesOf, imageOf, is-accepted}
 use Rattle.demands.specs.Whole.{Lent}
 use Rattle.demands.specs.ReadsBack.{spoken, padded}
-use Rattle.demands.specs.Met.{indexFor, reportFor, lent-zeros, says24, two-multiframes}
+use Rattle.demands_met.specs.Met.{indexFor, reportFor, lent-zeros, says24, two-multiframes}
 use Rattle.hunting_demands.specs.Standing.{testedInRow, syncAt, unlike-fails}
 use Rattle.hunting_demands.specs.HuntsBack.{receivedFlips, Begins, Inside, Syncs, Headers, Streams, NoneBefore, NoneBehind, Low, Settled, TablesAndRoom, same-notes, Premises, hunts-back, Shifted, hunts-shifted}
 use Rattle.hunting_demands.specs.Hurt as H

@@ -61,12 +61,12 @@ use Rattle.image.specs.Made.{syncIn, wordIn, packetIn, made-packet}
 use Rattle.image.specs.Laws.{image-packet}
 use Rattle.writer.specs.Laws.{few-multiframes}
 use Rattle.writer.specs.Utterance.{Utterance, multiframesOf, imageOf, is-accepted, rate-not-2}
-use Rattle.demands.specs.Damage.{Touched, sentMessage, differs}
+use Rattle.damage.specs.Damage.{Touched, sentMessage, differs}
 use Rattle.demands.specs.Whole.{Lent, rowOf, readings-are, cut-is, pairNoteIn, front-at, refuses-16}
 use Rattle.demands.specs.Headers.{CanSettle, sentCommon, common-sent, rate-sent, exp-sent}
-use Rattle.demands.specs.Instances.{lone, says1}
-use Rattle.demands.specs.Met.{indexFor, reportFor, lent-zeros, distance, burstAt, doubleAt, hurtWord, hurtStream, hurtImage, hurts, names-met, says24, two-multiframes}
-use Rattle.demands.specs.Needed.{says1At11}
+use Rattle.damage.specs.Instances.{lone, says1}
+use Rattle.demands_met.specs.Met.{indexFor, reportFor, lent-zeros, distance, burstAt, doubleAt, hurtWord, hurtStream, hurtImage, hurts, names-met, says24, two-multiframes}
+use Rattle.demands_met.specs.Needed.{says1At11}
 use Rattle.hunting_demands.specs.Standing.{placeInRow, row, streamBits, syncAt, wordAt, all-match, passes-there, unlike-fails, lost-fails, InARow, testedInRow, reads-in-a-row, image-size, image-sync, image-word}
 use Rattle.hunting_demands.specs.AsRead as A
 use Rattle.hunting_demands.specs.AsRead.{Multiframes, Stands, shifted-syncs, shifted-stands, damaged-cut}

@@ -26,7 +26,7 @@ use Rattle.writer.specs.Laws.{few-multiframes}
 use Rattle.image.specs.Laws as I
 use Rattle.writer.specs.Utterance.{Utterance, multiframesOf, pairsOf, imageOf, is-accepted}
 use Rattle.demands.specs.Headers.{CanSettle}
-use Rattle.demands.specs.Damage.{Damage, headerFlips, header-read}
+use Rattle.damage.specs.Damage.{Damage, headerFlips, header-read}
 use Rattle.demands.specs.Whole.{Lent}
 use Rattle.demands.specs.Received.{BadPair}
 use Rattle.hunting_demands.specs.Standing.{placeInRow, row, syncAt, streamAt, passes-there, InARow, found-in-a-row, image-size, image-small, image-sync, image-word, image-stream}

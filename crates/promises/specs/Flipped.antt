@@ -59,13 +59,13 @@ use Rattle.writer.specs.Writing.{verdict, needed}
 use Rattle.writer.specs.declared.Answer.the-variants.{Written}
 use Rattle.writer.specs.Laws.{few-multiframes, accepts}
 use Rattle.writer.specs.Utterance.{Utterance, multiframesOf, pairsOf, imageOf, is-accepted, kind-small, rate-not-2}
-use Rattle.demands.specs.Damage.{DamageUpTo, Touched, differs, headerFlips, sentMessage, header-near, header-read}
-use Rattle.demands.specs.Damages.{damage-up-to}
+use Rattle.damage.specs.Damage.{DamageUpTo, Touched, differs, headerFlips, sentMessage, header-near, header-read}
+use Rattle.damage.specs.Damages.{damage-up-to}
 use Rattle.demands.specs.Whole.{rowOf, Lent, pairNoteIn, packet-at, readings-are, reads-as}
 use Rattle.demands.specs.Headers.{sentCommon, common-sent, rate-sent, exp-sent}
 use Rattle.demands.specs.Received.{ByRule, BadPair}
 use Rattle.demands.specs.NamesTheDamage as N
-use Rattle.demands.specs.Met.{indexFor, reportFor, zero-consistent}
+use Rattle.demands_met.specs.Met.{indexFor, reportFor, zero-consistent}
 
 -- ---- how many bits these numbers flip
 pub none-flipped : ones 0 ≡ 0

@@ -23,7 +23,7 @@ use Rattle.image.specs.Made.{packetIn}
 use Rattle.image.specs.Laws.{image-packet}
 use Rattle.wrong_frames.specs.WrongFrames.{frameCount}
 use Rattle.writer.specs.Utterance.{Utterance, multiframesOf, pairsOf, imageOf}
-use Rattle.demands.specs.Damage.{Fate, whole, hit, fate}
+use Rattle.damage.specs.Damage.{Fate, whole, hit, fate}
 use Rattle.demands.specs.Whole.{rowOf, pairNoteIn}
 use Rattle.demands.specs.Headers.{sentCommon}
 use Rattle.demands.specs.Received.{touched-note}

@@ -31,7 +31,7 @@ use Rattle.image.specs.Laws.{length-image, image-sync}
 use Rattle.wrong_frames.specs.WrongFrames.{frameCount}
 use Rattle.writer.specs.Laws.{few-multiframes}
 use Rattle.writer.specs.Utterance.{Utterance, multiframesOf, pairsOf, imageOf, is-accepted}
-use Rattle.demands.specs.Damage.{DamageUpTo, headerFlips}
+use Rattle.damage.specs.Damage.{DamageUpTo, headerFlips}
 use Rattle.demands.specs.Headers.{sent-enough, Settling, settled-readable, touched-unsettles}
 use Rattle.demands.specs.Received.{BadPair, Tells, is-so, not-so, tells-bad}
 use Rattle.demands.specs.Whole.{rowOf, cut-is, pairNoteIn}

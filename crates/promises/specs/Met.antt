@@ -51,16 +51,16 @@ use Rattle.writer.specs.Writing.{verdict, roomAnswer, needed}
 use Rattle.writer.specs.Utterance.{Utterance, multiframesOf, pairsOf, imageOf}
 use Rattle.writer.specs.declared.Answer.the-variants.{Written}
 use Rattle.recordings.specs.CutOff as C
-use Rattle.demands.specs.Damage.{DamageUpTo, Damage, headerBits, Touched, differs, headerFlips, sentMessage, header-near, header-read}
-use Rattle.demands.specs.Damages.{unharmed}
+use Rattle.damage.specs.Damage.{DamageUpTo, Damage, headerBits, Touched, differs, headerFlips, sentMessage, header-near, header-read}
+use Rattle.damage.specs.Damages.{unharmed}
 use Rattle.demands.specs.Headers.{sentCommon, others-sent, TwoReadable}
 use Rattle.demands.specs.Received.{BadPair}
 use Rattle.demands.specs.ReadsBack.{spoken, padded, no-more, never-bad, reads-image}
 use Rattle.demands.specs.NamesTheDamage as N
 use Rattle.demands.specs.Whole.{rowOf, Lent, front-at, headerNoteIn, pairNoteIn, header-note-is}
-use Rattle.demands.specs.ToldApart.{Near}
-use Rattle.demands.specs.Instances.{says1}
-use Rattle.demands.specs.Met.{indexFor, reportFor, lent-zeros, distance, small-ones, says24, two-multiframes}
+use Rattle.damage.specs.ToldApart.{Near}
+use Rattle.damage.specs.Instances.{says1}
+use Rattle.demands_met.specs.Met.{indexFor, reportFor, lent-zeros, distance, small-ones, says24, two-multiframes}
 use Rattle.promises.specs.Misled as M
 use Rattle.promises.specs.Trusted as T
 use Rattle.promises.specs.Heard as S

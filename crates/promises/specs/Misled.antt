@@ -35,7 +35,7 @@ use Rattle.image.specs.Made.{syncIn, wordIn}
 use Rattle.image.specs.Laws.{length-image, image-sync}
 use Rattle.writer.specs.Laws.{few-multiframes}
 use Rattle.writer.specs.Utterance.{Utterance, multiframesOf, imageOf, is-accepted}
-use Rattle.demands.specs.Damage.{headerFlips, sentMessage, header-near}
+use Rattle.damage.specs.Damage.{headerFlips, sentMessage, header-near}
 use Rattle.demands.specs.Headers.{sentCommon, common-sent, settings-sent, settles-nothing-else}
 use Rattle.demands.specs.Whole.{rowOf, readings-are, cut-is}
 use Rattle.demands.specs.WritesAgain as A

@@ -57,20 +57,20 @@ use Rattle.wrong_frames.specs.WrongFrames.{frameCount}
 use Rattle.writer.specs.Writing.{needed}
 use Rattle.writer.specs.Laws.{few-multiframes}
 use Rattle.writer.specs.Utterance.{last-speaks, Utterance, multiframesOf, pairsOf, imageOf, is-accepted, whole-frames}
-use Rattle.demands.specs.Damage.{DamageUpTo, headerBits, loosened, headerFlips, sentMessage, header-near}
+use Rattle.damage.specs.Damage.{DamageUpTo, headerBits, loosened, headerFlips, sentMessage, header-near}
 use Rattle.demands.specs.Whole.{rowOf, Lent, headerNoteIn, pairNoteIn, refuses-16}
 use Rattle.demands.specs.Headers.{sentCommon, TwoReadable, heardAs, heard-read, heard-lost, headers-read}
 use Rattle.demands.specs.Received.{BadPair, touched-note}
 use Rattle.demands.specs.NamesTheDamage as N
 use Rattle.demands.specs.ReadsBack.{spoken, reads-image, reads-mended}
-use Rattle.demands.specs.ToldApart.{Alike}
-use Rattle.demands.specs.Instances.{lone, says1}
-use Rattle.demands.specs.Met.{indexFor, reportFor, lent-zeros, says24, two-multiframes, settings-24, frames-24}
-use Rattle.demands.specs.Damages.{unharmed}
+use Rattle.damage.specs.ToldApart.{Alike}
+use Rattle.damage.specs.Instances.{lone, says1}
+use Rattle.demands_met.specs.Met.{indexFor, reportFor, lent-zeros, says24, two-multiframes, settings-24, frames-24}
+use Rattle.damage.specs.Damages.{unharmed}
 use Rattle.recordings.specs.First as F
 use Rattle.recordings.specs.CutOff as C
 use Rattle.recordings.specs.Inverse.{inverses, inverses-length, inverses-behind}
-use Rattle.demands.specs.Needed.{default-unsettled, eighth, saysEighth, Passes15, passes-15, halfway}
+use Rattle.demands_met.specs.Needed.{default-unsettled, eighth, saysEighth, Passes15, passes-15, halfway}
 use Rattle.promises.specs.Misled as M
 use Rattle.promises.specs.Trusted as T
 use Rattle.promises.specs.Flipped.{flipped, flipped-size, flipped-syncs, flips-are, flipped-damage, sent-whole, sent-damage, at11, rateBits, none-flipped}

@@ -19,11 +19,11 @@ use Rattle.reader.specs.declared.Answer.the-variants.{Read, Refused}
 use Rattle.settling.specs.Laws.{Enough}
 use Rattle.writer.specs.Utterance.{Utterance, multiframesOf, pairsOf, imageOf}
 use Rattle.demands.specs.Headers.{can-settle}
-use Rattle.demands.specs.Damage.{Touched}
+use Rattle.damage.specs.Damage.{Touched}
 use Rattle.demands.specs.Whole.{Lent, pairNoteIn}
 use Rattle.demands.specs.Received.{Inconsistent, BadBefore, ByRule, BadPair, Count, count-once, count-one, count-none}
-use Rattle.demands.specs.Met.{indexFor, reportFor}
-use Rattle.demands.specs.Needed.{all-bad-refuses}
+use Rattle.demands_met.specs.Met.{indexFor, reportFor}
+use Rattle.demands_met.specs.Needed.{all-bad-refuses}
 use Rattle.demands.specs.NamesTheDamage as N
 use Rattle.recordings.specs.Hit.{hitImage, hits, is-hit, not-hit, clean-header}
 use Rattle.recordings.specs.Said.{rises23, rises47, rises7, stairs, drops, lent-stairs, lent-drops, inconsistent-23, inconsistent-47, inconsistent-47-falls, inconsistent-7, consistent-7}

@@ -42,7 +42,7 @@ use Rattle.header_readings.specs.Laws.{length-readings}
 use Rattle.settling.specs.Laws.{Enough, settled-enough}
 use Rattle.writer.specs.Laws.{few-multiframes}
 use Rattle.writer.specs.Utterance.{Utterance, multiframesOf, imageOf, is-accepted, settings-right}
-use Rattle.demands.specs.Damage.{DamageUpTo, Damage, headerBits, loosened, headerFlips, sentMessage, header-near, Fate, whole, hit, fate}
+use Rattle.damage.specs.Damage.{DamageUpTo, Damage, headerBits, loosened, headerFlips, sentMessage, header-near, Fate, whole, hit, fate}
 use Rattle.demands.specs.Whole.{rowOf, Lent, readings-are, cut-is, headerNoteIn, pairNoteIn, header-note-is, pair-note-is}
 use Rattle.demands.specs.Received.{touched-note}
 use Rattle.demands.specs.Noteless.{clean-header, is-image}

@@ -33,10 +33,10 @@ use Rattle.reader.specs.declared.Summary.{Summary}
 use Rattle.reader.specs.declared.Answer.the-variants.{Read}
 use Rattle.image.specs.Made.{packetIn}
 use Rattle.writer.specs.Utterance.{Utterance, multiframesOf, pairsOf, imageOf}
-use Rattle.demands.specs.Damage.{Damage, Fate, whole, hit, fate, not-touched}
+use Rattle.damage.specs.Damage.{Damage, Fate, whole, hit, fate, not-touched}
 use Rattle.demands.specs.Whole.{rowOf, pairNoteIn, pair-note-is}
 use Rattle.demands.specs.Headers.{sentCommon}
-use Rattle.demands.specs.Met.{indexFor, reportFor, lent-zeros, zero-consistent}
+use Rattle.demands_met.specs.Met.{indexFor, reportFor, lent-zeros, zero-consistent}
 use Rattle.demands.specs.WritesAgain as A
 use Rattle.recordings.specs.First as F
 use Rattle.recordings.specs.Said.{ones24, gap24, zero-22}

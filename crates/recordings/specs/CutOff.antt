@@ -54,11 +54,11 @@ use Rattle.reader.specs.declared.Answer.the-variants.{Read, Refused}
 use Rattle.image.specs.Made.{wordIn, packetIn}
 use Rattle.image.specs.Laws.{length-image, image-packet}
 use Rattle.writer.specs.Utterance.{Utterance, multiframesOf, imageOf, whole-frames}
-use Rattle.demands.specs.Damage.{Damage, headerFlips, header-near}
-use Rattle.demands.specs.Damages.{unharmed}
+use Rattle.damage.specs.Damage.{Damage, headerFlips, header-near}
+use Rattle.damage.specs.Damages.{unharmed}
 use Rattle.demands.specs.Whole.{rowOf, Lent, nothing-replaced}
 use Rattle.demands.specs.Headers.{can-settle, sentCommon, common-sent, settings-sent}
-use Rattle.demands.specs.Met.{indexFor, reportFor, lent-zeros}
+use Rattle.demands_met.specs.Met.{indexFor, reportFor, lent-zeros}
 use Rattle.demands.specs.ReadsBack.{spoken, reads-image, zeros, zero-rows, none-bad}
 use Rattle.demands.specs.WritesAgain as A
 use Rattle.recordings.specs.Chunks.{multiframeCount, refused-behind, Chunked, chunked, Refuses, cut-refuses}

@@ -44,7 +44,7 @@ use Rattle.image.specs.Laws.{length-image, image-sync}
 use Rattle.writer.specs.Writing.{needed}
 use Rattle.writer.specs.Laws.{few-multiframes}
 use Rattle.writer.specs.Utterance.{boundary-speaks, Utterance, multiframesOf, imageOf, is-accepted, rate-not-2, fits-each-frame}
-use Rattle.demands.specs.Damage.{Damage, headerFlips, sentMessage, header-near, header-read}
+use Rattle.damage.specs.Damage.{Damage, headerFlips, sentMessage, header-near, header-read}
 use Rattle.demands.specs.Whole.{rowOf, Lent, readings-are, packet-at, cut-is, reads-as}
 use Rattle.demands.specs.Headers.{CanSettle, sentCommon, common-sent, rate-sent, exp-sent}
 

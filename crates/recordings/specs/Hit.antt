@@ -27,8 +27,8 @@ use Rattle.message.specs.Message.Laws.{message-lt}
 use Rattle.image.specs.Made.{packetIn, made, made-word, made-packet}
 use Rattle.image.specs.Laws.{image-packet}
 use Rattle.writer.specs.Utterance.{Utterance, multiframesOf, pairsOf, imageOf}
-use Rattle.demands.specs.Damage.{Damage, Touched, headerFlips, sentMessage, header-near, differs}
-use Rattle.demands.specs.Damages.{damage-made}
+use Rattle.damage.specs.Damage.{Damage, Touched, headerFlips, sentMessage, header-near, differs}
+use Rattle.damage.specs.Damages.{damage-made}
 
 module _ (u : Utterance) (p : ℕ) where
   -- the packet of pair q, its first bit flipped if it is pair p

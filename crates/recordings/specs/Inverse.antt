@@ -23,9 +23,9 @@ use Rattle.image.specs.Made.{syncIn}
 use Rattle.image.specs.Laws.{length-image, image-sync}
 use Rattle.writer.specs.Laws.{few-multiframes}
 use Rattle.writer.specs.Utterance.{Utterance, multiframesOf, imageOf, is-accepted}
-use Rattle.demands.specs.Damage.{Damage}
+use Rattle.damage.specs.Damage.{Damage}
 use Rattle.demands.specs.Whole.{rowOf, cut-is}
-use Rattle.demands.specs.Met.{indexFor, reportFor, lent-zeros, hurtImage, hurts, says24, two-multiframes, names-says24}
+use Rattle.demands_met.specs.Met.{indexFor, reportFor, lent-zeros, hurtImage, hurts, says24, two-multiframes, names-says24}
 use Rattle.demands.specs.NamesTheDamage as N
 use Rattle.recordings.specs.Same.{same-read}
 use Rattle.recordings.specs.First as F

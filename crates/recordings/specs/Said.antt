@@ -24,7 +24,7 @@ use Rattle.writer.specs.Writing.{verdict, roomAnswer, needed}
 use Rattle.writer.specs.Utterance.{Utterance, multiframesOf}
 use Rattle.writer.specs.declared.Answer.the-variants.{Written}
 use Rattle.demands.specs.Whole.{Lent}
-use Rattle.demands.specs.Met.{indexFor, reportFor}
+use Rattle.demands_met.specs.Met.{indexFor, reportFor}
 
 -- every one of a list's numbers is an octet, computed
 abbrev pub octetsOnly : List ℕ → Bool

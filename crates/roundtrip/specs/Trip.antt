@@ -40,8 +40,8 @@ use Rattle.refusals.specs.declared.Reading as RR
 use Rattle.refusals.specs.declared.Reading.the-variants.{WrongTables, NegativeThreshold}
 use Rattle.demands.specs.Whole.{Lent}
 use Rattle.demands.specs.ReadsBack.{reads-image}
-use Rattle.demands.specs.Instances.{lone, written-1, says1}
-use Rattle.demands.specs.Met.{indexFor, reportFor, lent-zeros}
+use Rattle.damage.specs.Instances.{lone, written-1, says1}
+use Rattle.demands_met.specs.Met.{indexFor, reportFor, lent-zeros}
 use Rattle.roundtrip.specs.declared.Trip.{Trip}
 use Rattle.roundtrip.specs.declared.Trip.the-variants.{NotWritten, NotRead, Back}
 

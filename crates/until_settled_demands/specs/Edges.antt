@@ -21,8 +21,8 @@ use Rattle.reader.specs.declared.Answer.the-variants as R
 use Rattle.entries.specs.Entries.{Returned, returned, dsrRead}
 use Rattle.entries.specs.Settle.{settleNumbers, beginningNumbers, dsrSettle}
 use Rattle.demands.specs.Whole.{front-at}
-use Rattle.page.specs.Received.{headed}
-use Rattle.page.specs.Settled.{sixteen1}
+use Rattle.page_received.specs.Received.{headed}
+use Rattle.page_received.specs.Settled.{sixteen1}
 use Rattle.until_settled.specs.declared.Answer.the-variants.{Read, Refused}
 use Rattle.until_settled.specs.UntilSettled.{untilSettled}
 use Rattle.until_settled.specs.Laws.{headers, multiframesRead}

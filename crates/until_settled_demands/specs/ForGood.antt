@@ -24,8 +24,8 @@ use Rattle.until_settled.specs.UntilSettled.{untilSettled}
 use Rattle.until_settled.specs.Laws.{headers, Agreed, settled-read, settled-unfit}
 use Rattle.until_settled.specs.Lasting.{unknown-stays, too-many-stays}
 use Rattle.entries.specs.Entries.{answerNumbers, returned, dsrRead}
-use Rattle.page.specs.Received.{headed, lost, one, again}
-use Rattle.page.specs.Settled.{table}
+use Rattle.page_received.specs.Received.{headed, lost, one, again}
+use Rattle.page_received.specs.Settled.{table}
 use Rattle.dsr_demands.specs.Calls.{read-refused}
 use Rattle.until_settled_demands.specs.Full.{refuses-as-full}
 

@@ -12,8 +12,8 @@ use Rattle.settings.specs.Settings.{settings}
 use Rattle.refusals.specs.declared.Reading.the-variants.{Empty, Unfit}
 use Rattle.entries.specs.Entries.{returned}
 use Rattle.entries.specs.Settle.{dsrSettle}
-use Rattle.page.specs.Received.{headed, rate2}
-use Rattle.page.specs.Settled.{sixteen1, table}
+use Rattle.page_received.specs.Received.{headed, rate2}
+use Rattle.page_received.specs.Settled.{sixteen1, table}
 use Rattle.until_settled_demands.specs.Entry.{c-settled, c-settle-refused, c-settle-no-room, c-settle-no-such-choice}
 
 pub record Table (ch : Choices) : Type 0 where

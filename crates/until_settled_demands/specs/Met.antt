@@ -10,7 +10,7 @@ use Rattle.settings.specs.Settings.{settings}
 use Rattle.settings.specs.declared.Settings.{Settings}
 use Rattle.choices.specs.declared.Choices.{Choices}
 use Rattle.writer.specs.Utterance.{multiframesOf, imageOf}
-use Rattle.demands.specs.Met.{says24, two-multiframes, settings-24, hurtImage, names-says24}
+use Rattle.demands_met.specs.Met.{says24, two-multiframes, settings-24, hurtImage, names-says24}
 use Rattle.until_settled.specs.declared.Answer.the-variants.{Read}
 use Rattle.until_settled.specs.UntilSettled.{untilSettled}
 use Rattle.until_settled_demands.specs.Written.{damaged-settles, growing-settles}

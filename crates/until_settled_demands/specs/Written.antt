@@ -30,8 +30,8 @@ use Rattle.refusals.specs.declared.Reading.the-variants.{Unsettled}
 use Rattle.image.specs.Laws.{length-image, image-sync}
 use Rattle.writer.specs.Utterance.{Utterance, multiframesOf, imageOf, rate-not-2, is-accepted}
 use Rattle.writer.specs.Laws.{few-multiframes}
-use Rattle.demands.specs.Damage.{Damage, headerFlips, sentMessage, header-read}
-use Rattle.demands.specs.Damages.{unharmed}
+use Rattle.damage.specs.Damage.{Damage, headerFlips, sentMessage, header-read}
+use Rattle.damage.specs.Damages.{unharmed}
 use Rattle.demands.specs.Headers.{sentCommon, common-sent, settings-sent, rate-sent, exp-sent, settles-nothing-else}
 use Rattle.demands.specs.Whole.{rowOf, cut-is}
 use Rattle.until_settled.specs.declared.Beginning.{Beginning}

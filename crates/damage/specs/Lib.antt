@@ -1,0 +1,4 @@
+pub mod Damage
+pub mod Damages
+pub mod ToldApart
+pub mod Instances

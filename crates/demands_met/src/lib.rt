@@ -1,0 +1,1 @@
+// The premises of the demands are met, and why they are there; no code.

@@ -1,9 +1,0 @@
-pub mod Headers
-pub mod Images
-pub mod Spoken
-pub mod Written
-pub mod Received
-pub mod Turned
-pub mod Rules
-pub mod Listed
-pub mod Settled

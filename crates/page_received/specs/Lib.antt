@@ -1,0 +1,4 @@
+pub mod Received
+pub mod Turned
+pub mod Rules
+pub mod Settled

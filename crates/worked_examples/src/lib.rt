@@ -1,0 +1,1 @@
+// 01's worked examples, in one table; no code.
