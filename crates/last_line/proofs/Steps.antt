@@ -13,6 +13,9 @@ use Rattle.text.proofs.Steps.{put-on, put-length}
 use Rattle.lines.specs.Lines.{newline, space}
 use Rattle.last_line.specs.LastLine.{rateWord, typeWord, multiframesWord, speechWord, badWord, endWord, refusedWord, mostTotal, total, refusal}
 
+regroup : (a b c d e f g : List ℕ) → (a ++ b) ++ ((c ++ d) ++ ((e ++ f) ++ g)) ≡ a ++ (b ++ (c ++ (d ++ (e ++ (f ++ g)))))
+regroup a b c d e f g = simp append-assoc
+
 pub total-done : (s : Summary) (l m₁ m₂ m₃ m₄ : List ℕ) (at a b c e : ℕ) → at + mostTotal ≤ length l
     → Put (field rateWord (s .settings .rate) ++ field typeWord (s .settings .kind)) l at m₁ a → a ≤ at + 5 + 6 + 2 * numberDigits
     → Put (field multiframesWord (s .multiframes) ++ field speechWord (s .speech)) m₁ a m₂ b → b ≤ a + 13 + 8 + 2 * numberDigits

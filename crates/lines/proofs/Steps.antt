@@ -19,6 +19,3 @@ line-done notes l m₁ m₂ m₃ m₄ at a b c e room p u q r v s =
     let k₂ = put-length (omega (arith, q .ends)) q in
     let h₃ : c ≤ length m₂ = omega (arith, q .ends) in
     (put-on (omega (arith, p .ends)) p (put-on (omega (arith, q .ends)) q (put-on (omega (arith, r .ends)) r s)), omega (arith, q .ends, s .ends))
-
-regroup : (a b c d e f g : List ℕ) → (a ++ b) ++ ((c ++ d) ++ ((e ++ f) ++ g)) ≡ a ++ (b ++ (c ++ (d ++ (e ++ (f ++ g)))))
-regroup a b c d e f g = simp append-assoc

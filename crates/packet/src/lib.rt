@@ -13,20 +13,21 @@ ghost use Rattle.bits.specs.Bits.{bits, field, value};
 ghost use Rattle.crc.specs.Crc.{right};
 ghost use Rattle.packet.specs.Packet.{secondBits, indices, apart};
 
-// Octets of a frame with the CRC's four bits more.
-const WITH_CRC: u32 = (FrameLayout::BITS / 8) as u32 + 1;
+// WITH_CRC is the octets of a frame with the CRC's four bits more.
+pub const WITH_CRC: u32 = (FrameLayout::BITS / 8) as u32 + 1;
 
 // From a packet's first octet to the word of its second frame, and from that word's start to the frame.
 const AHEAD: usize = 4;
 
 const INTO: usize = FrameLayout::BITS - 8 * AHEAD;
 
-// The bit of a frame at which its last index stands.
-const LAST: usize = FrameLayout::NARROW * FrameLayout::NARROW_BITS;
+// LAST is the bit of a frame at which its last index stands.
+pub const LAST: usize = FrameLayout::NARROW * FrameLayout::NARROW_BITS;
 
-// Masks of an index of six bits, of one of eight, of a frame, and of a frame with the CRC behind it.
-const NARROW_MASK: u64 = (1 << FrameLayout::NARROW_BITS) - 1;
+// NARROW_MASK is the mask of an index of six bits.
+pub const NARROW_MASK: u64 = (1 << FrameLayout::NARROW_BITS) - 1;
 
+// Masks of an index of eight bits, of a frame, and of a frame with the CRC behind it.
 const LAST_MASK: u64 = (1 << FrameLayout::LAST_BITS) - 1;
 
 const FRAME_MASK: u64 = (1 << FrameLayout::BITS) - 1;

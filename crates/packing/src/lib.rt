@@ -14,23 +14,15 @@ ghost use Rattle.bits.specs.Bits.{field, value};
 ghost use Rattle.crc.specs.Crc.{crc, code};
 ghost use Rattle.packet.specs.Packet.{restBits, halfBits, frame, frameAt, packetOf};
 
-// Bits of a word.
-const WORD: usize = 64;
+// WORD is the bits of a word.
+pub const WORD: usize = 64;
 
-// A frame's whole octets, their bits, and the bits behind them; with the CRC's four bits more a frame is one octet more.
+// A frame's whole octets, their bits, and the bits behind them.
 const WHOLE: u32 = (FrameLayout::BITS / 8) as u32;
 
 const WHOLE_BITS: usize = FrameLayout::BITS / 8 * 8;
 
 const LEFT_BITS: usize = FrameLayout::BITS - WHOLE_BITS;
-
-const WITH_CRC: u32 = WHOLE + 1;
-
-// The bit of a frame at which its last index stands.
-const LAST: usize = FrameLayout::NARROW * FrameLayout::NARROW_BITS;
-
-// Mask of an index of six bits.
-const NARROW_MASK: u64 = (1 << FrameLayout::NARROW_BITS) - 1;
 
 fn wide(x: u8) -> u64
     ensures { λ r. ⌜ r ≡ x ⌝ }
@@ -50,9 +42,9 @@ pub fn frame_word(idx: &[u8], k: Frame) -> u64
     }
     let mut x: u64 = 0;
     for i in 0..FrameLayout::NARROW {
-        x = x | ((wide(idx[from + i]) & NARROW_MASK) << (FrameLayout::NARROW_BITS * i));
+        x = x | ((wide(idx[from + i]) & packet::NARROW_MASK) << (FrameLayout::NARROW_BITS * i));
     }
-    x | (wide(idx[from + FrameLayout::NARROW]) << LAST)
+    x | (wide(idx[from + FrameLayout::NARROW]) << packet::LAST)
 }
 
 // crc_of gives the CRC, as the field that is sent, of two frames.
@@ -63,7 +55,7 @@ fn crc_of(a: u64, b: u64) -> u64
     let first = Crc::new().octets(a, WHOLE);
     wide(
         first
-            .octets((a >> WHOLE_BITS) | (b << LEFT_BITS), WITH_CRC)
+            .octets((a >> WHOLE_BITS) | (b << LEFT_BITS), packet::WITH_CRC)
             .0,
     )
 }

@@ -11,15 +11,13 @@ ghost use Rattle.layout.specs.Layout.{frameIndices, multiframePairs, streamOcte
 ghost use Rattle.bits.specs.Bits.{octets};
 ghost use Rattle.packet.specs.Packet.{twoPackets, stream};
 
-// Bits of a word, and the packet's bits that are left when one is full.
-const WORD: usize = 64;
-
-const REST: usize = PacketLayout::BITS - WORD;
+// The packet's bits that are left when a word is full.
+const REST: usize = PacketLayout::BITS - packing::WORD;
 
 // Octets of two packets, and of a word.
 const TWO: usize = 2 * PacketLayout::BITS / 8;
 
-const FULL: usize = WORD / 8;
+const FULL: usize = packing::WORD / 8;
 
 // Of two packets the second begins in the middle of this octet, behind these bits of the first.
 const ODD: usize = PacketLayout::BITS / 8;
