@@ -259,9 +259,8 @@ impl Check {
             let tables = tables(&mut self.chance);
             self.compare_roomy("inverse syncs before, between and after", &octets, &tables);
         }
-        for _ in 0..12 {
-            let m = 1 + self.chance.below(3);
-            let octets = self.spread(m);
+        for turn in 0..12 {
+            let octets = self.spread(1 + turn % 3);
             let tables = fit_tables(&mut self.chance);
             for end in 0..=octets.len() {
                 self.compare_roomy("cut at every octet", &octets[..end], &tables);
