@@ -265,7 +265,7 @@ independent:
 	cd checks/independent && $(CARGO) test --quiet --offline --release --lib
 
 # Bugs planted in the literal version, one at a time: the comparisons have to notice each (checks/planted/list). PLANTED is the words
-# for checks/planted/run: with none, the comparisons also run with no bug planted.
+# for checks/planted/run: with none, the comparisons also run whole with no bug planted.
 .PHONY: planted
 planted: independent-build ## plants bugs in the literal version: the comparisons have to notice each
 	$(PYTHON) checks/planted/run $(PLANTED)

@@ -34,7 +34,8 @@ pub fn rule_of(choices: u64) -> Option<Rule> {
 
 pub struct Driver {
     child: Child,
-    to: BufWriter<ChildStdin>,
+    /// None once the calls have ended.
+    to: Option<BufWriter<ChildStdin>>,
     from: BufReader<ChildStdout>,
     calls: usize,
     counts: BTreeMap<String, usize>,
@@ -46,9 +47,14 @@ impl Driver {
         let words: Vec<String> = std::env::args().skip(1).collect();
         let (program, rest) = words.split_first().expect("give the command that runs the driver");
         let mut child = Command::new(program).args(rest).stdin(Stdio::piped()).stdout(Stdio::piped()).spawn().expect("the driver starts");
-        let to = BufWriter::new(child.stdin.take().unwrap());
+        let to = child.stdin.take().map(BufWriter::new);
         let from = BufReader::new(child.stdout.take().unwrap());
         Driver { child, to, from, calls: 0, counts: BTreeMap::new() }
+    }
+
+    /// Calls are counted anew in each round, so that `mode` does not depend on those before.
+    pub fn begin_round(&mut self) {
+        self.calls = 0;
     }
 
     /// Whether the next call lends its slices against the page before them (1) or after them (0): by turns.
@@ -58,11 +64,12 @@ impl Driver {
 
     pub fn call(&mut self, call: Call, answer: usize) -> Answer {
         self.calls += 1;
-        let sent = self.to.write_all(&call.0).and_then(|()| self.to.flush());
+        let to = self.to.as_mut().expect("the driver has not been ended");
+        let sent = to.write_all(&call.0).and_then(|()| to.flush());
         let mut octets = vec![0; answer];
         if sent.is_err() || self.from.read_exact(&mut octets).is_err() {
-            let status = self.child.wait();
-            panic!("the driver ended in call {} ({status:?}): it touched memory that was not lent, or failed", self.calls);
+            let status = self.child.wait().expect("the driver ends");
+            panic!("the driver ended in call {} of the round ({status}): it touched memory that was not lent, or failed", self.calls);
         }
         Answer { octets, at: 0 }
     }
@@ -84,10 +91,10 @@ impl Driver {
     }
 
     /// Ends the driver and prints the counts.
-    pub fn end(self, at_least: usize) {
-        drop(self.to);
-        let mut child = self.child;
-        assert!(child.wait().expect("the driver ends").success(), "the driver failed");
+    pub fn end(&mut self, at_least: usize) {
+        self.to = None;
+        let status = self.child.wait().expect("the driver ends");
+        assert!(status.success(), "the driver failed as it ended ({status})");
         for (name, count) in &self.counts {
             println!("  {name:<58} {count:>8}");
         }

@@ -5,6 +5,7 @@ pub mod driver;
 pub mod header;
 pub mod hunting;
 pub mod reading;
+pub mod rounds;
 pub mod settling;
 pub mod steps;
 pub mod stream;

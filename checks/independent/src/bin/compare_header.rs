@@ -1,7 +1,8 @@
 //! Compares the library's header code with the independent version. Arguments: the command that runs the header driver.
-use independent::chance::{seed, Chance};
+use independent::chance::Chance;
 use independent::driver::{Call, Driver, DONE, HEADER_UNREADABLE};
 use independent::header::{encode, Code};
+use independent::rounds::{run, Round};
 
 fn encodings(driver: &mut Driver) {
     let messages: Vec<u32> = (0..65536).collect();
@@ -12,7 +13,8 @@ fn encodings(driver: &mut Driver) {
     driver.count("every message encoded", 65536);
 }
 
-fn readings(driver: &mut Driver, chance: &mut Chance, code: &Code, name: &str, words: &[u32]) {
+fn readings(driver: &mut Driver, chance: &mut Chance, name: &str, words: &[u32]) {
+    let code = Code::new();
     for part in words.chunks(50_000) {
         let lent = (chance.word() as u16 as u32, chance.word() as u32);
         let call = Call::kind(b'R').octet(driver.mode()).word(lent.0).word(lent.1).words(part);
@@ -36,20 +38,33 @@ fn flips_of(count: usize) -> Vec<u32> {
     }).into_iter().filter(|p| p.1 == count).map(|p| p.0).collect()
 }
 
-fn main() {
-    let mut chance = Chance::new(seed());
-    let mut driver = Driver::start();
-    let code = Code::new();
-    encodings(&mut driver);
-    for (count, codewords) in [(0, 65536), (1, 2000), (2, 200), (3, 20), (4, 1)] {
-        let flips = flips_of(count);
-        let messages = (0..codewords).map(|k| if codewords == 65536 { k as u16 } else { chance.word() as u16 });
-        let words: Vec<u32> = messages.flat_map(|m| flips.iter().map(move |f| encode(m) ^ f)).collect();
-        readings(&mut driver, &mut chance, &code, &format!("every {count} flipped places of {codewords} codewords"), &words);
-    }
+fn flipped(driver: &mut Driver, chance: &mut Chance, count: usize, codewords: usize) {
+    let flips = flips_of(count);
+    let messages = (0..codewords).map(|k| if codewords == 65536 { k as u16 } else { chance.word() as u16 });
+    let words: Vec<u32> = messages.flat_map(|m| flips.iter().map(move |f| encode(m) ^ f)).collect();
+    readings(driver, chance, &format!("every {count} flipped places of {codewords} codewords"), &words);
+}
+
+fn every_codeword(driver: &mut Driver, chance: &mut Chance) {
     let words: Vec<u32> = (0..8u32 << 16).map(|k| encode(k as u16) ^ 1 << chance.below(32) ^ 1 << chance.below(32)).collect();
-    readings(&mut driver, &mut chance, &code, "eight times two flipped places of every codeword", &words);
+    readings(driver, chance, "eight times two flipped places of every codeword", &words);
+}
+
+fn random_words(driver: &mut Driver, chance: &mut Chance) {
     let words: Vec<u32> = (0..200_000).map(|_| chance.word() as u32).collect();
-    readings(&mut driver, &mut chance, &code, "random words", &words);
-    driver.end(100_000);
+    readings(driver, chance, "random words", &words);
+}
+
+fn main() {
+    let rounds: &[Round<(Driver, Chance)>] = &[
+        ("encodings", |(driver, _)| encodings(driver)),
+        ("no_flips", |(driver, chance)| flipped(driver, chance, 0, 65536)),
+        ("one_flip", |(driver, chance)| flipped(driver, chance, 1, 2000)),
+        ("two_flips", |(driver, chance)| flipped(driver, chance, 2, 200)),
+        ("three_flips", |(driver, chance)| flipped(driver, chance, 3, 20)),
+        ("four_flips", |(driver, chance)| flipped(driver, chance, 4, 1)),
+        ("every_codeword", |(driver, chance)| every_codeword(driver, chance)),
+        ("random_words", |(driver, chance)| random_words(driver, chance)),
+    ];
+    run(|driver, chance| (driver, chance), rounds, 100_000);
 }

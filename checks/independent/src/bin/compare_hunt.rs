@@ -1,10 +1,11 @@
 //! Compares the library's hunt and hunting reading with the independent version. Arguments: the command that runs the hunt driver.
-use independent::chance::{seed, Chance};
+use independent::chance::Chance;
 use independent::driver::{over, rule_of, unknown_choices, Call, Driver, ANSWER_SHORT, NO_SUCH_CHOICE};
 use independent::driver::{DEFAULT, KNOWN_CHOICES, ONE_HEADER_SETTLES};
 use independent::header::{encode, Code};
 use independent::hunting::{bits_of, hunt, octets_of, read_bits, HEADER_BITS, MULTIFRAME_BITS, SYNC_BITS};
 use independent::reading::{CODEBOOK, MOST, REPORT, THRESHOLDS};
+use independent::rounds::{run, Round, Tools};
 use independent::steps::{every_two_steps, every_two_steps_shuffled, falling_rising_and_all, Beside, Steps};
 use independent::stream::{INDICES, PAIRS};
 use independent::utterance::{bad_packet, damage_anywhere, estrange, faulty_tables, fit_tables, forbid, image, negative, only_headers};
@@ -470,12 +471,12 @@ impl Check {
     }
 
     fn random_bits(&mut self) {
-        for round in 0..6_000 {
+        for turn in 0..6_000 {
             let n = 130 + self.chance.below(300);
             let octets = self.chance.octets(n);
             let (from, least) = (self.first_bit(&octets), self.chance.pick(&[12, 12, 12, 13, 14, 15, 16]));
             self.hunt("random bits", &Search::new(&octets, from, least));
-            if round % 3 == 0 {
+            if turn % 3 == 0 {
                 self.read_roomy("random bits", &Search::new(&octets, from, 12));
             }
         }
@@ -600,10 +601,10 @@ impl Check {
 
     /// Damage, other settings, runs of bad pairs and gaps anywhere in long utterances; and settings settled by two headers anywhere.
     fn anywhere(&mut self) {
-        for round in 0..80 {
-            let m = if round % 3 == 0 { 20 + self.chance.below(236) } else { MOST };
+        for turn in 0..80 {
+            let m = if turn % 3 == 0 { 20 + self.chance.below(236) } else { MOST };
             let mut parts = utterance(&mut self.chance, m);
-            if round % 2 == 0 {
+            if turn % 2 == 0 {
                 damage_anywhere(&mut self.chance, &mut parts);
             } else {
                 let agree = self.chance.places(2, m);
@@ -895,10 +896,10 @@ impl Check {
 
     /// More than 65,536 places before a multiframe, and with none behind them.
     fn far_hunts(&mut self) {
-        for round in 0..60 {
+        for turn in 0..60 {
             let n = 8 * 10_000 + self.chance.below(200_000);
             let mut bits = gap(&mut self.chance, n);
-            if round % 3 != 0 {
+            if turn % 3 != 0 {
                 bits.extend(bits_of(&image(&self.parts(2))));
             }
             let (octets, least) = (whole(&mut self.chance, &bits), self.least());
@@ -982,35 +983,43 @@ impl Check {
     }
 }
 
+impl Tools for Check {
+    fn tools(&mut self) -> (&mut Driver, &mut Chance) {
+        (&mut self.driver, &mut self.chance)
+    }
+}
+
 fn main() {
-    let mut check = Check { driver: Driver::start(), chance: Chance::new(seed()), code: Code::new() };
-    check.negative_thresholds();
-    check.rises_and_falls();
-    check.every_set();
-    check.only_multiframe();
-    check.more_than_one();
-    check.unknown_choices();
-    check.anywhere();
-    check.wide();
-    check.far_hunts();
-    check.many_places();
-    check.one_amiss();
-    check.shifts();
-    check.sync_flips();
-    check.near_matches_before();
-    check.near_matches_anywhere();
-    check.gaps();
-    check.tails();
-    check.first_bits();
-    check.leasts();
-    check.headers();
-    check.pairs();
-    check.random_bits();
-    check.rooms();
-    check.mixed();
-    check.most();
-    check.late_hunts();
-    check.after_the_last();
-    check.too_many_comes_first();
-    check.driver.end(250_000);
+    let check = |driver, chance| Check { driver, chance, code: Code::new() };
+    let rounds: &[Round<Check>] = &[
+        ("negative_thresholds", Check::negative_thresholds),
+        ("rises_and_falls", Check::rises_and_falls),
+        ("every_set", Check::every_set),
+        ("only_multiframe", Check::only_multiframe),
+        ("more_than_one", Check::more_than_one),
+        ("unknown_choices", Check::unknown_choices),
+        ("anywhere", Check::anywhere),
+        ("wide", Check::wide),
+        ("far_hunts", Check::far_hunts),
+        ("many_places", Check::many_places),
+        ("one_amiss", Check::one_amiss),
+        ("shifts", Check::shifts),
+        ("sync_flips", Check::sync_flips),
+        ("near_matches_before", Check::near_matches_before),
+        ("near_matches_anywhere", Check::near_matches_anywhere),
+        ("gaps", Check::gaps),
+        ("tails", Check::tails),
+        ("first_bits", Check::first_bits),
+        ("leasts", Check::leasts),
+        ("headers", Check::headers),
+        ("pairs", Check::pairs),
+        ("random_bits", Check::random_bits),
+        ("rooms", Check::rooms),
+        ("mixed", Check::mixed),
+        ("most", Check::most),
+        ("late_hunts", Check::late_hunts),
+        ("after_the_last", Check::after_the_last),
+        ("too_many_comes_first", Check::too_many_comes_first),
+    ];
+    run(check, rounds, 250_000);
 }

@@ -1,9 +1,10 @@
 //! Compares the library's reader with the independent version. Arguments: the command that runs the read driver.
-use independent::chance::{seed, Chance};
+use independent::chance::Chance;
 use independent::driver::{over, rule_of, unknown_choices, Call, Driver, ANSWER_SHORT, NO_SUCH_CHOICE};
 use independent::driver::{DEFAULT, KNOWN_CHOICES, ONE_HEADER_SETTLES};
 use independent::header::{encode, Code};
 use independent::reading::{read, Rule, CODEBOOK, REPORT, THRESHOLDS};
+use independent::rounds::{run, Round, Tools};
 use independent::steps::{every_two_steps, every_two_steps_shuffled, falling_rising_and_all, Beside, Steps};
 use independent::stream::{packet_of, packets_of, INDICES, PAIRS};
 use independent::utterance::{bad_packet, damage_anywhere, estrange, faulty_tables, fit_tables, forbid, image, negative, only_headers};
@@ -245,8 +246,11 @@ impl Check {
             for p in (0..3060).filter(|p| !good.contains(p)) {
                 parts[p / PAIRS].packets[p % PAIRS] ^= 1;
             }
-            let tables = fit_tables(&mut self.chance);
-            self.compare_roomy("255 multiframes with one or two good pairs", &image(&parts), &tables);
+            // by most tables the good pairs are inconsistent too; by those with nothing but zeros none is
+            let zeros = Tables { codebook: vec![0; CODEBOOK], thresholds: vec![0; THRESHOLDS] };
+            for tables in [fit_tables(&mut self.chance), zeros] {
+                self.compare_roomy("255 multiframes with one or two good pairs", &image(&parts), &tables);
+            }
         }
     }
 
@@ -258,9 +262,8 @@ impl Check {
             let tables = tables(&mut self.chance);
             self.compare_roomy("inverse syncs before, between and after", &octets, &tables);
         }
-        for _ in 0..12 {
-            let m = 1 + self.chance.below(3);
-            let octets = self.spread(m);
+        for turn in 0..12 {
+            let octets = self.spread(1 + turn % 3);
             let tables = fit_tables(&mut self.chance);
             for end in 0..=octets.len() {
                 self.compare_roomy("cut at every octet", &octets[..end], &tables);
@@ -401,8 +404,8 @@ impl Check {
 
     /// Damage, other settings and runs of bad pairs anywhere in long utterances, up to the longest.
     fn anywhere(&mut self) {
-        for round in 0..120 {
-            let m = if round % 3 == 0 { 20 + self.chance.below(236) } else { 255 };
+        for turn in 0..120 {
+            let m = if turn % 3 == 0 { 20 + self.chance.below(236) } else { 255 };
             let mut parts = utterance(&mut self.chance, m);
             damage_anywhere(&mut self.chance, &mut parts);
             let tables = fit_tables(&mut self.chance);
@@ -760,19 +763,16 @@ impl Check {
         }
     }
 
-    /// The refusals with a place come first, each kind once: each call goes through 4 GiB, and an error of a place is seen there.
-    fn wide_places(&mut self) {
+    /// A refusal with a place, or a reading if it is 0, behind 4 GiB. Each is a round, for each such call takes seconds.
+    fn wide_place(&mut self, number: u32) {
         let right = [CODEBOOK as u64, THRESHOLDS as u64, 168 * 255, 13 * 255, 6];
-        let (parts, most) = (utterance(&mut self.chance, 2), utterance(&mut self.chance, 255));
-        for number in [12, 14, 13, 15, 0] {
-            let parts = if number == 15 { &most[..] } else { &parts };
-            let octets = self.cut_off(number, if number == 14 { &[] } else { parts });
-            self.wide_call((1 << 32) + 2 * number as u64, right, &octets);
-        }
+        let parts = utterance(&mut self.chance, if number == 15 { 255 } else { 2 });
+        let octets = self.cut_off(number, if number == 14 { &[] } else { &parts });
+        self.wide_call((1 << 32) + 2 * number as u64, right, &octets);
     }
 
     /// The two replacements and the listing's input that 01 prints, as they stand there.
-    fn examples(&self) {
+    fn examples(&mut self) {
         let mut listing = vec![0x87, 0xB2, 0x08, 0x00, 0x0E, 0xEE, 0x01];
         listing.extend([0; 10]);
         listing.push(0x04);
@@ -796,32 +796,44 @@ impl Check {
     }
 }
 
+impl Tools for Check {
+    fn tools(&mut self) -> (&mut Driver, &mut Chance) {
+        (&mut self.driver, &mut self.chance)
+    }
+}
+
 fn main() {
-    let mut check = Check { driver: Driver::start(), chance: Chance::new(seed()), code: Code::new() };
-    check.examples();
-    check.negative_thresholds();
-    check.rises_and_falls();
-    check.every_set();
-    check.only_multiframe();
-    check.more_than_one();
-    check.unknown_choices();
-    check.anywhere();
-    check.far_settings();
-    check.far_places();
-    check.wide_lengths();
-    check.wide_places();
-    check.one_amiss();
-    check.clean();
-    check.headers();
-    check.lost_headers();
-    check.pairs();
-    check.two_flips();
-    check.runs();
-    check.cuts();
-    check.few_octets();
-    check.most();
-    check.rooms();
-    check.table_lengths();
-    check.mixed();
-    check.driver.end(150_000);
+    let check = |driver, chance| Check { driver, chance, code: Code::new() };
+    let rounds: &[Round<Check>] = &[
+        ("examples", Check::examples),
+        ("negative_thresholds", Check::negative_thresholds),
+        ("rises_and_falls", Check::rises_and_falls),
+        ("every_set", Check::every_set),
+        ("only_multiframe", Check::only_multiframe),
+        ("more_than_one", Check::more_than_one),
+        ("unknown_choices", Check::unknown_choices),
+        ("anywhere", Check::anywhere),
+        ("far_settings", Check::far_settings),
+        ("far_places", Check::far_places),
+        ("wide_lengths", Check::wide_lengths),
+        ("wide_place_of_12", |check| check.wide_place(12)),
+        ("wide_place_of_13", |check| check.wide_place(13)),
+        ("wide_place_of_14", |check| check.wide_place(14)),
+        ("wide_place_of_15", |check| check.wide_place(15)),
+        ("wide_reading", |check| check.wide_place(0)),
+        ("one_amiss", Check::one_amiss),
+        ("clean", Check::clean),
+        ("headers", Check::headers),
+        ("lost_headers", Check::lost_headers),
+        ("pairs", Check::pairs),
+        ("two_flips", Check::two_flips),
+        ("runs", Check::runs),
+        ("cuts", Check::cuts),
+        ("few_octets", Check::few_octets),
+        ("most", Check::most),
+        ("rooms", Check::rooms),
+        ("table_lengths", Check::table_lengths),
+        ("mixed", Check::mixed),
+    ];
+    run(check, rounds, 150_000);
 }

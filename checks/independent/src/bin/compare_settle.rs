@@ -1,9 +1,10 @@
 //! Compares the library's settling with the independent version, and both with the full reading. Arguments: the command that runs the settle
 //! driver.
-use independent::chance::{seed, Chance};
+use independent::chance::Chance;
 use independent::driver::{over, rule_of, unknown_choices, Call, Driver, ANSWER_SHORT, DONE, KNOWN_CHOICES, NO_SUCH_CHOICE};
 use independent::header::{encode, Code};
 use independent::reading::{read, CODEBOOK, THRESHOLDS};
+use independent::rounds::{run, Round, Tools};
 use independent::settling::{octets_looked_at, settle};
 use independent::utterance::{damage_anywhere, estrange, forbid, image, only_headers, set_header, spoil, unsettle, utterance, Part};
 use independent::writing::{write, INVERSE, MULTIFRAME, SYNC};
@@ -285,8 +286,8 @@ impl Check {
             parts[a].header_damage(&mut self.chance, 2);
             parts[b].header_damage(&mut self.chance, 2);
             let tails = tails(&mut self.chance);
-            for round in 0..2 {
-                let octets = if round == 0 { image(&parts) } else { self.spread(&parts) };
+            for turn in 0..2 {
+                let octets = if turn == 0 { image(&parts) } else { self.spread(&parts) };
                 let tail = &tails[self.chance.below(tails.len())];
                 self.compare("every multiframe settles, mended or not, inverse syncs anywhere", &[&octets[..], tail].concat());
             }
@@ -349,9 +350,9 @@ impl Check {
     }
 
     fn cuts(&mut self) {
-        for round in 0..12 {
+        for turn in 0..12 {
             let mut parts = utterance(&mut self.chance, 3);
-            if round % 2 == 0 {
+            if turn % 2 == 0 {
                 estrange(&mut self.chance, &mut parts, &[0, 2]);
             }
             let octets = self.spread(&parts);
@@ -460,24 +461,32 @@ impl Check {
     }
 }
 
+impl Tools for Check {
+    fn tools(&mut self) -> (&mut Driver, &mut Chance) {
+        (&mut self.driver, &mut self.chance)
+    }
+}
+
 fn main() {
-    let mut check = Check { driver: Driver::start(), chance: Chance::new(seed()), code: Code::new() };
-    check.written();
-    check.orders();
-    check.expansions();
-    check.single_bits();
-    check.not_begun();
-    check.few_octets();
-    check.only_multiframe();
-    check.behind();
-    check.late();
-    check.every_multiframe();
-    check.never();
-    check.agreement_with_the_last();
-    check.flips();
-    check.cuts();
-    check.far_places();
-    check.anywhere();
-    check.wide_place();
-    check.driver.end(80_000);
+    let check = |driver, chance| Check { driver, chance, code: Code::new() };
+    let rounds: &[Round<Check>] = &[
+        ("written", Check::written),
+        ("orders", Check::orders),
+        ("expansions", Check::expansions),
+        ("single_bits", Check::single_bits),
+        ("not_begun", Check::not_begun),
+        ("few_octets", Check::few_octets),
+        ("only_multiframe", Check::only_multiframe),
+        ("behind", Check::behind),
+        ("late", Check::late),
+        ("every_multiframe", Check::every_multiframe),
+        ("never", Check::never),
+        ("agreement_with_the_last", Check::agreement_with_the_last),
+        ("flips", Check::flips),
+        ("cuts", Check::cuts),
+        ("far_places", Check::far_places),
+        ("anywhere", Check::anywhere),
+        ("wide_place", Check::wide_place),
+    ];
+    run(check, rounds, 80_000);
 }

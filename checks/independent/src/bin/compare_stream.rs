@@ -1,7 +1,8 @@
 //! Compares the library's packing and unpacking of a stream with the independent version. Arguments: the command that runs the
 //! stream driver.
-use independent::chance::{seed, Chance};
+use independent::chance::Chance;
 use independent::driver::{over, Call, Driver, DONE, WRONG_LENGTH};
+use independent::rounds::{run, Round};
 use independent::stream::{pack, packets_of, stream_of, unpack, INDICES, PAIRS, STREAM};
 
 fn packing(driver: &mut Driver, chance: &mut Chance, name: &str, indices: &[u8], room: usize) {
@@ -105,20 +106,24 @@ fn damage(driver: &mut Driver, chance: &mut Chance) {
     }
 }
 
-fn main() {
-    let mut chance = Chance::new(seed());
-    let mut driver = Driver::start();
-    wide(&mut driver);
-    wrong_lengths(&mut driver, &mut chance);
-    edge_indices(&mut driver, &mut chance);
-    damage(&mut driver, &mut chance);
+fn any(driver: &mut Driver, chance: &mut Chance) {
     for _ in 0..20_000 {
-        let list = frames(&mut chance);
-        packing(&mut driver, &mut chance, "pack: random frames", &list, STREAM);
+        let list = frames(chance);
+        packing(driver, chance, "pack: random frames", &list, STREAM);
         let stream = chance.octets(STREAM);
-        unpacking(&mut driver, &mut chance, "unpack: random streams", &stream, (INDICES, PAIRS));
+        unpacking(driver, chance, "unpack: random streams", &stream, (INDICES, PAIRS));
         let stream = pack(&list, STREAM).unwrap();
-        unpacking(&mut driver, &mut chance, "unpack: packed streams", &stream, (INDICES, PAIRS));
+        unpacking(driver, chance, "unpack: packed streams", &stream, (INDICES, PAIRS));
     }
-    driver.end(80_000);
+}
+
+fn main() {
+    let rounds: &[Round<(Driver, Chance)>] = &[
+        ("wide", |(driver, _)| wide(driver)),
+        ("wrong_lengths", |(driver, chance)| wrong_lengths(driver, chance)),
+        ("edge_indices", |(driver, chance)| edge_indices(driver, chance)),
+        ("damage", |(driver, chance)| damage(driver, chance)),
+        ("any", |(driver, chance)| any(driver, chance)),
+    ];
+    run(|driver, chance| (driver, chance), rounds, 80_000);
 }

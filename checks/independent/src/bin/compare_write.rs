@@ -1,6 +1,7 @@
 //! Compares the library's writer with the independent version. Arguments: the command that runs the write driver.
-use independent::chance::{seed, Chance};
+use independent::chance::Chance;
 use independent::driver::{over, Call, Driver};
+use independent::rounds::{run, Round};
 use independent::writing::{write, MULTIFRAME};
 
 struct Input {
@@ -208,14 +209,14 @@ fn wide(driver: &mut Driver) {
 }
 
 fn main() {
-    let mut chance = Chance::new(seed());
-    let mut driver = Driver::start();
-    settings(&mut driver, &mut chance);
-    lengths(&mut driver, &mut chance);
-    every_set(&mut driver, &mut chance);
-    far_frames(&mut driver, &mut chance);
-    edge_frames(&mut driver, &mut chance);
-    random(&mut driver, &mut chance);
-    wide(&mut driver);
-    driver.end(35_000);
+    let rounds: &[Round<(Driver, Chance)>] = &[
+        ("settings", |(driver, chance)| settings(driver, chance)),
+        ("lengths", |(driver, chance)| lengths(driver, chance)),
+        ("every_set", |(driver, chance)| every_set(driver, chance)),
+        ("far_frames", |(driver, chance)| far_frames(driver, chance)),
+        ("edge_frames", |(driver, chance)| edge_frames(driver, chance)),
+        ("random", |(driver, chance)| random(driver, chance)),
+        ("wide", |(driver, _)| wide(driver)),
+    ];
+    run(|driver, chance| (driver, chance), rounds, 35_000);
 }
