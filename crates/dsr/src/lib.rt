@@ -1,6 +1,6 @@
 // The entries for C and Rust: numbers and slices only, and nothing is asked of the caller. All but the encoder of headers answer 0 if they
-// are done, and else the number of a refusal. What each gives is defined in the crate entries, and the crate answers puts it into the lent
-// numbers; c/dsr.h says the same in C.
+// are done, and else the number of a refusal. What each gives is defined in the crate entries, and the crates answers and
+// reading_answers put it into the lent numbers; c/dsr.h says the same in C.
 use choices::Asked;
 use layout::MultiframeLayout;
 use layout::Pair;
@@ -132,7 +132,7 @@ pub extern "C" fn dsr_read(
         return refusals::NO_SUCH_CHOICE;
     };
     let read = reader::read(octets, chosen, codebook, thresholds, index, report);
-    answers::tell_reading(read, answer, place)
+    reading_answers::tell_reading(read, answer, place)
 }
 
 // dsr_settle reads multiframes only until the settings are settled (02, C-11): it answers 0 and puts three numbers (rate, type, multiframes
@@ -153,7 +153,7 @@ pub extern "C" fn dsr_settle(
     let Asked::For(chosen) = choices::asked_by(choices) else {
         return refusals::NO_SUCH_CHOICE;
     };
-    answers::tell_beginning(beginning::read(octets, chosen), answer, place)
+    reading_answers::tell_beginning(beginning::read(octets, chosen), answer, place)
 }
 
 // dsr_hunt answers 0 and puts the bit found and the number of places tested into found and tested; or 02's number, and puts the refusal's
@@ -209,5 +209,5 @@ pub extern "C" fn dsr_read_bits(
         index,
         report,
     );
-    answers::tell_hunting_reading(read, answer, place)
+    reading_answers::tell_hunting_reading(read, answer, place)
 }

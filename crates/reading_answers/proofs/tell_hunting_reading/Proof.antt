@@ -3,8 +3,8 @@ use mathlib.Core.Path.{sym, ap}
 use Rattle.entries.specs.Bits.{countedNumbers, bitsTold}
 use Rattle.entries.specs.Laws.{tells-numbers, tells-refusal}
 use borrow.Author.Needs.{needs}
-use Rattle.answers.proofs.tell_hunting_reading.Statement.{statement}
-use Rattle.answers.proofs.tell_hunting_reading.Tie as tie
+use Rattle.reading_answers.proofs.tell_hunting_reading.Statement.{statement}
+use Rattle.reading_answers.proofs.tell_hunting_reading.Tie as tie
 
 enum-known-a : tie.Need-enum-known-a
 enum-known-a c = search needs

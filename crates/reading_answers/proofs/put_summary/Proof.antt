@@ -1,9 +1,9 @@
 -- Six stores are one part laid over the front. Assumes nothing.
 use lib.ListN.{length-set}
-use Rattle.answers.proofs.Stored.{six-stored}
+use Rattle.reading_answers.proofs.Stored.{six-stored}
 use borrow.Author.Needs.{needs}
-use Rattle.answers.proofs.put_summary.Statement.{statement}
-use Rattle.answers.proofs.put_summary.Tie as tie
+use Rattle.reading_answers.proofs.put_summary.Statement.{statement}
+use Rattle.reading_answers.proofs.put_summary.Tie as tie
 
 cast-answer : tie.Need-cast-answer
 cast-answer c = search needs

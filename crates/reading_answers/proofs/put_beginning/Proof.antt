@@ -1,9 +1,9 @@
 -- Three stores are one part laid over the front. Assumes nothing.
 use lib.ListN.{length-set}
-use Rattle.answers.proofs.Stored.{three-stored}
+use Rattle.reading_answers.proofs.Stored.{three-stored}
 use borrow.Author.Needs.{needs}
-use Rattle.answers.proofs.put_beginning.Statement.{statement}
-use Rattle.answers.proofs.put_beginning.Tie as tie
+use Rattle.reading_answers.proofs.put_beginning.Statement.{statement}
+use Rattle.reading_answers.proofs.put_beginning.Tie as tie
 
 cast-answer : tie.Need-cast-answer
 cast-answer c = search needs

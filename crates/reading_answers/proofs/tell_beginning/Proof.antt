@@ -1,16 +1,16 @@
--- A reading's answer by its two cases. Assumes nothing.
+-- The answer before the end by its two cases. Assumes nothing.
 use mathlib.Core.Path.{sym, ap}
-use Rattle.entries.specs.Entries.{answerNumbers, toldOf}
+use Rattle.entries.specs.Settle.{settleNumbers, settleTold}
 use Rattle.entries.specs.Laws.{tells-numbers, tells-refusal}
 use borrow.Author.Needs.{needs}
-use Rattle.answers.proofs.tell_reading.Statement.{statement}
-use Rattle.answers.proofs.tell_reading.Tie as tie
+use Rattle.reading_answers.proofs.tell_beginning.Statement.{statement}
+use Rattle.reading_answers.proofs.tell_beginning.Tie as tie
 
 enum-known-a : tie.Need-enum-known-a
 enum-known-a c = search needs
 
-put-summary-requires : tie.Need-put-summary-requires
-put-summary-requires c κs = search needs
+put-beginning-requires : tie.Need-put-beginning-requires
+put-beginning-requires c κs = search needs
 
 enum-known-a-2 : tie.Need-enum-known-a-2
 enum-known-a-2 c = search needs
@@ -27,19 +27,19 @@ same-length c = search needs
 returns : tie.Need-returns
 returns c =
     let s = c .before .before .before .before .before in
-    tells-numbers answerNumbers _ _ _ _ _ (sym (ap toldOf (s .a .given .1))) (c .before .before .put-summary .ensures)
+    tells-numbers settleNumbers _ _ _ _ _ (sym (ap settleTold (s .a .given .1))) (c .before .before .put-beginning .ensures)
 
 returns-2 : tie.Need-returns-2
 returns-2 c =
     let s = c .before .before .before in
-    tells-refusal answerNumbers _ _ _ _ _ _ _ (sym (ap toldOf (s .a2 .given .1))) (c .reading-number .ensures) (c .before .reading-place .ensures)
+    tells-refusal settleNumbers _ _ _ _ _ _ _ (sym (ap settleTold (s .a2 .given .1))) (c .reading-number .ensures) (c .before .reading-place .ensures)
 
-pub tell-reading-spec : {M : Type 1} → statement M
-tell-reading-spec =
+pub tell-beginning-spec : {M : Type 1} → statement M
+tell-beginning-spec =
     tie.close
     (tie.spec
     enum-known-a
-    put-summary-requires
+    put-beginning-requires
     enum-known-a-2
     reading-place-requires
     reading-number-requires

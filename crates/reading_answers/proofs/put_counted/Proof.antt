@@ -1,8 +1,8 @@
 -- Two stores behind the six of the summary. Assumes nothing.
-use Rattle.answers.proofs.Stored.{eight-stored}
+use Rattle.reading_answers.proofs.Stored.{eight-stored}
 use borrow.Author.Needs.{needs}
-use Rattle.answers.proofs.put_counted.Statement.{statement}
-use Rattle.answers.proofs.put_counted.Tie as tie
+use Rattle.reading_answers.proofs.put_counted.Statement.{statement}
+use Rattle.reading_answers.proofs.put_counted.Tie as tie
 
 put-summary-requires : tie.Need-put-summary-requires
 put-summary-requires c κs = search needs
