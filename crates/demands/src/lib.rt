@@ -1,1 +1,1 @@
-// What the yards are told, as theorems over the other crates' definitions. They stand in specs/; no code.
+// The demands, as theorems over the other crates' definitions. They stand in specs/; no code.

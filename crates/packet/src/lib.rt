@@ -13,8 +13,10 @@ ghost use Rattle.bits.specs.Bits.{bits, field, value};
 ghost use Rattle.crc.specs.Crc.{right};
 ghost use Rattle.packet.specs.Packet.{secondBits, indices, apart};
 
-// WITH_CRC is the octets of a frame with the CRC's four bits more.
-pub const WITH_CRC: u32 = (FrameLayout::BITS / 8) as u32 + 1;
+// WHOLE is a frame's whole octets, WITH_CRC its octets with the CRC's four bits more.
+pub const WHOLE: u32 = (FrameLayout::BITS / 8) as u32;
+
+pub const WITH_CRC: u32 = WHOLE + 1;
 
 // From a packet's first octet to the word of its second frame, and from that word's start to the frame.
 const AHEAD: usize = 4;

@@ -17,9 +17,7 @@ ghost use Rattle.packet.specs.Packet.{restBits, halfBits, frame, frameAt, packe
 // WORD is the bits of a word.
 pub const WORD: usize = 64;
 
-// A frame's whole octets, their bits, and the bits behind them.
-const WHOLE: u32 = (FrameLayout::BITS / 8) as u32;
-
+// The bits of a frame's whole octets, and the bits behind them.
 const WHOLE_BITS: usize = FrameLayout::BITS / 8 * 8;
 
 const LEFT_BITS: usize = FrameLayout::BITS - WHOLE_BITS;
@@ -52,7 +50,7 @@ fn crc_of(a: u64, b: u64) -> u64
     requires { ⌜ a < 2 ^ frameBits ⌝ }
     ensures { λ r. ⌜ r ≡ code (crc (field frameBits a ++ field frameBits b)) ⌝ }
 {
-    let first = Crc::new().octets(a, WHOLE);
+    let first = Crc::new().octets(a, packet::WHOLE);
     wide(
         first
             .octets((a >> WHOLE_BITS) | (b << LEFT_BITS), packet::WITH_CRC)

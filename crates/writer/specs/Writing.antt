@@ -7,7 +7,7 @@ use lib.Dec.{eqb, ltb}
 use lib.ListN.{length}
 use Rattle.lists.specs.Tests.{when}
 use Rattle.lists.specs.Parts.{over}
-use Rattle.lists.specs.Search.{Search, at, nowhere, isFound}
+use Rattle.lists.specs.Search.{Search, at, nowhere}
 use Rattle.settings.specs.declared.Settings.{Settings}
 use Rattle.settings.specs.Settings.{settingsRight}
 use Rattle.layout.specs.Layout.{frameIndices, multiframeFrames, multiframeOctets, mostFrames}

@@ -1,4 +1,4 @@
--- The answer before the end in numbers, by its two cases, of the choices that the number names. Assumes nothing.
+-- The answer before the end, told, of the choices that the number names. Assumes nothing.
 use mathlib.Core.Path.{sym, ap, _∙_}
 use native.Mathlib.Omega.{arith}
 use Rattle.choices.specs.Choices.{asked}

@@ -1,4 +1,4 @@
--- `packet::crc_of` meets its contract: five octets of the first frame, then its last four bits and the second frame.
+-- `packing::crc_of` meets its contract: five octets of the first frame, then its last four bits and the second frame.
 -- Assumes nothing.
 use mathlib.Core.Path.{_∙_}
 use Rattle.packing.proofs.Steps.{crc-law}

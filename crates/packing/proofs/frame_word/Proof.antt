@@ -1,4 +1,4 @@
--- `packet::frame_word` meets its contract: after i turns the word holds the bits of i indices. Past the octets a frame is zeros, whose
+-- `packing::frame_word` meets its contract: after i turns the word holds the bits of i indices. Past the octets a frame is zeros, whose
 -- word is 0; whole frames leave nothing between.
 -- Assumes nothing.
 use mathlib.Core.Path.{_≡_, sym, ap, _∙_, subst}

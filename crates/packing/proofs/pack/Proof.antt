@@ -1,4 +1,4 @@
--- `packet::pack` meets its contract: the first word is the leading bits, one frame and the front of the other, the second number what is left
+-- `packing::pack` meets its contract: the first word is the leading bits, one frame and the front of the other, the second number what is left
 -- and the CRC.
 -- Assumes nothing.
 use mathlib.Core.Path.{_≡_, ap, _∙_}

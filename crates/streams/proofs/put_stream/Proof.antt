@@ -1,4 +1,4 @@
--- `packet::put_stream` meets its contract: after g turns the packets of 2g pairs lie in 23g octets.
+-- `streams::put_stream` meets its contract: after g turns the packets of 2g pairs lie in 23g octets.
 -- Assumes nothing.
 use mathlib.Core.Path.{_≡_, refl, ap, _∙_}
 use Prim.Native.Nat.{ℕ, _-_, _*_, _≤_}

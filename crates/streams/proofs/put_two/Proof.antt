@@ -1,4 +1,4 @@
--- `packet::put_two` meets its contract: four stores hold the 184 bits of two packets, the third from the half octet on that the second ends with.
+-- `streams::put_two` meets its contract: four stores hold the 184 bits of two packets, the third from the half octet on that the second ends with.
 -- Assumes nothing.
 use native.Mathlib.Omega.{arith}
 use denote.Ref.{now}
