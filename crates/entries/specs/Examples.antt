@@ -120,6 +120,11 @@ pub first-packs : packing (1 ∷ replicate 167 0) (replicate 138 9) ≡ packed 0
 unfolding packing firstFrom numbers value stream packetOf packet guarded crc after laid field xor row
 first-packs = refl
 
+-- and the last index of the last frame: stream bit 1,092, and the CRC of X^7, which is X^3 + X^2 + X, in the last half octet
+pub last-packs : packing (replicate 167 0 ++ (1 ∷ [])) (replicate 138 9) ≡ packed 0 (replicate 136 0 ++ (0x10 ∷ 0x70 ∷ []))
+unfolding packing firstFrom numbers value stream packetOf packet guarded crc after laid field xor row
+last-packs = refl
+
 -- ---- a wrong length is 98 and comes before an index above 63, which is 4; what came as 9 stays
 pub record Lengths : Type 0 where
   pub indices-short : packing (replicate 167 64) (replicate 138 9) ≡ packed 98 (replicate 138 9)

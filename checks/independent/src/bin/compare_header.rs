@@ -1,4 +1,5 @@
 //! Compares the library's header code with the independent version. Arguments: the command that runs the header driver.
+#![deny(dead_code)] // a round that is in no list
 use independent::chance::Chance;
 use independent::driver::{Call, Driver, DONE, HEADER_UNREADABLE};
 use independent::header::{encode, Code};

@@ -1,4 +1,5 @@
 //! Compares the library's hunt and hunting reading with the independent version. Arguments: the command that runs the hunt driver.
+#![deny(dead_code)] // a round that is in no list
 use independent::chance::Chance;
 use independent::driver::{over, rule_of, unknown_choices, Call, Driver, ANSWER_SHORT, NO_SUCH_CHOICE};
 use independent::driver::{DEFAULT, KNOWN_CHOICES, ONE_HEADER_SETTLES};
@@ -576,6 +577,19 @@ impl Check {
         }
     }
 
+    /// Every number of multiframes, behind each other and with gaps.
+    fn every_number(&mut self) {
+        for m in 1..=MOST {
+            for longest in [0, 40] {
+                let parts = utterance(&mut self.chance, m);
+                let bits = spread(&mut self.chance, &parts, 0, longest);
+                let octets = whole(&mut self.chance, &bits);
+                let least = self.least();
+                self.read_fit("every number of multiframes, also with gaps", &Search::new(&octets, 0, least));
+            }
+        }
+    }
+
     /// 255 multiframes, of which each by turns is lost, out of step, damaged or moved.
     fn one_amiss(&mut self) {
         for k in 0..MOST {
@@ -1002,6 +1016,7 @@ fn main() {
         ("wide", Check::wide),
         ("far_hunts", Check::far_hunts),
         ("many_places", Check::many_places),
+        ("every_number", Check::every_number),
         ("one_amiss", Check::one_amiss),
         ("shifts", Check::shifts),
         ("sync_flips", Check::sync_flips),

@@ -1,4 +1,5 @@
 //! Compares the library's reader with the independent version. Arguments: the command that runs the read driver.
+#![deny(dead_code)] // a round that is in no list
 use independent::chance::Chance;
 use independent::driver::{over, rule_of, unknown_choices, Call, Driver, ANSWER_SHORT, NO_SUCH_CHOICE};
 use independent::driver::{DEFAULT, KNOWN_CHOICES, ONE_HEADER_SETTLES};
@@ -429,6 +430,30 @@ impl Check {
         }
     }
 
+    /// Every number of multiframes, with room enough, just enough, and an octet less of each buffer.
+    fn every_number(&mut self) {
+        for m in 1..=255 {
+            let octets = image(&utterance(&mut self.chance, m));
+            let tables = fit_tables(&mut self.chance);
+            self.compare_roomy("every number of multiframes", &octets, &tables);
+            for rooms in [(INDICES * m, REPORT * m), (INDICES * m - 1, REPORT * m), (INDICES * m, REPORT * m - 1)] {
+                self.compare("every number of multiframes, room just enough or an octet short", &octets, &tables, rooms);
+            }
+        }
+    }
+
+    /// Each of 255 headers the earlier of two that agree, and each the later.
+    fn each_settles(&mut self) {
+        for k in 0..255 {
+            for other in [0, self.chance.below(255), 254] {
+                let mut parts = utterance(&mut self.chance, 255);
+                estrange(&mut self.chance, &mut parts, &[k, other]);
+                let tables = fit_tables(&mut self.chance);
+                self.compare_roomy("settings settled by each of 255 headers and another", &image(&parts), &tables);
+            }
+        }
+    }
+
     /// One multiframe of 255 damaged or with another header, each by turns.
     fn one_amiss(&mut self) {
         let parts = utterance(&mut self.chance, 255);
@@ -814,6 +839,8 @@ fn main() {
         ("unknown_choices", Check::unknown_choices),
         ("anywhere", Check::anywhere),
         ("far_settings", Check::far_settings),
+        ("each_settles", Check::each_settles),
+        ("every_number", Check::every_number),
         ("far_places", Check::far_places),
         ("wide_lengths", Check::wide_lengths),
         ("wide_place_of_12", |check| check.wide_place(12)),

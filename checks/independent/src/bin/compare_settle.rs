@@ -1,5 +1,6 @@
 //! Compares the library's settling with the independent version, and both with the full reading. Arguments: the command that runs the settle
 //! driver.
+#![deny(dead_code)] // a round that is in no list
 use independent::chance::Chance;
 use independent::driver::{over, rule_of, unknown_choices, Call, Driver, ANSWER_SHORT, DONE, KNOWN_CHOICES, NO_SUCH_CHOICE};
 use independent::header::{encode, Code};

@@ -1,5 +1,6 @@
 //! Compares the library's packing and unpacking of a stream with the independent version. Arguments: the command that runs the
 //! stream driver.
+#![deny(dead_code)] // a round that is in no list
 use independent::chance::Chance;
 use independent::driver::{over, Call, Driver, DONE, WRONG_LENGTH};
 use independent::rounds::{run, Round};

@@ -1,4 +1,5 @@
 //! Compares the library's writer with the independent version. Arguments: the command that runs the write driver.
+#![deny(dead_code)] // a round that is in no list
 use independent::chance::Chance;
 use independent::driver::{over, Call, Driver};
 use independent::rounds::{run, Round};
