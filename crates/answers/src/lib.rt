@@ -1,5 +1,7 @@
 // The answers of the writer, the hunt and the header code put into lent numbers, as the entries for C and Rust give them: each function that
 // tells one answers 0 or the refusal's number. And the test of settings that came as numbers of 64 bits.
+#![tactic(auto)]
+
 ghost use Rattle.std.specs.Prelude.{◌≡◌, ◌^◌, ◌<◌};
 ghost use Rattle.writer.specs.Writing.{number_of, place_of};
 ghost use Rattle.entries.specs.Bits.{hunt_returned, hunt_returning};

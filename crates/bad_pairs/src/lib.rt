@@ -1,4 +1,6 @@
 // Which pairs are bad: the notes of the report, from each pair's CRC, its consistency and its neighbours.
+#![tactic(auto)]
+
 ghost use Rattle.std.specs.Prelude.{◌≡◌};
 ghost use Rattle.bad_pairs.specs.BadPairs.{bad, undecided_by, note_by, bad_pairs};
 

@@ -1,5 +1,7 @@
 // Settings without the whole utterance (02, C-11): multiframes are read only until the settings are settled.
 // `until_settled` of the crate until_settled says what is answered, for all octets and every choice.
+#![tactic(auto)]
+
 ghost use Rattle.std.specs.Prelude.{◌≡◌, length};
 ghost use Rattle.layout.specs.Layout.{most_multiframes};
 ghost use Rattle.settling.specs.declared.Settlement.TheVariants as S;

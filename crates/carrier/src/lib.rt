@@ -1,4 +1,6 @@
 // A multiframe in octets: its header as a word, and its feature stream.
+#![tactic(auto)]
+
 ghost use Rattle.std.specs.Prelude.{◌≡◌, ◌+◌, ◌≤◌, length};
 ghost use Rattle.layout.specs.Layout.{multiframe_octets};
 ghost use Rattle.carrier.specs.Carrier.{header_word, stream_from};

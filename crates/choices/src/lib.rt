@@ -1,4 +1,6 @@
 // What a caller may choose of a reading (02): each choice by its name, and the number by which a caller from outside names them.
+#![tactic(auto)]
+
 ghost use Rattle.std.specs.Prelude.{◌≡◌};
 ghost use Rattle.choices.specs.Choices.{asked};
 

@@ -1,4 +1,6 @@
 // Whether a pair of frames is consistent: how far the quantised values of its two frames are apart, against the thresholds.
+#![tactic(auto)]
+
 ghost use Rattle.std.specs.Prelude.{◌≡◌, ◌+◌, ◌*◌, ◌<◌, ◌≤◌};
 ghost use lib.ListN.{length};
 ghost use Rattle.lists.specs.Parts.{part};

@@ -1,4 +1,6 @@
 // The CRC of a pair packet: a register of four bits that is stepped one bit at a time and handed back.
+#![tactic(auto)]
+
 ghost use Rattle.std.specs.Prelude.{◌≡◌, ◌*◌, ◌≤◌, ◌<◌};
 ghost use Rattle.bits.specs.Bits.{field};
 ghost use Rattle.crc.specs.Crc.{none, fed, fed_all, code, coded};

@@ -1,4 +1,6 @@
 // Cutting received octets up into multiframes: where each begins, or the refusal 12, 13 or 15 that cutting meets.
+#![tactic(auto)]
+
 ghost use Rattle.std.specs.Prelude.{◌≡◌, length};
 ghost use Rattle.layout.specs.Layout.{most_multiframes};
 ghost use Rattle.cutting.specs.Cutting.{piece_of, sync_met, cutting, answered, laid};

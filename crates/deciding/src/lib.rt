@@ -1,4 +1,6 @@
 // What is decided of octets that are cut up, before anything is written: 14 and 16 to 20, or that they are read.
+#![tactic(auto)]
+
 ghost use Rattle.std.specs.Prelude.{◌≡◌, ◌≤◌, length};
 ghost use Rattle.layout.specs.Layout.{most_multiframes};
 ghost use Rattle.tables.specs.Tables.{tables_of, RightSizes};

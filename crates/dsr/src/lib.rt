@@ -1,6 +1,8 @@
 // The entries for C and Rust: numbers and slices only, and nothing is asked of the caller. All but the encoder of headers answer 0 if they
 // are done, and else the number of a refusal. What each gives is defined in the crate entries; the crates answers and reading_answers put what a
 // writing, a hunt, a reading or a header's reading answers into the lent numbers. c/dsr.h says the same in C.
+#![tactic(auto)]
+
 ghost use Rattle.std.specs.Prelude.{◌≡◌, []};
 ghost use Rattle.choices.specs.Choices.{asked};
 ghost use Rattle.tables.specs.Tables.{tables_of};

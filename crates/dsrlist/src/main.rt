@@ -1,5 +1,7 @@
 // dsrlist lists an utterance that comes in on standard input: a line of notes for each multiframe and a total, or the refusal with its
 // number and place. The listing is made whole by `listing::put_listing`, which is proved; this only reads and writes octets.
+#![tactic(auto)]
+
 ghost use Rattle.std.specs.Prelude.{◌≡◌, ◌-◌, ◌≤◌, length, take};
 ghost use Rattle.dsrlist.specs.Input.{Within};
 

@@ -1,5 +1,7 @@
 // Runs the examples of 01 that are not marked (P) through the library and prints what it answers: number and place, or octets written.
 // The stored output holds them to 01's text.
+#![tactic(auto)]
+
 use choices::Choices;
 use layout::{FrameLayout, MultiframeLayout, ReadingLayout, UtteranceLayout};
 use libc::STDOUT_FILENO;

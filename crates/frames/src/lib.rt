@@ -1,4 +1,6 @@
 // Frames as index octets, seven a frame: the test for a zero frame, with which an utterance ends.
+#![tactic(auto)]
+
 ghost use Rattle.std.specs.Prelude.{◌≡◌, ◌+◌, ◌*◌, ◌≤◌, length};
 ghost use Rattle.layout.specs.Layout.{frame_indices};
 ghost use Rattle.frames.specs.Frames.{zero_frame};

@@ -1,4 +1,6 @@
 // Finding the multiframes (02, C-13): they are found at any bit, one after another, and put together on octets with whole syncs.
+#![tactic(auto)]
+
 ghost use Rattle.std.specs.Prelude.{◌≡◌, ◌+◌, ◌*◌, ◌≤◌, ◌<◌, length};
 ghost use Rattle.lists.specs.Parts.{over};
 ghost use Rattle.layout.specs.Layout.{multiframe_octets, most_multiframes};

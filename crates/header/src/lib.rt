@@ -1,5 +1,7 @@
 // The header code of ES 201 108: the codeword of sixteen message bits, and the reading of a received header, which mends at most two flips.
 // Whoever stands above relies on the promises and laws alone: the definitions are shut.
+#![tactic(auto)]
+
 ghost use Rattle.std.specs.Prelude.{◌≡◌, ◌≢◌, ℕ, ◌<◌, ◌^◌, get_or};
 ghost use Rattle.header_code.specs.Code.{parity, codeword, syndrome};
 ghost use Rattle.header.specs.Reading.{reading};

@@ -1,4 +1,6 @@
 // Header notes: what the report says of each header.
+#![tactic(auto)]
+
 ghost use Rattle.std.specs.Prelude.{◌≡◌, ◌<◌, length, get_or};
 ghost use Rattle.header_notes.specs.HeaderNotes.{header_note};
 ghost use Rattle.header_readings.specs.Stored.{opened, Mended};

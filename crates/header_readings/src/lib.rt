@@ -1,4 +1,6 @@
 // The headers of an utterance: every one read once, and its reading kept as a number.
+#![tactic(auto)]
+
 ghost use Rattle.std.specs.Prelude.{◌≡◌, ◌+◌, ◌≤◌, length};
 ghost use Rattle.lists.specs.Parts.{over};
 ghost use Rattle.cutting.specs.Laws.{Placed};

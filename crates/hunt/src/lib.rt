@@ -1,5 +1,7 @@
 // The hunt for a multiframe at any bit: from a given bit on the smallest place at which enough bits of the sync match and the header that
 // follows is readable (02, C-13).
+#![tactic(auto)]
+
 ghost use Rattle.std.specs.Prelude.{◌≡◌, ◌+◌, ◌*◌, ◌/◌, ◌%◌, ◌^◌, ◌≤◌, ◌<◌, length};
 ghost use Rattle.bits.specs.Bits.{field, bits};
 ghost use Rattle.header.specs.Reading.{reading};

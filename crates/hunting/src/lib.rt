@@ -1,4 +1,6 @@
 // The hunting reader (02, C-13): the multiframes found at any bit are read as the octet reader reads them.
+#![tactic(auto)]
+
 ghost use Rattle.std.specs.Prelude.{◌≡◌, ◌*◌, ◌≤◌, length, take};
 ghost use Rattle.layout.specs.Layout.{multiframe_octets, most_multiframes};
 ghost use Rattle.tables.specs.Tables.{tables_of};

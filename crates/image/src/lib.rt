@@ -1,4 +1,6 @@
 // The image of an utterance: its index octets, seven a frame, laid down as protected multiframes. What may be written is decided above.
+#![tactic(auto)]
+
 ghost use Rattle.std.specs.Prelude.{◌≡◌, ◌+◌, ◌*◌, ◌%◌, ◌≤◌, ◌<◌, length};
 ghost use Rattle.lists.specs.Parts.{over};
 ghost use Rattle.layout.specs.Layout.{frame_indices, multiframe_octets, most_multiframes};

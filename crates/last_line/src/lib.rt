@@ -1,5 +1,7 @@
 // The last line of a listing, made as text in a lent buffer: the total, or the refusal. Each function puts its text from place at on and
 // answers the place behind it.
+#![tactic(auto)]
+
 ghost use Rattle.std.specs.Prelude.{◌≡◌, ◌+◌, ◌≤◌, length};
 ghost use Rattle.text.specs.Text.{Put};
 ghost use Rattle.last_line.specs.LastLine.{most_total, total, refusal};

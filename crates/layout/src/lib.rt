@@ -1,5 +1,7 @@
 // The sizes that belong to the layout of a frame, a pair packet and a multiframe, written here once, and the three counters that the
 // standard keeps apart. A second layout (the extended front end) gets types of its own beside these.
+#![tactic(auto)]
+
 ghost use Rattle.std.specs.Prelude.{◌≡◌, ◌^◌, ◌<◌};
 ghost use Rattle.layout.specs.Layout.{frame_indices, frame_bits, crc_bits, data_bits, packet_bits, multiframe_pairs, multiframe_frames, sync_octets, sync_first, sync_second, sync_word, inverse_first, inverse_second, header_octets, stream_octets, multiframe_octets, most_multiframes, most_frames, index_octets, report_octets, codebook_numbers, threshold_numbers, first_frame, second_frame, multiframe_of, first_pair, first_frame_of, packet_start};
 

@@ -1,5 +1,7 @@
 // The lines of multiframes in a listing, made as text in a lent buffer: of one, and of a whole report. Each function puts its text from
 // place at on and answers the place behind it.
+#![tactic(auto)]
+
 ghost use Rattle.std.specs.Prelude.{◌≡◌, ◌+◌, ◌*◌, ◌≤◌, length};
 ghost use Rattle.lists.specs.Rows.{joined};
 ghost use Rattle.layout.specs.Layout.{report_octets};

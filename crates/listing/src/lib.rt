@@ -1,5 +1,7 @@
 // The listing of an utterance, made as text in a lent buffer: a line for each multiframe and a total, or the refusal. `listing` in specs/
 // says what it is, for every input.
+#![tactic(auto)]
+
 ghost use Rattle.std.specs.Prelude.{◌≤◌, length};
 ghost use Rattle.text.specs.Text.{Put};
 ghost use Rattle.listing.specs.Listing.{most_listing, listing};

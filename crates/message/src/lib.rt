@@ -1,5 +1,7 @@
 // The sixteen message bits of a header: made of their fields, and taken apart. Whoever stands above relies on the promises and laws alone:
 // the definitions are shut.
+#![tactic(auto)]
+
 ghost use Rattle.std.specs.Prelude.{◌≡◌};
 ghost use Rattle.message.specs.Message.{message, settings_of, count_of, exp_of, common_bits};
 

@@ -1,4 +1,6 @@
 // The pairs of received multiframes, walked by multiframe and packet: every CRC tried once, the notes of all pairs, and all frames in order.
+#![tactic(auto)]
+
 ghost use Rattle.std.specs.Prelude.{◌≡◌, false, ◌+◌, ◌*◌, ◌≤◌, ◌<◌, length, get_or};
 ghost use Rattle.lists.specs.Tests.{when};
 ghost use Rattle.lists.specs.Parts.{over};

@@ -1,4 +1,6 @@
 // Pair packets of a feature stream, read by words: a frame is 44 bits of a word, a packet a word of 64 bits and 28 more.
+#![tactic(auto)]
+
 ghost use Rattle.std.specs.Prelude.{◌≡◌, ◌+◌, ◌*◌, ◌≤◌, length};
 ghost use Rattle.lists.specs.Parts.{part, over};
 ghost use Rattle.layout.specs.Layout.{widths, frame_indices, frame_bits, pair_indices, data_bits, packet_bits, packet_start};

@@ -1,4 +1,6 @@
 // Frames and pair packets of a feature stream, made by words: a frame is 44 bits of a word, a packet a word of 64 bits and 28 more.
+#![tactic(auto)]
+
 ghost use Rattle.std.specs.Prelude.{◌≡◌, ◌++◌, ◌+◌, ◌%◌, ◌^◌, ◌≤◌, ◌<◌, length};
 ghost use Rattle.layout.specs.Layout.{widths, frame_indices, frame_bits};
 ghost use Rattle.bits.specs.Bits.{field, value};

@@ -1,5 +1,7 @@
 // The reader: received octets become indices and a report, or a refusal that changes nothing.
 // `reading` in specs/ says what it answers and leaves in both buffers, for every input.
+#![tactic(auto)]
+
 ghost use Rattle.std.specs.Prelude.{◌≡◌, ◌*◌, ◌≤◌, length};
 ghost use Rattle.lists.specs.Parts.{over};
 ghost use Rattle.layout.specs.Layout.{most_multiframes, index_octets, report_octets};

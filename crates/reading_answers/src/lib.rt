@@ -1,5 +1,7 @@
 // The answers of the readings put into lent numbers, as the entries for C and Rust give them: each function that tells one answers 0 or the
 // refusal's number.
+#![tactic(auto)]
+
 ghost use Rattle.std.specs.Prelude.{◌≡◌, [], ◌≤◌, length};
 ghost use Rattle.lists.specs.Parts.{over};
 ghost use Rattle.entries.specs.Bits.{counted_numbers, numbers_of, bits_told};

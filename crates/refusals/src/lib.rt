@@ -1,5 +1,7 @@
 // Every refusal, once for each entry: its case with what its place needs, and the number and the place that 01 and 02 give it. Success
 // is 0.
+#![tactic(auto)]
+
 ghost use Rattle.std.specs.Prelude.{◌≡◌, ◌^◌, ◌<◌};
 ghost use Rattle.refusals.specs.Refusals.{writing_number, writing_place, reading_number, reading_place, hunt_number, hunt_place, hunt_tested, hunting_number, hunting_place};
 

@@ -1,4 +1,6 @@
 // The report of a reading: for each multiframe a header note, and behind it the notes of its twelve pairs.
+#![tactic(auto)]
+
 ghost use Rattle.std.specs.Prelude.{◌≡◌, length, get_or};
 ghost use Prim.Native.Nat.{◌+◌, ◌*◌, ◌≤◌, ◌<◌};
 ghost use Rattle.lists.specs.Parts.{part, over};

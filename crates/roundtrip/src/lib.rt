@@ -1,4 +1,6 @@
 // Writing and reading back in one call, for whoever checks a terminal before it leaves: the theorem "reads back" at work.
+#![tactic(auto)]
+
 ghost use Rattle.std.specs.Prelude.{◌≡◌};
 ghost use Rattle.tables.specs.Tables.{tables_of};
 ghost use Rattle.roundtrip.specs.Trip.{made, trip, ComesBack, Unread, Unwritten};

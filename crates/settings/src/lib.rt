@@ -1,4 +1,6 @@
 // The settings of an utterance: what every header of it says beside the counter.
+#![tactic(auto)]
+
 ghost use Rattle.std.specs.Prelude.{◌≡◌};
 ghost use Rattle.settings.specs.Settings.{settings_right};
 

@@ -1,4 +1,6 @@
 // Settings: what the readings of an utterance's headers settle.
+#![tactic(auto)]
+
 ghost use Rattle.std.specs.Prelude.{◌≡◌, [], ◌≤◌, ◌<◌, length, get_or};
 ghost use Rattle.header.specs.declared.Header.TheVariants.{Lost};
 ghost use Rattle.settling.specs.Settling.{among, first_agreeing, only_one, settling};

@@ -1,4 +1,6 @@
 // The feature stream of a multiframe, written by words: two packets are 23 whole octets.
+#![tactic(auto)]
+
 ghost use Rattle.std.specs.Prelude.{◌≡◌, ◌+◌, ◌%◌, ◌^◌, ◌≤◌, ◌<◌, length};
 ghost use Rattle.lists.specs.Parts.{over};
 ghost use Rattle.layout.specs.Layout.{frame_indices, multiframe_pairs, stream_octets};

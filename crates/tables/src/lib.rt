@@ -1,4 +1,6 @@
 // Which tables, codebook and thresholds, a reading may use, and what turns the others away before anything else is looked at.
+#![tactic(auto)]
+
 ghost use Rattle.std.specs.Prelude.{◌≡◌, ◌<◌, length};
 ghost use Rattle.tables.specs.Tables.{at, sizes_right, negative, admission, tables_of};
 

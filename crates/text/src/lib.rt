@@ -1,5 +1,7 @@
 // Text in a lent buffer: words, and numbers in decimal. Each function puts its text from place at on and answers the place behind it. Each
 // asks for room.
+#![tactic(auto)]
+
 ghost use Rattle.std.specs.Prelude.{◌≡◌, ◌++◌, ◌+◌, ◌*◌, ◌<◌, ◌≤◌, length};
 ghost use Rattle.text.specs.Text.{note_digits, number_digits, decimal, field, Put};
 ghost use Rattle.text.specs.Text.{digit as Text·digit};

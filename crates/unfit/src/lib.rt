@@ -1,4 +1,6 @@
 // Which settled common bits cannot be used.
+#![tactic(auto)]
+
 ghost use Rattle.std.specs.Prelude.{◌≡◌};
 ghost use Rattle.unfit.specs.Unfit.{unfit};
 

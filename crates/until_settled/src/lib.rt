@@ -1,5 +1,7 @@
 // Settings without the whole utterance (02, C-11): multiframes are read only until the settings are settled.
 // `until_settled` in specs/ says what is answered, for all octets and every choice; the crate beginning reads so.
+#![tactic(auto)]
+
 use refusals::Reading;
 use settings::Settings;
 

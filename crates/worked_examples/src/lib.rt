@@ -1,1 +1,2 @@
 // 01's worked examples, in one table; no code.
+#![tactic(auto)]

@@ -1,4 +1,6 @@
 // The writer: index octets, seven a frame, become the protected multiframes of an utterance, or a refusal with 01's number and place.
+#![tactic(auto)]
+
 ghost use Rattle.std.specs.Prelude.{◌≡◌, ◌^◌, ◌<◌};
 ghost use Rattle.writer.specs.Writing.{verdict, outcome, writing, number_of, place_of};
 

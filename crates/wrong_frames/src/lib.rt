@@ -1,4 +1,6 @@
 // Frames that cannot be written: one with an index that is too large, and a zero frame that would end the utterance too early.
+#![tactic(auto)]
+
 ghost use Rattle.std.specs.Prelude.{◌≡◌, ◌+◌, ◌*◌, ◌≤◌, length};
 ghost use Rattle.layout.specs.Layout.{frame_indices};
 ghost use Rattle.wrong_frames.specs.WrongFrames.{is_wide, ends_early, first_wide, first_early};
