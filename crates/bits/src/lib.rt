@@ -1,4 +1,6 @@
 // Bits in octets, least significant bit first: words of up to eight octets at any octet, and octets of the bits from any bit on.
+#![tactic(auto)]
+
 ghost use Rattle.std.specs.Prelude.{◌≡◌, ◌+◌, ◌*◌, ◌^◌, ◌≤◌, ◌<◌, length};
 ghost use Rattle.lists.specs.Parts.{part, over};
 ghost use Rattle.bits.specs.Bits.{field, value, bits, octets};
