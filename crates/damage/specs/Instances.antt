@@ -9,7 +9,7 @@ use Rattle.std.specs.Int.Bits.{bit_xor}
 use Rattle.std.proofs.lemmas.Nat.{xor_lt}
 use Rattle.std.specs.Int.Count.{ones, ones_in}
 use Rattle.std.proofs.Math.Seq.{drop-append-add}
-use Rattle.polynomials.specs.Light.{ones_in}
+use Rattle.polynomials.specs.Light.{ones_in_lem}
 use Rattle.lists.specs.Parts.{part}
 use Rattle.lists.specs.Search.{first_from}
 use Rattle.layout.specs.Layout.{widths, frame_indices, multiframe_pairs, first_frame, packet_bits, stream_octets}
@@ -91,7 +91,7 @@ module _ (u : Utterance) (single : multiframes_of u ≡ 1) (p : List Bool) (d : 
 
   two_flips : (k : ℕ) → flips_to (flipped_word k) (sent_message u k) ≤ 2
   unfolding ones_in
-  two_flips k = let e : ones 3 ≡ 2 = sym (ones_in 2 3 (lit< tt)) in le_of_eq (flips_of (sent_message u k) 3 ∙ e)
+  two_flips k = let e : ones 3 ≡ 2 = sym (ones_in_lem 2 3 (lit< tt)) in le_of_eq (flips_of (sent_message u k) 3 ∙ e)
 
   each_packet : (q : ℕ) → q < pairs_of u
       → (stream_packet (first_swapped u.indices p) q ≡ packet_of u.indices q)

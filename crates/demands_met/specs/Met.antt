@@ -10,7 +10,7 @@ use Rattle.std.proofs.lemmas.Nat.{xor_lt}
 use Rattle.std.specs.Int.Count.{ones, ones_in}
 use Rattle.std.proofs.lemmas.List.{length-replicate}
 use Rattle.std.proofs.Math.Seq.{drop-append-add}
-use Rattle.polynomials.specs.Light.{ones_in}
+use Rattle.polynomials.specs.Light.{ones_in_lem}
 use Rattle.lists.specs.Tests.{true_false}
 use Rattle.lists.specs.Parts.{part, over}
 use Rattle.lists.specs.Search.{first_from}
@@ -196,7 +196,7 @@ module _ (u : Utterance) where
 
   two_flips : (k : ℕ) → flips_to (hurt_word k) (sent_message u k) ≤ 2
   unfolding ones_in
-  two_flips k = let e : ones 3 ≡ 2 = sym (ones_in 2 3 (lit< tt)) in le_of_eq (flips_of (sent_message u k) 3 ∙ e)
+  two_flips k = let e : ones 3 ≡ 2 = sym (ones_in_lem 2 3 (lit< tt)) in le_of_eq (flips_of (sent_message u k) 3 ∙ e)
 
   pub hurts : Damage (multiframes_of u) (image_of u) hurt_image
   hurts =

@@ -21,7 +21,7 @@ use Rattle.image.specs.Laws.{length_image, image_made, image_sync, image_word, i
 use Rattle.writer.specs.Utterance.{success}
 use Rattle.demands.specs.Noteless.{spoken, count_spoken, speech_lt, speech_le, speech_full}
 use Rattle.demands.specs.WritesAgain as A
-use Rattle.polynomials.specs.Light.{ones_in}
+use Rattle.polynomials.specs.Light.{ones_in_lem}
 use Rattle.polynomials.specs.Xor.{xor_swap}
 use Rattle.lists.specs.Tests.{true_false}
 use Rattle.lists.specs.Rows.{each, joined, length_joined, joined_part}
@@ -138,7 +138,7 @@ module _ (u : Utterance) where
 
   none_wrong : (k : ℕ) → flips_to (sent_word k) (sent_message u k) ≡ 0
   unfolding flips_to ones_in
-  none_wrong k = ap ones (xor_self (codeword (sent_message u k))) ∙ sym (ones_in 1 0 (lit< tt))
+  none_wrong k = ap ones (xor_self (codeword (sent_message u k))) ∙ sym (ones_in_lem 1 0 (lit< tt))
 
   pub all_hurts : Damage (multiframes_of u) (image_of u) all_hurt
   all_hurts =
@@ -234,7 +234,7 @@ codeword_9 = codeword_xor 8 1 (lit< tt) (lit< tt)
 
 three_8 : flips_to (bit_xor (codeword 8) halfway) 8 ≡ 3
 unfolding ones_in
-three_8 = let e : ones halfway ≡ 3 = sym (ones_in 32 halfway (lit< tt)) in flips_of 8 halfway ∙ e
+three_8 = let e : ones halfway ≡ 3 = sym (ones_in_lem 32 halfway (lit< tt)) in flips_of 8 halfway ∙ e
 
 three_11 : flips_to (bit_xor (codeword 8) halfway) 9 ≡ 3
 unfolding flips_to
@@ -283,7 +283,7 @@ unfolding ones_in
 mended_1 =
     let w = codeword (sent_message says1 0) in
     let l : bit_xor w 3 < 2 ^ 32 = xor_lt 32 w 3 (codeword_lt (sent_message says1 0) (message_lt (settings 0 0) 1 0)) (lit< tt) in
-    let e : ones 3 ≡ 2 = sym (ones_in 2 3 (lit< tt)) in
+    let e : ones 3 ≡ 2 = sym (ones_in_lem 2 3 (lit< tt)) in
     sym (header_near says1 (hurt_image says1) 0 (lit< tt))
     ∙ ap (λ (x : ℕ). flips_to x (sent_message says1 0)) (made_word (hurt_word says1) (hurt_stream says1) 1 0 (lit< tt) l) ∙ flips_of (sent_message says1 0) 3 ∙ e
 

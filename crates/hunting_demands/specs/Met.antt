@@ -8,7 +8,7 @@ use Rattle.std.proofs.Math.Path.{ap}
 use Rattle.std.specs.Int.Count.{ones, ones_in}
 use Rattle.std.proofs.Math.Dec.{lit<, lit≤}
 use Rattle.std.proofs.lemmas.List.{length-replicate, replicate-append-replicate, take-append-le}
-use Rattle.polynomials.specs.Light.{ones_in}
+use Rattle.polynomials.specs.Light.{ones_in_lem}
 use Rattle.lists.specs.Parts.{part, over, part_left, part_right}
 use Rattle.lists.specs.Rows.{joined}
 use Rattle.layout.specs.Layout.{multiframe_pairs, sync_octets, multiframe_octets, most_multiframes, index_octets, report_octets}
@@ -87,7 +87,7 @@ sync_size = refl
 
 pub two_ones : ones 3 ≡ 2
 unfolding ones_in
-two_ones = sym (ones_in 2 3 (lit< tt))
+two_ones = sym (ones_in_lem 2 3 (lit< tt))
 
 -- ---- an utterance so carried
 abbrev pub many_zeros : List Bool

@@ -9,7 +9,7 @@ use Rattle.std.specs.Int.Count.{ones, ones_in}
 use Rattle.std.proofs.Math.Dec.{lit≤}
 use Rattle.std.proofs.Math.ListN.{length}
 use borrow.Author.Tests.{ne_eqb, lt-ltb}
-use Rattle.polynomials.specs.Light.{ones_in}
+use Rattle.polynomials.specs.Light.{ones_in_lem}
 use Rattle.lists.specs.Tests.{true_false}
 use Rattle.lists.specs.Rows.{each, joined, length_joined, joined_part}
 use Rattle.layout.specs.Layout.{packet_bits, multiframe_pairs, multiframe_octets, most_multiframes, index_octets, report_octets, sync_first, sync_second}
@@ -184,11 +184,11 @@ five_match = lit< tt
 
 no_ones : ones 0 ≡ 0
 unfolding ones_in
-no_ones = sym (ones_in 1 0 (lit< tt))
+no_ones = sym (ones_in_lem 1 0 (lit< tt))
 
 one_one : ones 1 ≡ 1
 unfolding ones_in
-one_one = sym (ones_in 1 1 (lit< tt))
+one_one = sym (ones_in_lem 1 1 (lit< tt))
 
 none_few : ones 0 ≤ 2
 none_few = omega (arith, no_ones)
@@ -198,7 +198,7 @@ one_few = omega (arith, one_one)
 
 three_ones : ones 7 ≡ 3
 unfolding ones_in
-three_ones = sym (ones_in 3 7 (lit< tt))
+three_ones = sym (ones_in_lem 3 7 (lit< tt))
 
 -- ---- the first multiframe is taken alone: it passes, and no place behind it does
 first_alone : (s : List ℕ) (least : ℕ) → multiframe_bits ≤ searched (bits s) → passes least (bits s) 0 ≡ true

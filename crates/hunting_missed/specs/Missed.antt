@@ -9,7 +9,7 @@ use Rattle.std.proofs.Math.Bool.{xor}
 use Rattle.std.specs.Int.Bits.{bit_xor}
 use Rattle.std.specs.Int.Count.{ones, ones_in}
 use Rattle.std.proofs.lemmas.List.{length-replicate, replicate-append-replicate}
-use Rattle.polynomials.specs.Light.{ones_in}
+use Rattle.polynomials.specs.Light.{ones_in_lem}
 use Rattle.lists.specs.Tests.{all_holds}
 use Rattle.lists.specs.Parts.{part, over}
 use Rattle.lists.specs.Search.{first_from}
@@ -179,13 +179,13 @@ first_flips : header_flips (image_of sent) garbled 0 ≡ 3
 unfolding ones_in
 first_flips =
     ap₂ (λ (a b : ℕ). ones (bit_xor a b)) (word_came 0 (lit< tt)) (image_word sent.settings sent.indices m 0 (lit< tt) ∙ first_word)
-    ∙ sym (ones_in header_bits 0x000E0000 (lit< tt))
+    ∙ sym (ones_in_lem header_bits 0x000E0000 (lit< tt))
 
 second_flips : header_flips (image_of sent) garbled 1 ≡ 8
 unfolding ones_in
 second_flips =
     ap₂ (λ (a b : ℕ). ones (bit_xor a b)) (word_came 1 (lit< tt)) (image_word sent.settings sent.indices m 1 (lit< tt) ∙ second_word)
-    ∙ sym (ones_in header_bits 0x32120019 (lit< tt))
+    ∙ sym (ones_in_lem header_bits 0x32120019 (lit< tt))
 
 -- so the first is lost, and the second is read as a codeword of 11 kHz without a flip
 first_lost : reading (word_in garbled 0) ≡ Lost

@@ -4,7 +4,7 @@ use Rattle.std.specs.Prelude.{◌≡◌, refl, List, [], ◌∷◌, ◌++◌, �
 use Rattle.std.proofs.Common.{sym, ap, ap₂, ◌∙◌, mod-eq_of_lt, add-one, arith, lit<}
 use Rattle.std.specs.Int.Bits.{bit_and, bit_or, bit_xor}
 use Rattle.std.specs.Int.Count.{ones, ones_in}
-use Rattle.polynomials.specs.Light.{ones_in}
+use Rattle.polynomials.specs.Light.{ones_in_lem}
 use Rattle.layout.specs.Layout.{header_octets, stream_octets, first_pair, multiframe_pairs}
 use Rattle.settings.specs.Settings.{settings}
 use Rattle.bits.specs.Bits.{numbers, value, field, octets}
@@ -61,7 +61,7 @@ codeword_is : (m : ℕ) → m < 2 ^ 16 → front m < 2 ^ 31 → codeword m ≡ w
 unfolding front word
 codeword_is m h l =
     sym (codeword_packed m (sum m 16) h (sym (parity_sum m 16 (omega arith)) ∙ ap parity (mod-eq_of_lt h)))
-    ∙ ap (λ (x : ℕ). bit_or (bit_and x 1 * 2 ^ 31 % 2 ^ 32) (front m)) (sym (ones_in 31 (front m) l))
+    ∙ ap (λ (x : ℕ). bit_or (bit_and x 1 * 2 ^ 31 % 2 ^ 32) (front m)) (sym (ones_in_lem 31 (front m) l))
 
 message_is : (m : ℕ) → m < 2 ^ 16 → message (settings (bit_and m 3) (bit_and (m / 4) 1)) (bit_and (m / 8) 15) (m / 128) ≡ m
 message_is m h =

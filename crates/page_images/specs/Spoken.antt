@@ -11,7 +11,7 @@ use Rattle.std.specs.Int.Bits.{xor_lt}
 use Rattle.std.specs.Int.Count.{ones_in}
 use Rattle.std.specs.Int.Count as Count
 use Rattle.std.proofs.lemmas.List.{length-replicate, get_or-replicate}
-use Rattle.polynomials.specs.Light.{ones_in}
+use Rattle.polynomials.specs.Light.{ones_in_lem}
 use Rattle.lists.specs.Tests.{when, true_false}
 use Rattle.lists.specs.Parts.{part}
 use Rattle.lists.specs.Search.{nowhere, is_found, says_is}
@@ -166,7 +166,7 @@ module _ (u : Utterance) (k : ℕ) (h : k < multiframes_of u) where
   header_hurt : header_flips (image_of u) (hurt_image u) k ≡ 2
   unfolding ones_in
   header_hurt =
-      let e : Count.ones 3 ≡ 2 = sym (ones_in 2 3 (lit< tt)) in
+      let e : Count.ones 3 ≡ 2 = sym (ones_in_lem 2 3 (lit< tt)) in
       let l : hurt_word u k < 2 ^ 32 = xor_lt 32 (codeword (sent_message u k)) 3 (codeword_lt (sent_message u k) (message_lt u.settings (k + 1) 0)) (lit< tt) in
       sym (header_near u (hurt_image u) k h)
       ∙ ap (λ (w : ℕ). flips_to w (sent_message u k)) (made_word (hurt_word u) (hurt_stream u) (multiframes_of u) k h l) ∙ flips_of (sent_message u k) 3 ∙ e

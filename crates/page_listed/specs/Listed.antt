@@ -9,7 +9,7 @@ use mathlib.Core.List.{List, [], ◌∷◌, ◌++◌}
 use Rattle.std.specs.Int.Count.{ones, ones_in}
 use Rattle.std.proofs.Math.ListN.{length}
 use Rattle.std.proofs.lemmas.List.{get_or-replicate}
-use Rattle.polynomials.specs.Light.{ones_in}
+use Rattle.polynomials.specs.Light.{ones_in_lem}
 use Rattle.lists.specs.Tests.{when}
 use Rattle.lists.specs.Parts.{part, over}
 use Rattle.lists.specs.Rows.{joined, each, each_at, same_each}
@@ -241,11 +241,11 @@ module _ (ch : Choices) (s ps : List ℕ) (cut : cutting s ≡ record { places =
 -- ---- header notes
 one_flip : ones 0x80000000 ≡ 1
 unfolding ones_in
-one_flip = sym (ones_in 32 0x80000000 (lit< tt))
+one_flip = sym (ones_in_lem 32 0x80000000 (lit< tt))
 
 two_flips : ones 0x4008 ≡ 2
 unfolding ones_in
-two_flips = sym (ones_in 32 0x4008 (lit< tt))
+two_flips = sym (ones_in_lem 32 0x4008 (lit< tt))
 
 read_1 : ReadsAs 0xEE0E0008 (message (settings 0 0) 1 0) 0
 read_1 = clean (message (settings 0 0) 1 0) 0xEE0E0008 (message_lt (settings 0 0) 1 0) (of_octets (codeword (message (settings 0 0) 1 0)) 0x08 0x00 0x0E 0xEE (E.table).header_count_1)

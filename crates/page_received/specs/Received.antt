@@ -9,7 +9,7 @@ use Rattle.std.proofs.Math.Bool.{xor}
 use Rattle.std.specs.Int.Count.{ones, ones_in}
 use Rattle.std.proofs.Math.ListN.{length, get_or-append}
 use borrow.Author.Tests.{eq-eqb, ne_eqb, lt-ltb, le-ltb}
-use Rattle.polynomials.specs.Light.{ones_in}
+use Rattle.polynomials.specs.Light.{ones_in_lem}
 use Rattle.lists.specs.Parts.{part}
 use Rattle.lists.specs.Rows.{joined, each, length_each, each_at, same_each, length_joined, joined_part}
 use Rattle.lists.specs.Search.{first_from}
@@ -330,7 +330,7 @@ module _ (ch : Choices) (s ps : List ℕ) (cut : cutting s ≡ record { places =
 -- ---- the headers, by the laws of their code: it is shut here
 one_one : ones 1 ≡ 1
 unfolding ones_in
-one_one = sym (ones_in 1 1 (lit< tt))
+one_one = sym (ones_in_lem 1 1 (lit< tt))
 
 pub read_1 : ReadsAs 0xEE0E0008 8 0
 read_1 = clean 8 0xEE0E0008 (lit< tt) (of_octets (codeword 8) 0x08 0x00 0x0E 0xEE count_1)
@@ -346,7 +346,7 @@ read_flipped = flips 8 0xEE0E0008 1 1 (lit< tt) (of_octets (codeword 8) 0x08 0x0
 
 two_ones : ones 3 ≡ 2
 unfolding ones_in
-two_ones = sym (ones_in 2 3 (lit< tt))
+two_ones = sym (ones_in_lem 2 3 (lit< tt))
 
 -- count2 with its first two bits flipped
 pub read_flipped_2 : ReadsAs 0x0D1D0013 16 2

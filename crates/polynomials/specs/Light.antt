@@ -38,7 +38,7 @@ light_holds (suc k) (suc b) f t n h l =
     (n % 2) (low n) refl
 
 -- the count that antt can compute: k digits are enough for a number below 2 ^ k
-pub ones_in : (k n : ℕ) → n < 2 ^ k → ones_in k n ≡ ones n
+pub ones_in_lem : (k n : ℕ) → n < 2 ^ k → ones_in k n ≡ ones n
 unfolding ones_in
-ones_in zero n h = sym (ap ones (lt-one h) ∙ omega (arith, ones-le 0 0 (lit< tt)))
-ones_in (suc k) n h = ap (λ (x : ℕ). n % 2 + x) (ones_in k (n / 2) (omega arith)) ∙ sym (ones_step n)
+ones_in_lem zero n h = sym (ap ones (lt-one h) ∙ omega (arith, ones-le 0 0 (lit< tt)))
+ones_in_lem (suc k) n h = ap (λ (x : ℕ). n % 2 + x) (ones_in_lem k (n / 2) (omega arith)) ∙ sym (ones_step n)

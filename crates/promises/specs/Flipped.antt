@@ -12,7 +12,7 @@ use Rattle.std.specs.Int.Bits.{bit_and, bit_xor, xor_self, xor_zero_r}
 use Rattle.std.proofs.lemmas.Nat.{xor_lt, xor_block, and_mask}
 use Rattle.std.specs.Int.Count.{ones, ones_in}
 use borrow.Author.Tests.{eq-eqb, ne_eqb, le-ltb}
-use Rattle.polynomials.specs.Light.{ones_in}
+use Rattle.polynomials.specs.Light.{ones_in_lem}
 use Rattle.polynomials.specs.Xor.{xor_swap}
 use Rattle.lists.specs.Tests.{when, by_test, true_false}
 use Rattle.lists.specs.Parts.{over}
@@ -68,27 +68,27 @@ use Rattle.demands_met.specs.Met.{index_for, report_for, zero_consistent}
 -- ---- how many bits these numbers flip
 pub none_flipped : ones 0 ≡ 0
 unfolding ones_in
-none_flipped = sym (ones_in 1 0 (lit< tt))
+none_flipped = sym (ones_in_lem 1 0 (lit< tt))
 
 pub one_flipped : ones 1 ≡ 1
 unfolding ones_in
-one_flipped = sym (ones_in 1 1 (lit< tt))
+one_flipped = sym (ones_in_lem 1 1 (lit< tt))
 
 pub two_flipped : ones 3 ≡ 2
 unfolding ones_in
-two_flipped = sym (ones_in 2 3 (lit< tt))
+two_flipped = sym (ones_in_lem 2 3 (lit< tt))
 
 pub three_flipped : ones 7 ≡ 3
 unfolding ones_in
-three_flipped = sym (ones_in 3 7 (lit< tt))
+three_flipped = sym (ones_in_lem 3 7 (lit< tt))
 
 pub five_flipped : ones 31 ≡ 5
 unfolding ones_in
-five_flipped = sym (ones_in 5 31 (lit< tt))
+five_flipped = sym (ones_in_lem 5 31 (lit< tt))
 
 pub seven_flipped : ones 127 ≡ 7
 unfolding ones_in
-seven_flipped = sym (ones_in 7 127 (lit< tt))
+seven_flipped = sym (ones_in_lem 7 127 (lit< tt))
 
 -- ---- any packets, twelve behind each header
 module _ (f : ℕ → List Bool) where
@@ -267,7 +267,7 @@ rate_bits = 0xD1010001
 -- six of them
 pub six_flipped : ones rate_bits ≡ 6
 unfolding ones_in
-six_flipped = sym (ones_in 32 rate_bits (lit< tt))
+six_flipped = sym (ones_in_lem 32 rate_bits (lit< tt))
 
 -- it is that
 pub rate_codeword : codeword 1 ≡ rate_bits

@@ -9,7 +9,7 @@ use Rattle.std.specs.Int.Bits.{bit_xor, xor_self}
 use Rattle.std.proofs.lemmas.Nat.{xor_comm}
 use Rattle.std.specs.Int.Count.{ones, ones_in}
 use Rattle.std.proofs.lemmas.Bool.{lt-leb}
-use Rattle.polynomials.specs.Light.{ones_in}
+use Rattle.polynomials.specs.Light.{ones_in_lem}
 use Rattle.polynomials.specs.Xor.{xor_twice}
 use Rattle.lists.specs.Tests.{when, by_test, true_false}
 use Rattle.lists.specs.Parts.{part, part_left, part_right}
@@ -90,11 +90,11 @@ four_bits = 0x11010001
 
 pub four_flipped : ones four_bits ≡ 4
 unfolding ones_in
-four_flipped = sym (ones_in 32 four_bits (lit< tt))
+four_flipped = sym (ones_in_lem 32 four_bits (lit< tt))
 
 pub four_to_11 : ones (bit_xor four_bits rate_bits) ≡ 2
 unfolding ones_in
-four_to_11 = sym (ones_in 32 0xC0000000 (lit< tt))
+four_to_11 = sym (ones_in_lem 32 0xC0000000 (lit< tt))
 
 abbrev pub four_off : Utterance → List ℕ
 four_off u = flipped u (λ k. four_bits) (packet_of u.indices)
@@ -407,11 +407,11 @@ pub record Confused (u : Utterance) (s : List ℕ) : Type 0 where
 
 half_8 : ones halfway ≡ 3
 unfolding ones_in
-half_8 = sym (ones_in 32 halfway (lit< tt))
+half_8 = sym (ones_in_lem 32 halfway (lit< tt))
 
 half_11 : ones (bit_xor halfway rate_bits) ≡ 3
 unfolding ones_in
-half_11 = sym (ones_in 32 0xD0000000 (lit< tt))
+half_11 = sym (ones_in_lem 32 0xD0000000 (lit< tt))
 
 pub six_confuse : (u : Utterance) → u.settings.rate ≡ 0 → Confused u (flipped u (λ k. halfway) (packet_of u.indices))
 six_confuse u eight =

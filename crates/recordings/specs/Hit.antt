@@ -6,7 +6,7 @@ use Rattle.std.proofs.Common.{◌∙◌, subst, inl, inr, arith, lit<, eq-eqb, n
 use Rattle.std.proofs.Math.Decide.{ℕ_discrete}
 use Rattle.std.specs.Int.Bits.{xor_self}
 use Rattle.std.specs.Int.Count.{ones, ones_in}
-use Rattle.polynomials.specs.Light.{ones_in}
+use Rattle.polynomials.specs.Light.{ones_in_lem}
 use Rattle.lists.specs.Tests.{when}
 use Rattle.lists.specs.Rows.{joined, length_joined, joined_part}
 use Rattle.layout.specs.Layout.{packet_bits, stream_octets, multiframe_pairs, first_pair, multiframe_of}
@@ -65,7 +65,7 @@ module _ (u : Utterance) (p : ℕ) where
 
   none_wrong : (k : ℕ) → flips_to (word k) (sent_message u k) ≡ 0
   unfolding flips_to ones_in
-  none_wrong k = ap ones (xor_self (codeword (sent_message u k))) ∙ sym (ones_in 1 0 (lit< tt))
+  none_wrong k = ap ones (xor_self (codeword (sent_message u k))) ∙ sym (ones_in_lem 1 0 (lit< tt))
 
   -- it is such damage as demand 3 counts
   pub hits : Damage (multiframes_of u) (image_of u) hit_image

@@ -5,7 +5,7 @@ use Rattle.std.specs.Prelude.{◌≡◌, ℕ}
 use Rattle.std.proofs.Common.{ap, sym, ◌∙◌, arith, lit<}
 use Rattle.std.specs.Int.Bits.{bit_xor}
 use Rattle.std.specs.Int.Count.{ones, ones_in}
-use Rattle.polynomials.specs.Light.{ones_in}
+use Rattle.polynomials.specs.Light.{ones_in_lem}
 use Rattle.header_code.specs.Code.{codeword, flips_to}
 use Rattle.header_code.specs.Code.Examples.{of_octets, count_1}
 use Rattle.header.specs.Reading.{decoded_as, reading_up_to, reading}
@@ -32,19 +32,19 @@ word = of_octets (codeword 8) 0x08 0x00 0x0E 0xEE count_1
 
 away_0 : flips_to 0xEE0E0008 8 ≡ 0
 unfolding flips_to ones_in
-away_0 = ap (λ (x : ℕ). ones (bit_xor 0xEE0E0008 x)) word ∙ sym (ones_in 32 0 (lit< tt))
+away_0 = ap (λ (x : ℕ). ones (bit_xor 0xEE0E0008 x)) word ∙ sym (ones_in_lem 32 0 (lit< tt))
 
 away_1 : flips_to 0xEE0E0009 8 ≡ 1
 unfolding flips_to ones_in
-away_1 = ap (λ (x : ℕ). ones (bit_xor 0xEE0E0009 x)) word ∙ sym (ones_in 32 1 (lit< tt))
+away_1 = ap (λ (x : ℕ). ones (bit_xor 0xEE0E0009 x)) word ∙ sym (ones_in_lem 32 1 (lit< tt))
 
 away_2 : flips_to 0xEE0E000B 8 ≡ 2
 unfolding flips_to ones_in
-away_2 = ap (λ (x : ℕ). ones (bit_xor 0xEE0E000B x)) word ∙ sym (ones_in 32 3 (lit< tt))
+away_2 = ap (λ (x : ℕ). ones (bit_xor 0xEE0E000B x)) word ∙ sym (ones_in_lem 32 3 (lit< tt))
 
 away_3 : flips_to 0xEE0E000F 8 ≡ 3
 unfolding flips_to ones_in
-away_3 = ap (λ (x : ℕ). ones (bit_xor 0xEE0E000F x)) word ∙ sym (ones_in 32 7 (lit< tt))
+away_3 = ap (λ (x : ℕ). ones (bit_xor 0xEE0E000F x)) word ∙ sym (ones_in_lem 32 7 (lit< tt))
 
 pub table : Table
 table = record {

@@ -10,7 +10,7 @@ use Rattle.std.proofs.lemmas.Nat.{xor_block, xor_lt, ones_cat, ones-le}
 use Rattle.std.specs.Int.Count.{ones, ones_in, ones_step}
 use Rattle.polynomials.specs.Polynomials.{remainder}
 use Rattle.polynomials.specs.Xor.{digit, low, xor_twice, between, ones_xor, ones_xor_le}
-use Rattle.polynomials.specs.Light.{light, light_holds, ones_in}
+use Rattle.polynomials.specs.Light.{light, light_holds, ones_in_lem}
 use Rattle.header_code.specs.Code.{parity, front, codeword, flips_to}
 use Rattle.header_code.specs.Code.Parity.{parity_lt, parity_xor}
 
@@ -27,7 +27,7 @@ far_is : (n : ℕ) → 0 < n → n < 2 ^ 16 → T (far n) → 5 ≤ ones n + one
 unfolding far
 far_is zero p h t = absurd (omega arith)
 far_is (suc n) p h t =
-    omega (arith, leb→le 5 (ones_in 16 (suc n) + ones_in 15 (parity (suc n))) t, ones_in 16 (suc n) h, ones_in 15 (parity (suc n)) (parity_lt (suc n)))
+    omega (arith, leb→le 5 (ones_in 16 (suc n) + ones_in 15 (parity (suc n))) t, ones_in_lem 16 (suc n) h, ones_in_lem 15 (parity (suc n)) (parity_lt (suc n)))
 
 five : (n : ℕ) → 0 < n → n < 2 ^ 16 → 5 ≤ ones n + ones (parity n)
 five n p h = elim (dec_le 5 (ones n)) [ yes l ↦ omega arith | no l ↦ far_is n p h (light_holds 16 4 far far_light n h (omega arith)) ]

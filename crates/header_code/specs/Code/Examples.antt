@@ -4,7 +4,7 @@ use Rattle.std.proofs.Common.{sym, ap, ◌∙◌, arith, lit<}
 use Rattle.std.specs.Int.Bits.{bit_xor}
 use Rattle.std.specs.Int.Count.{ones, ones_in}
 use Rattle.polynomials.specs.Polynomials.{remainder}
-use Rattle.polynomials.specs.Light.{ones_in}
+use Rattle.polynomials.specs.Light.{ones_in_lem}
 use Rattle.header_code.specs.Code.{parity, front, codeword, flips_to}
 use Rattle.header_code.specs.Code.Distance.{front_lt}
 
@@ -27,7 +27,7 @@ fast m = ones_in 31 (front m) % 2 * 2 ^ 31 + front m
 
 fast_is : (m : ℕ) → m < 2 ^ 16 → codeword m ≡ fast m
 unfolding codeword fast
-fast_is m h = ap (λ (x : ℕ). x % 2 * 2 ^ 31 + front m) (sym (ones_in 31 (front m) (front_lt m h)))
+fast_is m h = ap (λ (x : ℕ). x % 2 * 2 ^ 31 + front m) (sym (ones_in_lem 31 (front m) (front_lt m h)))
 
 -- messages of 01's examples, as numbers: the counter is 8 times itself, SampRate 1 is 1, EXP9 is 32768
 pub count_1 : octets (codeword 8) ≡ 0x08 ∷ 0x00 ∷ 0x0E ∷ 0xEE ∷ []
@@ -61,7 +61,7 @@ codeword_1 = fast_is 1 (lit< tt)
 
 pub six_ones : ones (codeword 1) ≡ 6
 unfolding ones_in
-six_ones = ap ones codeword_1 ∙ sym (ones_in 32 0xD1010001 (lit< tt))
+six_ones = ap ones codeword_1 ∙ sym (ones_in_lem 32 0xD1010001 (lit< tt))
 
 pub six_differ : ones (bit_xor (codeword 0) (codeword 1)) ≡ 6
 six_differ = ap (λ (x : ℕ). ones (bit_xor x (codeword 1))) codeword_0 ∙ six_ones
@@ -69,8 +69,8 @@ six_differ = ap (λ (x : ℕ). ones (bit_xor x (codeword 1))) codeword_0 ∙ six
 -- 01 00 01 01 is three from SampRate 1 alone and three from zero
 pub three_from_zero : flips_to 0x01010001 0 ≡ 3
 unfolding flips_to ones_in
-three_from_zero = ap (λ (x : ℕ). ones (bit_xor 0x01010001 x)) codeword_0 ∙ sym (ones_in 32 0x01010001 (lit< tt))
+three_from_zero = ap (λ (x : ℕ). ones (bit_xor 0x01010001 x)) codeword_0 ∙ sym (ones_in_lem 32 0x01010001 (lit< tt))
 
 pub three_from_rate_1 : flips_to 0x01010001 1 ≡ 3
 unfolding flips_to ones_in
-three_from_rate_1 = ap (λ (x : ℕ). ones (bit_xor 0x01010001 x)) codeword_1 ∙ sym (ones_in 32 0xD0000000 (lit< tt))
+three_from_rate_1 = ap (λ (x : ℕ). ones (bit_xor 0x01010001 x)) codeword_1 ∙ sym (ones_in_lem 32 0xD0000000 (lit< tt))

@@ -11,7 +11,7 @@ use Rattle.std.proofs.Math.Pow.{pow-lt}
 use Rattle.lists.specs.Tests.{both, both_left, both_right, all_holds}
 use Rattle.polynomials.specs.Polynomials.{remainder}
 use Rattle.polynomials.specs.Xor.{digit, low, xor_swap, xor_twice, ones_xor}
-use Rattle.polynomials.specs.Light.{ones_in}
+use Rattle.polynomials.specs.Light.{ones_in_lem}
 use Rattle.header_code.specs.Code.{parity, front, codeword, syndrome}
 use Rattle.header_code.specs.Code.Parity.{parity_lt, parity_xor, words}
 use Rattle.header_code.specs.Code.Distance.{codeword_even, codeword_low, codeword_lt, front_lt}
@@ -104,7 +104,7 @@ fast w = ones_in 32 w % 2 * 2 ^ 15 + off w
 
 fast_is : (w : ℕ) → w < 2 ^ 32 → syndrome w ≡ fast w
 unfolding fast
-fast_is w h = syndrome_is w ∙ ap (λ (x : ℕ). x % 2 * 2 ^ 15 + off w) (sym (ones_in 32 w h))
+fast_is w h = syndrome_is w ∙ ap (λ (x : ℕ). x % 2 * 2 ^ 15 + off w) (sym (ones_in_lem 32 w h))
 
 right : ℕ → Bool
 right i = both (eqb (bit_or (get_or words i 0) 32768) (fast (2 ^ i))) (eqb (bit_or (2 ^ i) 32768) (fast (2 ^ (16 + i))))
