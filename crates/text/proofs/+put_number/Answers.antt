@@ -1,17 +1,14 @@
 -- `put_number` meets its contract: the digits of n div 10 first, then the last digit behind them. The measure is n.
 -- Assumes nothing.
-use borrow.Author.Rules.{rules}
 use native.Mathlib.Omega.{arith}
 use Rattle.text.proofs.Steps.{length_small, length_large, put_small, put_large}
 use Prim.Native.Nat.{ℕ, ◌/◌, ◌≤◌, ◌<◌}
 use borrow.Fn.Kinds.{In}
 use borrow.Fn.PlainCycle.{Measures, is, falls, and}
-use Rattle.text.proofs.put_number.Reads as put-number
 use Rattle.text.proofs.put_number.Kinds as put-number-kinds
-use Rattle.text.proofs.+put_number.Lts-put_number as put-number-lts
-use Rattle.text.proofs.digit.Reads as digit-reads
 use Rattle.text.proofs.+put_number.{statement}
-use Rattle.text.proofs.+put_number.Tie.{close}
+use Rattle.std.proofs.Common.{rules}
+use Rattle.text.proofs.+put_number.Goals as goal
 
 abbrev μ-put-number : Measures 1 put-number-kinds.ps ℕ
 μ-put-number κs a = a.0
@@ -140,24 +137,3 @@ put-number-returns-2 t c =
     let s = c.before.before.before.before.before.before.before in
     let h : 10 ≤ s.args.n = omega arith in
     put_large s.args.n _ s.args.at _ s.args.text.now _ h c.digit2.ensures s.requires.1 c.before.before.before.put-number.ensures
-
-pub +put-number-spec : {M : Type 1} → statement M
-+put-number-spec = close μ-put-number λ t. put-number-lts.spec (
-  digit-reads.Asked,
-  digit-reads.Learnt,
-  put-number-below t,
-  put-number.Post,
-)
-    (put-number-at t)
-    put-number.Post
-    (put-number-digit-requires t)
-    (put-number-slice-write-text t)
-    (put-number-add-result t)
-    (put-number-same-length t)
-    (put-number-returns t)
-    (put-number-put-number-requires t)
-    (put-number-digit-requires-2 t)
-    (put-number-slice-write-text-2 t)
-    (put-number-add-result-2 t)
-    (put-number-same-length-2 t)
-    (put-number-returns-2 t)
