@@ -5,14 +5,14 @@ ghost use Rattle.std.specs.Prelude.{◌≡◌};
 ghost use Rattle.choices.specs.Choices.{asked};
 
 // A choice that is not asked for is false: a reading by default is one with every choice false.
-#[derive(Drop)]
+#[derive(Clone, Copy)]
 pub struct Choices {
     // An only multiframe whose header is itself a codeword settles the settings (01's rule); by default it does not (C-20).
     pub one_header_settles: bool,
 }
 
 // What a caller asked for by a number.
-#[derive(Drop)]
+#[derive(Clone, Copy)]
 pub enum Asked {
     For(Choices),
     NoSuchChoice,

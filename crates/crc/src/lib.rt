@@ -8,7 +8,7 @@ ghost use Rattle.crc.specs.Crc.{none, fed, fed_all, code, coded};
 // The register as it is sent: X^3 is 1, X^2 is 2, X is 4 and 1 is 8, so that it moves right with the data.
 // A mask in the steps would hide their shape from the compiler, so a step asks for a register, which is below 16, as `new` and every
 // method hand it back; `octets` masks for its callers.
-#[derive(Drop)]
+#[derive(Clone, Copy)]
 pub struct Crc(pub u8);
 
 impl Crc {

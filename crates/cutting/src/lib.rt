@@ -9,7 +9,7 @@ use layout::{MultiframeLayout, UtteranceLayout};
 use refusals::Reading;
 
 // What stands at the front of the octets that are left: one of three that cutting goes on with or ends at, or what 12, 13 or 15 is about.
-#[derive(Drop)]
+#[derive(Clone, Copy)]
 pub enum Piece {
     End,
     Multiframe,
@@ -20,7 +20,7 @@ pub enum Piece {
 }
 
 // How cutting ended: with so many multiframes, or refused.
-#[derive(Drop)]
+#[derive(Clone, Copy)]
 pub enum Cut {
     Whole { count: usize },
     Refused(Reading),

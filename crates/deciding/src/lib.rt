@@ -16,7 +16,7 @@ use refusals::Reading;
 use settling::Settlement;
 
 // What is decided before anything is written: a refusal, or the settled common bits.
-#[derive(Drop)]
+#[derive(Clone, Copy)]
 pub enum Verdict {
     Refuse(Reading),
     Accept { common: u16 },

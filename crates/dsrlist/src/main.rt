@@ -11,7 +11,7 @@ use libc::{STDIN_FILENO, STDOUT_FILENO};
 const LIMIT: usize = 65536;
 
 // What became of the input: how many octets came before its end or before the buffer was full, or that a read failed.
-#[derive(Drop)]
+#[derive(Clone, Copy)]
 enum Input {
     Came(usize),
     Failed,

@@ -105,8 +105,8 @@ module _ (s : List ℕ) (from least : ℕ) where
           }
 
       -- one too many
-      pub too_many : (out : List ℕ) → m ≡ most_multiframes → (G.TooMany p ≡ answered all) × Laid s all out
-      too_many out z =
+      pub too_many_lem : (out : List ℕ) → m ≡ most_multiframes → (G.TooMany p ≡ answered all) × Laid s all out
+      too_many_lem out z =
           let k : most_multiframes - m ≡ 0 = omega arith in
           let w : all.ending ≡ too_many p =
           g.ending ∙ ap (λ (k : ℕ). (gathering (bits s) least k at).ending) k ∙ ap (λ (v : Gathering). v.ending) (gathering_full (bits s) least at p n e) in

@@ -19,7 +19,7 @@ const BITS: usize = 8 * MultiframeLayout::OCTETS;
 const BEHIND: usize = MultiframeLayout::OCTETS - MultiframeLayout::SYNC;
 
 // How finding the multiframes ended.
-#[derive(Drop)]
+#[derive(Clone, Copy)]
 pub enum Gathered {
     Whole { count: usize, tested: usize },
     TooMany { place: usize },

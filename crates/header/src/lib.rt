@@ -7,14 +7,14 @@ ghost use Rattle.header_code.specs.Code.{parity, codeword, syndrome};
 ghost use Rattle.header.specs.Reading.{reading};
 
 // What is known of a header that is read: the codeword's message, and the number of flipped bits.
-#[derive(Drop)]
+#[derive(Clone, Copy)]
 pub struct Decoded {
     pub message: u16,
     pub flips: u32,
 }
 
 // What a received header is read as: a codeword, or lost.
-#[derive(Drop)]
+#[derive(Clone, Copy)]
 pub enum Header {
     Codeword(Decoded),
     Lost,

@@ -24,7 +24,7 @@ const FEWEST: usize = 12;
 const MOST: usize = 0x1fffffffffffffff;
 
 // The place found and how many places were tested, it among them; or refused.
-#[derive(Drop)]
+#[derive(Clone, Copy)]
 pub enum Hunted {
     Found { place: usize, tested: usize },
     Refused(refusals::Hunt),

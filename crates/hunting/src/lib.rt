@@ -19,14 +19,14 @@ use tables::Admission;
 const IMAGE: usize = MultiframeLayout::OCTETS * UtteranceLayout::MULTIFRAMES;
 
 // What the octet reader answers of the multiframes found, the bits outside them, and how many places were tested.
-#[derive(Drop)]
+#[derive(Clone, Copy)]
 pub struct Counted {
     pub summary: Summary,
     pub outside: usize,
     pub tested: usize,
 }
 
-#[derive(Drop)]
+#[derive(Clone, Copy)]
 pub enum Answer {
     Read(Counted),
     Refused(Hunting),

@@ -6,7 +6,7 @@ ghost use Rattle.std.specs.Prelude.{◌≡◌, ◌^◌, ◌<◌};
 ghost use Rattle.layout.specs.Layout.{frame_indices, frame_bits, crc_bits, data_bits, packet_bits, multiframe_pairs, multiframe_frames, sync_octets, sync_first, sync_second, sync_word, inverse_first, inverse_second, header_octets, stream_octets, multiframe_octets, most_multiframes, most_frames, index_octets, report_octets, codebook_numbers, threshold_numbers, first_frame, second_frame, multiframe_of, first_pair, first_frame_of, packet_start};
 
 // Six indices of 6 bits, then one of 8.
-#[derive(Drop)]
+#[derive(Clone, Copy)]
 pub struct FrameLayout;
 
 impl FrameLayout {
@@ -22,7 +22,7 @@ impl FrameLayout {
 }
 
 // Two frames and their CRC.
-#[derive(Drop)]
+#[derive(Clone, Copy)]
 pub struct PacketLayout;
 
 impl PacketLayout {
@@ -36,7 +36,7 @@ impl PacketLayout {
 }
 
 // Sync, header and twelve packets.
-#[derive(Drop)]
+#[derive(Clone, Copy)]
 pub struct MultiframeLayout;
 
 impl MultiframeLayout {
@@ -66,7 +66,7 @@ impl MultiframeLayout {
 }
 
 // At most 255 multiframes, of which the last keeps a frame of padding.
-#[derive(Drop)]
+#[derive(Clone, Copy)]
 pub struct UtteranceLayout;
 
 impl UtteranceLayout {
@@ -76,7 +76,7 @@ impl UtteranceLayout {
 }
 
 // What a reading lends: index and report octets for each multiframe, and the quantiser's tables.
-#[derive(Drop)]
+#[derive(Clone, Copy)]
 pub struct ReadingLayout;
 
 impl ReadingLayout {
@@ -90,14 +90,14 @@ impl ReadingLayout {
 }
 
 // The two octets of a sync, in sending order.
-#[derive(Drop)]
+#[derive(Clone, Copy)]
 pub struct SyncOctets {
     pub first: u8,
     pub second: u8,
 }
 
 // The constants above, handed out so that a contract can hold them to the definitions' sizes.
-#[derive(Drop)]
+#[derive(Clone, Copy)]
 pub struct Sizes {
     pub indices: usize,
     pub frame: usize,
@@ -164,13 +164,13 @@ pub fn all_sizes() -> Sizes
 }
 
 // The three counters, each from 0. None stands in for another: they are turned into each other by the conversions below alone.
-#[derive(Drop)]
+#[derive(Clone, Copy)]
 pub struct Frame(pub usize);
 
-#[derive(Drop)]
+#[derive(Clone, Copy)]
 pub struct Pair(pub usize);
 
-#[derive(Drop)]
+#[derive(Clone, Copy)]
 pub struct Multiframe(pub usize);
 
 impl Pair {

@@ -8,7 +8,7 @@ ghost use Rattle.message.specs.Message.{message, settings_of, count_of, exp_of, 
 use settings::Settings;
 
 // The fields of a message: the settings (SampRate and feType), MframeCnt, and EXP1 to EXP9 as one number.
-#[derive(Drop)]
+#[derive(Clone, Copy)]
 pub struct Fields {
     pub settings: Settings,
     pub count: u8,

@@ -55,7 +55,7 @@ fn crc_of(a: u64, b: u64) -> u64
 }
 
 // A packet behind n leading bits, as two numbers: the first 64 bits, and the last 28 + n.
-#[derive(Drop)]
+#[derive(Clone, Copy)]
 pub struct Packed {
     pub low: u64,
     pub high: u64,

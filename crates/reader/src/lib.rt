@@ -23,7 +23,7 @@ use settings::Settings;
 use tables::Admission;
 
 // Success: the settled settings, the number of multiframes, speech, the number of bad pairs, and end.
-#[derive(Drop)]
+#[derive(Clone, Copy)]
 pub struct Summary {
     pub settings: Settings,
     pub multiframes: usize,
@@ -32,7 +32,7 @@ pub struct Summary {
     pub end: u8,
 }
 
-#[derive(Drop)]
+#[derive(Clone, Copy)]
 pub enum Answer {
     Read(Summary),
     Refused(Reading),

@@ -24,7 +24,7 @@ pub const WRONG_LENGTH: u32 = 98;
 pub const NO_ROOM: u32 = 99;
 
 // Why an utterance is not written: 01's refusals 1 to 6. Frames count from 0 here, in 01's places from 1.
-#[derive(Drop)]
+#[derive(Clone, Copy)]
 pub enum Writing {
     WrongSettings,
     PartFrame { octets: usize },
@@ -35,7 +35,7 @@ pub enum Writing {
 }
 
 // Why received octets are not read: 01's refusals 11 to 20, and 02's 10, a negative threshold, numbered from 0.
-#[derive(Drop)]
+#[derive(Clone, Copy)]
 pub enum Reading {
     WrongTables,
     NegativeThreshold { threshold: usize },
@@ -51,7 +51,7 @@ pub enum Reading {
 }
 
 // Why a hunt finds nothing: 02's refusals 21 and 22.
-#[derive(Drop)]
+#[derive(Clone, Copy)]
 pub enum Hunt {
     MatchRange { least: usize },
     Nowhere { from: usize, tested: usize },
@@ -59,7 +59,7 @@ pub enum Hunt {
 
 // Why a hunting reading is refused: as the octet reader refuses what was found, for one of the hunt's reasons, or for a match after as
 // many multiframes as an utterance may have. That is 15, as the octet reader has it, but its place is a bit.
-#[derive(Drop)]
+#[derive(Clone, Copy)]
 pub enum Hunting {
     Octets(Reading),
     MatchRange { least: usize },

@@ -10,7 +10,7 @@ use reader::Summary;
 use settings::Settings;
 
 // What became of an utterance: refused by the writer, refused by the reader, or back with the reader's summary.
-#[derive(Drop)]
+#[derive(Clone, Copy)]
 pub enum Trip {
     NotWritten(refusals::Writing),
     NotRead(refusals::Reading),

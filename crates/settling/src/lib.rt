@@ -12,7 +12,7 @@ use header::Header;
 use layout::Multiframe;
 
 // What the headers settle: common bits, SampRate, feType and EXP, as a message with its counter 0; or nothing.
-#[derive(Drop)]
+#[derive(Clone, Copy)]
 pub enum Settlement {
     Settled { common: u16 },
     Unsettled,

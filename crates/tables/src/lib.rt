@@ -8,7 +8,7 @@ use layout::ReadingLayout;
 use refusals::Reading;
 
 // What becomes of the tables: both readers' first test.
-#[derive(Drop)]
+#[derive(Clone, Copy)]
 pub enum Admission {
     Admitted,
     Refused(Reading),

@@ -6,14 +6,14 @@ use refusals::Reading;
 use settings::Settings;
 
 // What the beginning of an utterance tells: the settled settings, and how many multiframes were read for them.
-#[derive(Drop)]
+#[derive(Clone, Copy)]
 pub struct Beginning {
     pub settings: Settings,
     pub multiframes: usize,
 }
 
 // A refusal is one of the octet reader's 12 to 17.
-#[derive(Drop)]
+#[derive(Clone, Copy)]
 pub enum Answer {
     Read(Beginning),
     Refused(Reading),

@@ -9,7 +9,7 @@ use refusals::Writing;
 use settings::Settings;
 use wrong_frames::Found;
 
-#[derive(Drop)]
+#[derive(Clone, Copy)]
 pub enum Answer {
     Written { octets: usize },
     Refused(Writing),

@@ -12,7 +12,7 @@ use layout::{Frame, FrameLayout, MultiframeLayout};
 const LARGEST: u8 = 63;
 
 // What a search over the frames finds: a frame, or none.
-#[derive(Drop)]
+#[derive(Clone, Copy)]
 pub enum Found {
     At(Frame),
     Nowhere,

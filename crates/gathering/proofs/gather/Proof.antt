@@ -7,7 +7,7 @@ use lib.ListN.{length}
 use Rattle.layout.specs.Layout.{most_multiframes}
 use Rattle.bits.specs.Bits.{bits}
 use Rattle.hunt.specs.Laws.{searched_lt}
-use Rattle.gathering.proofs.Turns.{Going, begun, room_for_more, in_bits, few_tested, going_on, too_many, few_tested_last, finished}
+use Rattle.gathering.proofs.Turns.{Going, begun, room_for_more, in_bits, few_tested, going_on, too_many_lem, few_tested_last, finished}
 use Rattle.gathering.proofs.gather.Statement.{statement}
 use Rattle.gathering.proofs.gather.Tie as tie
 use Rattle.gathering.proofs.gather.Reads as reads
@@ -41,7 +41,7 @@ returns c =
     let g = a.loop.invariant.0 in
     let st = a.before.before.before in
     let e = sym f.place.given.1 ∙ k.seek.ensures in
-    too_many _ _ _ _ _ _ _ g _ _ e _ c.if1.true
+    too_many_lem _ _ _ _ _ _ _ g _ _ e _ c.if1.true
 
 put-found-requires : tie.Need-put-found-requires invariant-loop decreases-loop
 put-found-requires c κs =
