@@ -5,7 +5,8 @@
 ghost use Rattle.std.specs.Prelude.{◌≡◌, ◌-◌, ◌≤◌, length, take};
 ghost use Rattle.dsrlist.specs.Input.{Within};
 
-use libc::{STDIN_FILENO, STDOUT_FILENO};
+use std::io;
+use std::io::{Read, Write};
 
 // The most octets that are listed; one more tells that there are more.
 const LIMIT: usize = 65536;
@@ -18,26 +19,25 @@ enum Input {
 }
 
 // One read into buffer from place at on. What came before stays.
-fn read_on(buffer: &mut [u8], at: usize) -> Input
+fn read_on<R: Read>(input: &mut R, buffer: &mut [u8], at: usize) -> Input
     requires { at ≤ length buffer.old }
     ensures within { Within (length buffer.old - at) result }
     ensures buffer_value { take at buffer.new ≡ take at buffer.old }
 {
     let rest: &mut [u8] = &mut buffer[at..];
-    let got = libc::read(STDIN_FILENO, rest);
-    if got < 0 {
-        return Input::Failed;
+    match input.read(rest) {
+        Ok(got) => Input::Came(got),
+        Err(_) => Input::Failed,
     }
-    Input::Came(io::count(got, rest))
 }
 
 // Reads until the input ends, the buffer is full or a read fails.
-fn read_all(buffer: &mut [u8]) -> Input
+fn read_all<R: Read>(input: &mut R, buffer: &mut [u8]) -> Input
     ensures { Within (length buffer.old) result }
 {
     let mut at = 0;
     while at < buffer.len() {
-        let Input::Came(more) = read_on(buffer, at) else {
+        let Input::Came(more) = read_on(input, buffer, at) else {
             return Input::Failed;
         };
         if more == 0 {
@@ -49,17 +49,17 @@ fn read_all(buffer: &mut [u8]) -> Input
 }
 
 // The listing, or nothing of a listing: an input that is longer than the limit, or that could not be read to its end, is not listed.
-fn main() {
+fn main(rt: HostRuntime) -> io::Result<()> {
     let mut buffer = [0u8; LIMIT + 1];
-    let Input::Came(n) = read_all(&mut buffer) else {
-        io::write_all(STDOUT_FILENO, b"unreadable\n");
-        return;
+    let mut input = rt.stdin();
+    let mut output = io::writer(&rt);
+    let Input::Came(n) = read_all(&mut input, &mut buffer) else {
+        return output.write_all(b"unreadable\n");
     };
     if LIMIT < n {
-        io::write_all(STDOUT_FILENO, b"too long\n");
-        return;
+        return output.write_all(b"too long\n");
     }
     let mut text = [0u8; listing::MOST];
     let end = listing::put_listing(&buffer[..n], &mut text);
-    io::write_all(STDOUT_FILENO, &text[..end]);
+    output.write_all(&text[..end])
 }
