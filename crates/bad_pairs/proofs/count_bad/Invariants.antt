@@ -1,13 +1,9 @@
 -- `count_bad` meets its contract: what is counted and what is still to be counted make the whole.
 -- Assumes nothing.
-use Prim.Native.Nat.{ℕ, ◌+◌, ◌-◌, ◌≤◌}
-use mathlib.Core.Path.{◌≡◌, ap, sym, ◌∙◌}
-use mathlib.Core.Logic.{⊎_elim}
-use native.Mathlib.Omega.{arith}
+use Prim.Native.Nat.{◌+◌, ◌-◌, ◌≤◌}
+use mathlib.Core.Path.{◌≡◌}
 use lib.ListN.{length, drop}
-use lib.Seq.{drop-length}
 use Rattle.bad_pairs.specs.BadPairs.{bad_pairs}
-use Rattle.bad_pairs.specs.Laws.{counted, passed}
 use Rattle.bad_pairs.proofs.count_bad.Given as goal
 
 abbrev pub invariant-loop-k : goal.invariant-loop-k
