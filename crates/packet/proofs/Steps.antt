@@ -16,7 +16,7 @@ use Rattle.bits.specs.Laws.{field_value, take_field, field_part, value_field, le
 use Rattle.crc.specs.Crc.{Rem, code, coded, none, fed_all, right}
 use Rattle.crc.specs.Laws.{fed_append}
 use Rattle.crc.proofs.Register.{coded_code, right_test}
-use Rattle.packet.specs.Packet.{second_bits, frame, indices, apart}
+use Rattle.packet.specs.Packet.{second_bits, indices, apart}
 use Rattle.packet.specs.Laws.{total_widths}
 
 -- ---- reading: bits of a word
