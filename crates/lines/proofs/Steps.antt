@@ -1,8 +1,7 @@
 -- The last step of each function: its texts, one behind the other.
 -- Assumes nothing.
-use mathlib.Core.Path.{◌≡◌, subst, ap₂, ◌∙◌}
-use mathlib.Core.List.{List, ◌++◌, append_assoc}
-use Prim.Native.Nat.{ℕ, ◌+◌, ◌*◌, ◌≤◌}
+use mathlib.Core.List.{List}
+use Prim.Native.Nat.{ℕ, ◌+◌, ◌≤◌}
 use native.Mathlib.Omega.{arith}
 use lib.ListN.{length, get_or}
 use Rattle.text.specs.Text.{note_digits, decimal, Put}
