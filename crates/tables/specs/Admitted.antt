@@ -1,6 +1,6 @@
 -- What turns the tables away, and when: `admission` says exactly whether they are right, and else which refusal is theirs.
 -- Assumes nothing.
-use Rattle.std.specs.Prelude.{ℕ, ◌<◌, ◌≡◌, Bool, not, ◌↔◌, pos, length, T}
+use Rattle.std.specs.Prelude.{ℕ, ◌≡◌, Bool, not, ◌↔◌, pos, length, T}
 use Rattle.std.proofs.Math.Path.{refl}
 use Rattle.std.proofs.Common.{sym, ap, subst, ◌∙◌, arith}
 use Rattle.std.proofs.Math.Bool.{true, false}
