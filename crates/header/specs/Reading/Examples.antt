@@ -8,7 +8,7 @@ use Rattle.std.specs.Int.Count.{ones, ones_in}
 use Rattle.polynomials.specs.Light.{ones_in_lem}
 use Rattle.header_code.specs.Code.{codeword, flips_to}
 use Rattle.header_code.specs.Code.Examples.{of_octets, count_1}
-use Rattle.header.specs.Reading.{decoded_as, reading_up_to, reading}
+use Rattle.header.specs.Reading.{reading_up_to, reading}
 use Rattle.header.specs.Reading.Laws.{near_upto, beyond_upto, near, lost_at_three}
 use Rattle.header.specs.declared.Decoded.{Decoded}
 use Rattle.header.specs.declared.Header.TheVariants.{Codeword, Lost}
