@@ -1,7 +1,7 @@
 -- The steps by which the code notes a header.
 -- Assumes nothing.
 use Prim.Native.Nat.{ℕ, ◌+◌, ◌%◌, ◌≤◌}
-use mathlib.Core.Path.{◌≡◌}
+use mathlib.Core.Path.{◌≡◌, refl}
 use mathlib.Core.Bool.{Bool, true, false}
 use lib.Dec.{eqb}
 use native.Mathlib.Omega.{arith}
@@ -34,6 +34,7 @@ pub note_sum : (c k s t : ℕ) (d : Decoded) (h : Header) → h ≡ Codeword d �
 unfolding step_note common_note header_note
 note_sum c k s t d h e es et = rw (e, es, et)
 
-pub note_lost : (c k : ℕ) (h : Header) → h ≡ Lost → 3 ≡ header_note c k h
+pub note_lost : (c k : ℕ) (h : Header) → ((d : Decoded) → h ≡ Codeword d → ⊥) → 3 ≡ header_note c k h
 unfolding header_note
-note_lost c k h e = rw e
+note_lost c k Lost n = refl
+note_lost c k (Codeword d) n = absurd (n d refl)
