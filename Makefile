@@ -47,7 +47,7 @@ WARN := -std=gnu11 -Wall -Wextra -Werror -Ic
 PYTHON := /usr/bin/python3
 CARGO := cargo
 INDEPENDENT := checks/independent/target/release
-RATTLE := crates.txt $(shell find crates -name '*.rt' -o -name '*.antt')
+RATTLE := crates.txt $(shell find crates -path '*/out' -prune -o \( -name '*.rt' -o -name '*.antt' \) -print)
 FUZZ_SECONDS := 20
 
 PREFIX := /usr/local
@@ -131,11 +131,12 @@ packages:
 
 # --- the proved code, compiled
 
-# rt proves, and compiles for x86-64. The same module, proved once more, goes to the same compiler for both (tools/compile); that the
+# rt proves, and compiles for x86-64. The same crate, proved once more, is compiled by the same words for both (tools/compile); that the
 # archive for x86-64 comes out as rt's own is a check (twin).
 target/staticlib/libdsr.a: $(RATTLE)
-	@tools/prove staticlib dsr
-	@touch $@
+	@tools/prove library dsr
+	@mkdir -p $(@D)
+	@cp crates/dsr/out/libdsr.a $@
 
 target/lib/x86_64/libdsr.a: target/staticlib/libdsr.a
 	@mkdir -p $(@D)
@@ -157,8 +158,9 @@ $(SHARED): $(ARCHIVE) c/dsr.map
 	@ln -sf $(SONAME) $(MADE)/libdsr.so
 
 target/bin/dsrlist: $(RATTLE)
-	@tools/prove check dsrlist
-	@touch $@
+	@tools/prove program dsrlist
+	@mkdir -p $(@D)
+	@cp crates/dsrlist/out/dsrlist $@
 
 target/bin/x86_64/dsrlist: target/bin/dsrlist
 	@.ci/packages x86_64
@@ -169,10 +171,11 @@ target/compiled/aarch64/dsrlist.o: target/bin/dsrlist tools/compile
 	@echo 'compiling dsrlist for aarch64'
 	@tools/compile dsrlist target/compiled >target/compiling-dsrlist.log 2>&1 || { tail -n 20 target/compiling-dsrlist.log; exit 1; }
 
-target/bin/aarch64/dsrlist: target/compiled/aarch64/dsrlist.o
+# What the kit's C tells a program besides the C library is there for x86-64 alone.
+target/bin/aarch64/dsrlist: target/compiled/aarch64/dsrlist.o tools/errno.c
 	@.ci/packages aarch64
 	@mkdir -p $(@D)
-	@$(TOOLS)gcc $(STATIC) $< -o $@
+	@$(TOOLS)gcc $(STATIC) $^ -o $@
 
 # The tool over the proved library. cargo knows best what has changed.
 .PHONY: rust-tool
