@@ -1,11 +1,11 @@
 -- What a reader of 01 would ask of `source` and `replaced`.
 -- Assumes nothing.
 use Prim.Native.Nat.{ℕ, zero, suc, ◌+◌, ◌-◌, ◌*◌, ◌/◌, ◌%◌, ◌≤◌, ◌<◌}
-use Rattle.std.specs.Prelude.{◌≡◌, ◌⊎◌, List, [], ◌∷◌, ◌++◌, Bool, true, false, drop, ltb, eqb}
+use Rattle.std.specs.Prelude.{◌≡◌, ◌⊎◌, List, [], ◌∷◌, Bool, true, false, drop, ltb, eqb}
 use Rattle.std.proofs.Math.Path.{refl, ap, sym}
-use Rattle.std.proofs.Common.{◌∙◌, inl, inr, length-drop, length-append, drop-cons, get_or-append-add, add-one}
+use Rattle.std.proofs.Common.{◌∙◌, inl, inr, length-drop, drop-cons, add-one}
 use Rattle.std.proofs.Math.Logic.{⊎_elim}
-use Rattle.std.proofs.Math.ListN.{length, get_or, get_or-append}
+use Rattle.std.proofs.Math.ListN.{length, get_or}
 use Rattle.std.proofs.Math.Seq.{drop-length, ext_get_or, get_or-drop, get_or-take}
 use Rattle.std.proofs.Math.Decide.{dec_lt, ℕ_discrete}
 use native.Mathlib.Omega.{arith}
