@@ -3,7 +3,8 @@
 use Rattle.std.specs.Prelude.{◌≡◌, refl, ℕ, ◌+◌, ◌*◌, ◌^◌, ◌<◌}
 use Rattle.std.proofs.Common.{sym, ap, ◌∙◌, mod-eq_of_lt, arith, lit<}
 use Rattle.std.specs.Int.Bits.{bit_xor}
-use Rattle.polynomials.specs.Quotient.{product, product_more, quotient_remainder, quotient_lt, remainder_unique}
+use Rattle.polynomials.specs.Quotient.{product}
+use Rattle.polynomials.proofs.QuotientLaws.{product_more, quotient_remainder, quotient_lt, remainder_unique}
 use Rattle.header_code.specs.Code.{generator, parity}
 use Rattle.header_code.specs.Code.Parity.{parity_lt}
 
