@@ -1,22 +1,20 @@
 -- What an accepted utterance has, and that its image is the image of no other (01, "Writing").
 -- Assumes nothing.
-use Rattle.std.specs.Prelude.{◌≡◌, refl, Bool, true, false, List, ℕ, zero, suc, ◌+◌, ◌-◌, ◌*◌, ◌/◌, ◌%◌, ◌^◌, ◌≤◌, ◌<◌, ltb, length, get_or}
+use Rattle.std.specs.Prelude.{◌≡◌, refl, true, false, List, ℕ, zero, suc, ◌+◌, ◌-◌, ◌*◌, ◌/◌, ◌%◌, ◌^◌, ◌≤◌, ◌<◌, ltb, length, get_or}
 use Rattle.std.proofs.Common.{sym, ap, ◌∙◌, subst, arith, pow_pos, ext_get_or, ltb-false}
 use Rattle.std.proofs.Math.Decide.{ℕ_discrete, dec_lt}
 use Rattle.std.proofs.Math.ListN.{get_or-eq_default}
-use Rattle.std.proofs.lemmas.Bool.{eqb-false}
 use Rattle.lists.specs.Tests.{true_false}
-use Rattle.lists.specs.Parts.{part, over}
+use Rattle.lists.specs.Parts.{over}
 use Rattle.lists.specs.Search.{Search, at, nowhere, first_from, is_found, first_nowhere}
 use Rattle.settings.specs.declared.Settings.{Settings}
 use Rattle.settings.specs.Settings.{settings_right, rate_right, kind_right, right_not_2}
-use Rattle.layout.specs.Layout.{widths, frame_indices, most_narrow, multiframe_frames, multiframe_pairs, multiframe_octets, header_octets, stream_octets, first_frame, second_frame, multiframe_of, first_pair, sync}
+use Rattle.layout.specs.Layout.{widths, frame_indices, most_narrow, multiframe_frames, multiframe_pairs, first_frame, second_frame}
 use Rattle.frames.specs.Frames.{Nonzero, unzero}
-use Rattle.bits.specs.Bits.{field, octets, Fits}
-use Rattle.packet.specs.Packet.{stream, packet_of, frame_at}
-use Rattle.packet.specs.Laws.{stream_part, length_stream, fits_frame, get_or_row, packet_of_same}
-use Rattle.header_code.specs.Code.{codeword}
-use Rattle.header_code.specs.Code.Distance.{codeword_lt, codeword_low}
+use Rattle.bits.specs.Bits.{Fits}
+use Rattle.packet.specs.Packet.{packet_of, frame_at}
+use Rattle.packet.specs.Laws.{fits_frame, get_or_row, packet_of_same}
+use Rattle.header_code.specs.Code.Distance.{codeword_low}
 use Rattle.message.specs.Message.{message, settings_of}
 use Rattle.message.specs.Message.Laws.{message_lt, settings_back}
 use Rattle.image.specs.Image.{image}

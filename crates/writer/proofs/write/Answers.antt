@@ -1,0 +1,30 @@
+-- What was decided is finished: written in full, or left as it came. Assumes nothing.
+use mathlib.Core.Path.{sym}
+use native.Mathlib.Omega.{arith}
+use lib.ListN.{length}
+use Rattle.writer.specs.Laws.{accepted, few_multiframes}
+use Rattle.writer.proofs.Places.{in_numbers}
+use Rattle.writer.proofs.Steps.{finishes, leaves}
+use Rattle.writer.proofs.write.Goals as goal
+
+pub put_image-requires : goal.put_image-requires
+put_image-requires c =
+    let h = accepted c.args.settings c.args.indices.now (length c.args.out.now) _ (sym c.in-Written.ensures) in
+    let m = few_multiframes c.args.settings c.args.indices.now h.sizes in
+    record {
+      frame_indices_len = (h.sizes.whole, omega (arith, h.octets_needed, m));
+      m_in_bounds = omega (arith, h.octets_needed, h.room);
+    }
+
+pub returns-in-Written : goal.returns-in-Written
+returns-in-Written c =
+    let n = in_numbers c.args.settings c.args.indices.now c.args.out.now (omega arith)
+    (finishes c.args.settings c.args.indices.now c.args.out.now _ _ (sym c.in-Written.ensures)
+    c.put_image.ensures) in
+    record { all = n.0; number = n.1.0; place = n.1.1.0; fits = n.1.1.1 }
+
+pub returns-in-Refused : goal.returns-in-Refused
+returns-in-Refused c =
+    let n = in_numbers c.args.settings c.args.indices.now c.args.out.now (omega arith)
+    (leaves c.args.settings c.args.indices.now c.args.out.now _ (sym c.in-Refused.ensures)) in
+    record { all = n.0; number = n.1.0; place = n.1.1.0; fits = n.1.1.1 }
