@@ -19,7 +19,7 @@ use Rattle.writer.specs.declared.Answer as WA
 use Rattle.writer.specs.declared.Answer.TheVariants.{Written}
 use Rattle.writer.specs.declared.Answer.TheVariants as WV
 use Rattle.refusals.specs.Refusals.{no_room, reading_number, reading_place, hunting_number, hunting_place}
-use Rattle.refusals.specs.Laws.{writing_no_success, reading_no_success, hunting_no_success}
+use Rattle.refusals.proofs.Laws.{writing_no_success, reading_no_success, hunting_no_success}
 use Rattle.reader.specs.Reading as R
 use Rattle.reader.specs.Reading.{reading}
 use Rattle.reader.specs.declared.Summary.{Summary}

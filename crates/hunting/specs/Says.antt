@@ -32,7 +32,8 @@ use Rattle.gathering.specs.Laws.{Among, Overlapped, Apart, Ends, taken, apart, a
 use Rattle.gathering.specs.Says.{NonePasses, Tested, tested_says, none_found, nothing_found, Beyond, many_says}
 use Rattle.hunting.specs.Hunting.{with_counts, counted, Outcome, outcome, reading_by, reading_found, hunting_reading}
 use Rattle.refusals.specs.Refusals.{reading_number, hunting_number, hunting_place}
-use Rattle.refusals.specs.Laws.{hunting_tested, hunting_of, hunting_one_case}
+use Rattle.refusals.specs.Laws.{hunting_tested, hunting_of}
+use Rattle.refusals.proofs.Laws.{hunting_one_case}
 use Rattle.hunting.specs.declared.Counted.{Counted}
 use Rattle.refusals.specs.declared.Hunting.{Hunting as Refusal}
 use Rattle.refusals.specs.declared.Hunting.TheVariants.{Octets, MatchRange, Nowhere, TooMany}

@@ -14,7 +14,7 @@ use Rattle.choices.specs.declared.Choices.{Choices}
 use Rattle.choices.specs.declared.Asked.{Asked}
 use Rattle.choices.specs.declared.Asked.TheVariants.{For, NoSuchChoice}
 use Rattle.tables.specs.Tables.{Tables, RightTables}
-use Rattle.refusals.specs.Laws.{reading_no_success}
+use Rattle.refusals.proofs.Laws.{reading_no_success}
 use Rattle.refusals.specs.Refusals.{no_such_choice, no_room, reading_number, reading_place}
 use Rattle.refusals.specs.declared.Reading.{Reading as Refusal}
 use Rattle.refusals.specs.declared.Reading.TheVariants.{WrongTables, NegativeThreshold, Unknown, CutShort, Empty, TooMany, Unsettled, Unfit, IndexShort, ReportShort, AllBad}
