@@ -9,7 +9,7 @@ use lib.ListN.{length, take, drop}
 use lib.Seq.{take-add, drop-drop}
 use Rattle.lists.specs.Parts.{part, over, over_none, behind, length_part}
 use Rattle.bits.specs.Bits.{field, value, bits, octets, numbers}
-use Rattle.bits.specs.Laws.{length_bits, field_low, field_value, octets_append, length_octets, in_word}
+use Rattle.bits.proofs.Laws.{length_bits, field_low, field_value, octets_append, length_octets, in_word}
 
 module _ (s : List ℕ) (from : ℕ) where
   abbrev pub copied : ℕ → List ℕ

@@ -13,7 +13,7 @@ use lib.ListN.{length, length-drop, take, drop, get_or, set, take-append-drop}
 use lib.Seq.{drop-append-add, take-append-le, drop-append-le, length-take-le, split_at, drop-drop, take-add}
 use Rattle.lists.specs.Parts.{part, over, over_over, length_over, set_over}
 use Rattle.bits.specs.Bits.{field, value, bits, octets, numbers}
-use Rattle.bits.specs.Laws.{length_field, field_add, take_field, field_part, value_field, value_lt, value_append, length_bits, bits_append, bits_cons, length_octets, octets_append}
+use Rattle.bits.proofs.Laws.{length_field, field_add, take_field, field_part, value_field, value_lt, value_append, length_bits, bits_append, bits_cons, length_octets, octets_append}
 
 part_inside : (p q r : List Bool) (k w : ℕ) → k + w ≤ length q → part (length p + k) w (p ++ (q ++ r)) ≡ part k w q
 part_inside p q r k w h =

@@ -7,7 +7,7 @@ use Rattle.std.proofs.lemmas.Nat.{and_mask}
 use Rattle.lists.specs.Parts.{part, length_part}
 use Rattle.layout.specs.Layout.{packet_bits, multiframe_pairs, multiframe_octets, sync_octets, stream_octets, first_pair, packet_start}
 use Rattle.bits.specs.Bits.{value, bits}
-use Rattle.bits.specs.Laws.{in_word, bits_part}
+use Rattle.bits.proofs.Laws.{in_word, bits_part}
 use Rattle.carrier.specs.Carrier.{header_word, stream_from, stream_at, stream_packet, packet_at}
 
 -- ---- a header's word is the low half of eight octets

@@ -13,7 +13,7 @@ use borrow.Author.Tests.{eq-eqb}
 use lib.ListN.{length}
 use Rattle.lists.specs.Tests.{all, all_holds, not_same, true_false}
 use Rattle.bits.specs.Bits.{value, field, odd}
-use Rattle.bits.specs.Laws.{value_lt, value_field, field_value, field_add, field_low}
+use Rattle.bits.proofs.Laws.{value_lt, value_field, field_value, field_add, field_low}
 use Rattle.crc.specs.Crc.{Rem, rem, none, sent, fed, fed_all, code, coded, right}
 use Rattle.crc.specs.Laws.{fed_append, right_fed, right_true}
 

@@ -8,7 +8,7 @@ use Rattle.std.proofs.lemmas.Nat.{xor_lt, ones-le}
 use Rattle.std.specs.Int.Count.{ones}
 use Rattle.layout.specs.Layout.{data_bits, multiframe_pairs, multiframe_octets}
 use Rattle.bits.specs.Bits.{bits}
-use Rattle.bits.specs.Laws.{length_bits, value_lt}
+use Rattle.bits.proofs.Laws.{length_bits, value_lt}
 use Rattle.crc.specs.Crc.{Damaged, right}
 use Rattle.packet.specs.Packet.{packet_of}
 use Rattle.packet.specs.Laws.{packet_of_good, packet_of_damaged}

@@ -16,7 +16,7 @@ use Rattle.layout.specs.Layout.{widths, frame_indices, pair_indices, data_bits, 
 use Rattle.settings.specs.declared.Settings.{Settings}
 use Rattle.frames.specs.Frames.{zero_frame, all_zero_at}
 use Rattle.bits.specs.Bits.{bits, total}
-use Rattle.bits.specs.Laws.{length_bits, length_numbers}
+use Rattle.bits.proofs.Laws.{length_bits, length_numbers}
 use Rattle.crc.specs.Crc.{Right}
 use Rattle.packet.specs.Packet.{indices, packet, apart, frame_at, packet_of, stream}
 use Rattle.packet.specs.Laws.{total_widths, packet_92, length_row, get_or_row}

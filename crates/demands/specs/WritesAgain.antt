@@ -15,7 +15,7 @@ use Rattle.layout.specs.Layout.{widths, frame_indices, data_bits, packet_bits, m
 use Rattle.choices.specs.declared.Choices.{Choices}
 use Rattle.tables.specs.Tables.{Tables}
 use Rattle.bits.specs.Bits.{bits}
-use Rattle.bits.specs.Laws.{length_bits}
+use Rattle.bits.proofs.Laws.{length_bits}
 use Rattle.crc.specs.Crc.{Right, right}
 use Rattle.crc.specs.Laws.{right_true}
 use Rattle.packet.specs.Packet.{apart, packet_of}

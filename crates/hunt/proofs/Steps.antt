@@ -19,7 +19,7 @@ use Rattle.polynomials.specs.Xor.{digit, low}
 use Rattle.lists.specs.Tests.{both, true_false}
 use Rattle.lists.specs.Parts.{part, length_part}
 use Rattle.bits.specs.Bits.{field, value, bits}
-use Rattle.bits.specs.Laws.{length_bits, length_field, field_value, in_word}
+use Rattle.bits.proofs.Laws.{length_bits, length_field, field_value, in_word}
 use Rattle.header.specs.Reading.{reading}
 use Rattle.hunt.specs.Hunt.{sync_bits, multiframe_bits, sync, fewest_matches, in_range, alike, matches, readable, passes, head_passes, at_once, fewest_off, all_far, searched, places_left, misses, found, hunted_from, hunted}
 use Rattle.hunt.specs.Laws.{searched_le, misses_none, misses_hit, misses_on}

@@ -9,7 +9,7 @@ use Rattle.std.proofs.Math.Bool.{true, false}
 use native.Mathlib.Omega.{arith}
 use Rattle.std.proofs.Math.Decide.{dec_lt}
 use Rattle.bits.specs.Bits.{bits}
-use Rattle.bits.specs.Laws.{length_bits}
+use Rattle.bits.proofs.Laws.{length_bits}
 use Rattle.lists.specs.Tests.{when, both, by_test, true_false}
 use Rattle.hunt.specs.Hunt.{multiframe_bits, in_range, passes, places_left, searched, misses, found, hunted_from, hunted}
 use Rattle.hunt.specs.declared.Hunted.{Hunted}

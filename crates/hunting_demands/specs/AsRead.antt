@@ -10,7 +10,7 @@ use Rattle.layout.specs.Layout.{sync_octets, header_octets, stream_octets, multi
 use Rattle.choices.specs.declared.Choices.{Choices}
 use Rattle.tables.specs.Tables.{Tables, RightTables}
 use Rattle.bits.specs.Bits.{value, bits}
-use Rattle.bits.specs.Laws.{length_bits, bits_part}
+use Rattle.bits.proofs.Laws.{length_bits, bits_part}
 use Rattle.header.specs.Reading.{reading}
 use Rattle.hunt.specs.Hunt.{fewest_matches, sync_bits, header_bits, multiframe_bits, sync, matches, passes, searched}
 use Rattle.reader.specs.Reading as R

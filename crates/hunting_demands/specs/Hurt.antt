@@ -13,7 +13,7 @@ use Rattle.layout.specs.Layout.{multiframe_pairs, stream_octets, most_multiframe
 use Rattle.choices.specs.declared.Choices.{Choices}
 use Rattle.tables.specs.Tables.{Tables}
 use Rattle.bits.specs.Bits.{bits}
-use Rattle.bits.specs.Laws.{bits_octets}
+use Rattle.bits.proofs.Laws.{bits_octets}
 use Rattle.packet.specs.Packet.{stream}
 use Rattle.packet.specs.Laws.{length_stream}
 use Rattle.header_code.specs.Code.{codeword, flips_to}

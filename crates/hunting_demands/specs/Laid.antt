@@ -8,7 +8,7 @@ use Rattle.lists.specs.Parts.{part, part_left, part_right}
 use Rattle.lists.specs.Rows.{joined, length_joined, joined_part}
 use Rattle.layout.specs.Layout.{multiframe_octets}
 use Rattle.bits.specs.Bits.{field, value, bits, octets}
-use Rattle.bits.specs.Laws.{length_field, value_field, bits_octets}
+use Rattle.bits.proofs.Laws.{length_field, value_field, bits_octets}
 use Rattle.hunt.specs.Hunt.{sync_bits, header_bits, multiframe_bits}
 use Rattle.image.specs.Made.{part_within}
 use Rattle.hunting_demands.specs.Standing.{place_in_row, stream_bits, sync_at, word_at, stream_at}

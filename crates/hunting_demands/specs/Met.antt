@@ -16,7 +16,7 @@ use Rattle.choices.specs.Choices.{one_settles}
 use Rattle.choices.specs.declared.Choices.{Choices}
 use Rattle.tables.specs.Tables.{Tables, zero_tables}
 use Rattle.bits.specs.Bits.{field, fields, bits, octets}
-use Rattle.bits.specs.Laws.{length_bits, bits_part, bits_octets}
+use Rattle.bits.proofs.Laws.{length_bits, bits_part, bits_octets}
 use Rattle.crc.specs.Crc.{flip}
 use Rattle.hunt.specs.Hunt.{sync_bits, multiframe_bits, fewest_matches, sync, matches, passes, searched}
 use Rattle.hunt.specs.Laws.{searched_all}

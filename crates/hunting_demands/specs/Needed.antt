@@ -19,7 +19,7 @@ use Rattle.tables.specs.Tables.{Tables, RightTables, zero_tables}
 use Rattle.tables.specs.Admitted.{right_passes}
 use Rattle.settings.specs.Settings.{settings}
 use Rattle.bits.specs.Bits.{field, fields, value, bits}
-use Rattle.bits.specs.Laws.{length_field, length_bits}
+use Rattle.bits.proofs.Laws.{length_field, length_bits}
 use Rattle.carrier.specs.Carrier.{stream_packet}
 use Rattle.cutting.specs.Laws.{every_length}
 use Rattle.crc.specs.Crc.{flip}

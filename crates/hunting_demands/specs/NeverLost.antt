@@ -10,7 +10,7 @@ use Rattle.layout.specs.Layout.{sync_octets, header_octets, multiframe_octets, r
 use Rattle.choices.specs.declared.Choices.{Choices}
 use Rattle.tables.specs.Tables.{Tables}
 use Rattle.bits.specs.Bits.{field, value, bits}
-use Rattle.bits.specs.Laws.{length_field, value_field, value_lt, bits_octets}
+use Rattle.bits.proofs.Laws.{length_field, value_field, value_lt, bits_octets}
 use Rattle.header.specs.Reading.{ReadAs, reading}
 use Rattle.header.specs.Reading.Laws.{reads}
 use Rattle.header.specs.declared.Header.{Header}

@@ -15,7 +15,7 @@ use Rattle.choices.specs.declared.Choices.{Choices}
 use Rattle.tables.specs.Tables.{Tables, RightTables}
 use Rattle.tables.specs.Admitted.{right_passes}
 use Rattle.bits.specs.Bits.{field, fields, value, bits, octets}
-use Rattle.bits.specs.Laws.{field_value, value_lt, bits_octets, octets_append}
+use Rattle.bits.proofs.Laws.{field_value, value_lt, bits_octets, octets_append}
 use Rattle.header.specs.Reading.{reading}
 use Rattle.header.specs.declared.Decoded.{Decoded}
 use Rattle.header.specs.declared.Header.{Header}

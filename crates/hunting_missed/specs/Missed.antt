@@ -20,7 +20,7 @@ use Rattle.tables.specs.Tables.{Tables, zero_tables}
 use Rattle.settings.specs.Settings.{settings}
 use Rattle.frames.specs.Frames.{zero_frame}
 use Rattle.bits.specs.Bits.{field, fields, value, laid, numbers, bits, octets}
-use Rattle.bits.specs.Laws.{length_bits}
+use Rattle.bits.proofs.Laws.{length_bits}
 use Rattle.carrier.specs.Carrier.{stream_packet}
 use Rattle.crc.specs.Crc.{after, crc}
 use Rattle.packet.specs.Packet.{guarded, packet, row, packet_of, stream}

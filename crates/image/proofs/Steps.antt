@@ -10,7 +10,7 @@ use Rattle.lists.specs.Parts.{over, over_none, behind}
 use Rattle.settings.specs.declared.Settings.{Settings}
 use Rattle.layout.specs.Layout.{multiframe_pairs, multiframe_octets, sync_octets, header_octets, stream_octets, first_pair, sync, sync_word}
 use Rattle.bits.specs.Bits.{field, octets, numbers, value}
-use Rattle.bits.specs.Laws.{length_octets}
+use Rattle.bits.proofs.Laws.{length_octets}
 use Rattle.packet.specs.Packet.{stream}
 use Rattle.header_code.specs.Code.{codeword}
 use Rattle.message.specs.Message.{message}

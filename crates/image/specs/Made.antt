@@ -9,7 +9,7 @@ use Rattle.lists.specs.Parts.{part, part_left, length_part}
 use Rattle.lists.specs.Rows.{joined, length_joined, joined_part, same_joined}
 use Rattle.layout.specs.Layout.{packet_bits, multiframe_pairs, multiframe_octets, sync_octets, header_octets, stream_octets, multiframe_of, packet_start, sync}
 use Rattle.bits.specs.Bits.{value, bits, field, octets, Fits}
-use Rattle.bits.specs.Laws.{length_octets, length_field, value_field, field_value, length_bits, bits_octets, octets_bits, fits_numbers}
+use Rattle.bits.proofs.Laws.{length_octets, length_field, value_field, field_value, length_bits, bits_octets, octets_bits, fits_numbers}
 use Rattle.carrier.specs.Carrier.{sync_from, header_from, word_at, stream_at, stream_packet, packet_at, in_row}
 
 -- ---- multiframes one behind the other in octets: the sync and the header word of multiframe k, and the packet of pair q

@@ -19,7 +19,7 @@ use Rattle.carrier.specs.Carrier.{stream_at, stream_packet, in_places, received,
 use Rattle.carrier.specs.Laws.{length_stream, packet_inside, packet_of_lem}
 use Rattle.crc.specs.Crc.{right}
 use Rattle.bits.specs.Bits.{bits, numbers, total, Fits}
-use Rattle.bits.specs.Laws.{fits_numbers, length_numbers}
+use Rattle.bits.proofs.Laws.{fits_numbers, length_numbers}
 use Rattle.packet.specs.Packet.{apart}
 use Rattle.consistency.specs.Consistency.{inconsistent, InRange}
 use Rattle.bad_pairs.specs.BadPairs.{bad, note_by, undecided_by, notes_from, notes, bad_pairs}

@@ -11,7 +11,7 @@ use Rattle.lists.specs.Rows.{each, length_each, each_at, length_joined, joined_p
 use Rattle.layout.specs.Layout.{widths, pair_indices}
 use Rattle.tables.specs.Tables.{Tables}
 use Rattle.bits.specs.Bits.{total}
-use Rattle.bits.specs.Laws.{length_numbers}
+use Rattle.bits.proofs.Laws.{length_numbers}
 use Rattle.packet.specs.Packet.{apart}
 use Rattle.bad_pairs.specs.Laws.{notes_length, no_failed_no_bad}
 use Rattle.notes.specs.Notes.{pair_fails, frames_of, all_frames, pair_inconsistent, pair_notes}

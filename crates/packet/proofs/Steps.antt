@@ -12,7 +12,7 @@ use lib.Seq.{take-add, drop-drop, length-take-le, drop_at}
 use Rattle.lists.specs.Parts.{part, over, over_none, over_over, length_over, set_over, behind, length_part}
 use Rattle.layout.specs.Layout.{widths, frame_indices, frame_bits, most_narrow, pair_indices, data_bits, packet_bits}
 use Rattle.bits.specs.Bits.{bits, field, value, numbers, total}
-use Rattle.bits.specs.Laws.{field_value, take_field, field_part, value_field, length_numbers, numbers_more, numbers_front, total_same, joined, in_word}
+use Rattle.bits.proofs.Laws.{field_value, take_field, field_part, value_field, length_numbers, numbers_more, numbers_front, total_same, joined, in_word}
 use Rattle.crc.specs.Crc.{Rem, code, coded, none, fed_all, right}
 use Rattle.crc.specs.Laws.{fed_append}
 use Rattle.crc.proofs.Register.{coded_code, right_test}

@@ -12,7 +12,7 @@ use Rattle.std.proofs.Math.Seq.{take_at, drop_at}
 use Rattle.lists.specs.Parts.{part, part_left, part_right}
 use Rattle.layout.specs.Layout.{widths, frame_indices, frame_bits, data_bits, packet_bits, crc_bits, stream_octets, multiframe_pairs, first_frame, second_frame}
 use Rattle.bits.specs.Bits.{bits, octets, total, Fits}
-use Rattle.bits.specs.Laws.{length_laid, numbers_laid, laid_numbers, numbers_front, fits_each, bits_octets}
+use Rattle.bits.proofs.Laws.{length_laid, numbers_laid, laid_numbers, numbers_front, fits_each, bits_octets}
 use Rattle.crc.specs.Crc.{crc, sent, Right, right, Damaged}
 use Rattle.crc.specs.Laws.{length_sent, right_true}
 use Rattle.crc.specs.Damage.{damage_named, damage_apart}

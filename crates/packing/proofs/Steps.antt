@@ -13,7 +13,7 @@ use lib.Pow.{pow_pos, pow_mono, shr_lt}
 use lib.ListN.{length, get_or, replicate, length-replicate, replicate-append-replicate}
 use Rattle.layout.specs.Layout.{widths, frame_indices, frame_bits, most_narrow, first_frame, second_frame}
 use Rattle.bits.specs.Bits.{field, value, laid}
-use Rattle.bits.specs.Laws.{field_value, field_add, field_low, value_lt, length_laid, laid_append, laid_one, total_same, joined, joined_lt, word_add}
+use Rattle.bits.proofs.Laws.{field_value, field_add, field_low, value_lt, length_laid, laid_append, laid_one, total_same, joined, joined_lt, word_add}
 use Rattle.crc.specs.Crc.{Rem, crc, code, coded, none, sent, fed_all}
 use Rattle.crc.specs.Laws.{crc_fed, length_sent}
 use Rattle.crc.proofs.Register.{code_lt}

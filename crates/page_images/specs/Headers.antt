@@ -8,7 +8,7 @@ use Rattle.polynomials.specs.Light.{ones_in_lem}
 use Rattle.layout.specs.Layout.{header_octets, stream_octets, first_pair, multiframe_pairs}
 use Rattle.settings.specs.Settings.{settings}
 use Rattle.bits.specs.Bits.{numbers, value, field, octets}
-use Rattle.bits.specs.Laws.{take_field, drop_field, value_field}
+use Rattle.bits.proofs.Laws.{take_field, drop_field, value_field}
 use Rattle.packet.specs.Packet.{stream}
 use Rattle.header_code.specs.Code.{parity, codeword, flips_to}
 use Rattle.header_code.specs.Code.Distance.{codeword_lt, itself_near}

@@ -11,7 +11,7 @@ use lib.ListN.{length, take, drop, length-append}
 use lib.Seq.{take_at, length-take-le}
 use Rattle.lists.specs.Parts.{over, over_none, over_over, drop_over, length_over, behind}
 use Rattle.bits.specs.Bits.{field, numbers, octets}
-use Rattle.bits.specs.Laws.{length_field, field_add, octets_append, length_octets}
+use Rattle.bits.proofs.Laws.{length_field, field_add, octets_append, length_octets}
 use Rattle.packet.specs.Packet.{rest_bits, two_packets, packet_of, stream}
 use Rattle.packet.specs.Laws.{length_stream, stream_add}
 

@@ -6,7 +6,7 @@ use native.Mathlib.Omega.{arith}
 use lib.ListN.{length}
 use Rattle.layout.specs.Layout.{packet_bits, packet_start}
 use Rattle.bits.specs.Bits.{bits}
-use Rattle.bits.specs.Laws.{length_bits}
+use Rattle.bits.proofs.Laws.{length_bits}
 use Rattle.packet.proofs.Steps.{right_law}
 use Rattle.packet.proofs.is_right.Goals as goal
 

@@ -5,7 +5,7 @@ use native.Mathlib.Omega.{arith}
 use lib.ListN.{length}
 use Rattle.layout.specs.Layout.{packet_bits, packet_start}
 use Rattle.bits.specs.Bits.{bits}
-use Rattle.bits.specs.Laws.{length_bits}
+use Rattle.bits.proofs.Laws.{length_bits}
 use Rattle.packet.proofs.Steps.{apart_law}
 use Rattle.packet.proofs.take_apart.Goals as goal
 
