@@ -1,0 +1,18 @@
+-- `settle` meets its contract: one header alone is asked if no two agree, and if the caller asks for it. Assumes nothing.
+use Rattle.settling.proofs.Steps.{settled_by_two, settled_alone, settled_nothing}
+use Rattle.settling.proofs.settle.Goals as goal
+
+pub returns-in-Settled : goal.returns-in-Settled
+returns-in-Settled c =
+    let f = c.first_agreeing in
+    settled_by_two _ _ f.result f.ensures _ c.in-Settled.is
+
+pub returns-then-choices : goal.returns-then-choices
+returns-then-choices c =
+    let f = c.first_agreeing in
+    settled_alone _ _ f.result f.ensures _ c.in_default.is c.if-choices.true c.only_one.ensures
+
+pub returns : goal.returns
+returns c =
+    let f = c.first_agreeing in
+    settled_nothing _ _ f.result f.ensures c.in_default.is c.if-choices.false
