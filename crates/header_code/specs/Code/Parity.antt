@@ -1,7 +1,7 @@
 -- Parity is linear, so that of a message is put together from those of its sixteen bits: the words of matrix 6.2, read with its transpose.
 -- Assumes nothing.
 use Rattle.std.specs.Prelude.{◌≡◌, refl, Bool, List, [], ◌∷◌, ℕ, ◌+◌, ◌*◌, ◌/◌, ◌%◌, ◌^◌, ◌<◌, eqb, get_or}
-use Rattle.std.proofs.Common.{sym, ap, ap₂, ◌∙◌, mod-lt, add_comm, zero-mul, one-mul, mul-zero, mul-one, arith, eqb→eq, pow_pos, shl_exact}
+use Rattle.std.proofs.Common.{sym, ap, ◌∙◌, mod-lt, add_comm, zero-mul, one-mul, mul-zero, mul-one, arith, eqb→eq, pow_pos, shl_exact}
 use Rattle.std.specs.Int.Bits.{bit_xor, bit_or, bit_and, xor_shifted}
 use Rattle.std.proofs.lemmas.Nat.{xor_comm, and_mask, or_shifted, mod-pow-add}
 use Rattle.std.specs.Int.Count.{ones}
@@ -49,15 +49,6 @@ right i = eqb (get_or words i 0) (parity (2 ^ i))
 pub words_right : (i : ℕ) → i < 16 → get_or words i 0 ≡ parity (2 ^ i)
 unfolding words right parity remainder
 words_right i h = eqb→eq (get_or words i 0) (parity (2 ^ i)) (all_holds right 16 tt i h)
-
--- a word times a bit of the message stays below 2^15
-pub word_times_bit : (m i : ℕ) → i < 16 → get_or words i 0 * bit_and (m / 2 ^ i) 1 < 2 ^ 15
-word_times_bit m i h =
-    let e : get_or words i 0 * bit_and (m / 2 ^ i) 1 ≡ parity (2 ^ i) * (m / 2 ^ i % 2) = ap₂ ◌*◌ (words_right i h) (and_mask (m / 2 ^ i) 1) in
-    digit (λ (b : ℕ). m / 2 ^ i % 2 ≡ b → get_or words i 0 * bit_and (m / 2 ^ i) 1 < 2 ^ 15)
-    (λ z. let q = e ∙ ap (◌*◌ (parity (2 ^ i))) z ∙ mul-zero (parity (2 ^ i)) in omega arith)
-    (λ z. let q = e ∙ ap (◌*◌ (parity (2 ^ i))) z ∙ mul-one (parity (2 ^ i)) in omega (arith, parity_lt (2 ^ i)))
-    (m / 2 ^ i % 2) (low (m / 2 ^ i)) refl
 
 -- what a codeword is put together from: the message, P1 to P15 behind it, and P16
 pub codeword_packed : (m p : ℕ) → m < 2 ^ 16 → p ≡ parity m
