@@ -1,0 +1,13 @@
+-- `gather` meets its contract: each turn takes what the hunt finds (`Turns`). Assumes nothing.
+use Prim.Native.Nat.{◌-◌}
+use mathlib.Core.Path.{◌≡◌}
+use lib.ListN.{length}
+use Rattle.layout.specs.Layout.{most_multiframes}
+use Rattle.gathering.proofs.Turns.{Going}
+use Rattle.gathering.proofs.gather.Given as goal
+
+abbrev pub invariant-loop-place : goal.invariant-loop-place
+invariant-loop-place l = Going l.octets l.from l.least l.image l.m l.at l.tested × (length l.image ≡ length l.initial.image)
+
+abbrev pub decreases-loop-place : goal.decreases-loop-place
+decreases-loop-place l = most_multiframes - l.m
