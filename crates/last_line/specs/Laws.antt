@@ -6,7 +6,7 @@ use Rattle.refusals.specs.Refusals.{reading_number, reading_place}
 use Rattle.refusals.specs.declared.Reading.{Reading}
 use Rattle.reader.specs.declared.Summary.{Summary}
 use Rattle.text.specs.Text.{decimal, field}
-use Rattle.text.specs.Laws.{told}
+use Rattle.text.proofs.Laws.{told}
 use Rattle.lines.specs.Lines.{newline}
 use Rattle.last_line.specs.LastLine.{rate_word, total, refusal}
 

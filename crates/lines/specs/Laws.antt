@@ -6,7 +6,7 @@ use Rattle.std.proofs.Math.ListN.{get_or-append}
 use Rattle.lists.specs.Rows.{each, joined, length_each, each_at}
 use Rattle.layout.specs.Layout.{multiframe_pairs}
 use Rattle.text.specs.Text.{digit, decimal, decimal_small}
-use Rattle.text.specs.Laws.{told}
+use Rattle.text.proofs.Laws.{told}
 use Rattle.lines.specs.Lines.{newline, pair_text, line}
 
 -- ---- a multiframe's line
