@@ -7,7 +7,7 @@ use mathlib.Core.List.{List, [], ◌∷◌, ◌++◌, append_assoc}
 use Rattle.std.proofs.Math.Decide.{dec_lt, ℕ_discrete}
 use Rattle.lists.specs.Tests.{true_false}
 use Rattle.layout.specs.Layout.{sync_octets, multiframe_octets}
-use Rattle.bits.specs.Laws.{length_octets}
+use Rattle.bits.proofs.Laws.{length_octets}
 use Rattle.hunt.specs.Hunt.{multiframe_bits, searched, passes, hunted_from}
 use Rattle.hunt.specs.Laws.{Says, says}
 use Rattle.hunt.specs.declared.Hunted.{Hunted}
