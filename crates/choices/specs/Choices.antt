@@ -1,6 +1,6 @@
 -- What a caller may choose of a reading, one record (02, C-20), and the numbers by which it is asked for.
 -- Assumes nothing.
-use Rattle.std.specs.Prelude.{ℕ, ◌≡◌, refl, Bool, true, false, eqb}
+use Rattle.std.specs.Prelude.{ℕ, Bool, true, false, eqb}
 use Rattle.lists.specs.Tests.{when}
 use Rattle.choices.specs.declared.Choices.{Choices}
 use Rattle.choices.specs.declared.Asked.{Asked}
@@ -18,22 +18,9 @@ by_default = record { one_header_settles = false }
 abbrev pub by_one_header : Choices
 by_one_header = record { one_header_settles = true }
 
--- these are all the choices that there are
-pub default_or_asked : (P : Choices → Type 0) → P by_default → P by_one_header → (ch : Choices) → P ch
-default_or_asked P d o ch = by (one_settles ch)
-  where
-    by : (b : Bool) → P (record { one_header_settles = b })
-    by true = o
-    by false = d
-
 -- ---- the numbers (house): 0 asks for nothing, 1 for the old rule; no other names a choice
 unfoldable pub asked : ℕ → Asked
 asked n = when (eqb n 0) (For by_default) (when (eqb n 1) (For by_one_header) NoSuchChoice)
 
 abbrev pub choice_number : Choices → ℕ
 choice_number ch = when (one_settles ch) 1 0
-
--- the number of each choice asks for it
-pub asked_for : (ch : Choices) → asked (choice_number ch) ≡ For ch
-unfolding asked
-asked_for = default_or_asked (λ (ch : Choices). asked (choice_number ch) ≡ For ch) refl refl

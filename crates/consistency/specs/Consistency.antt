@@ -1,7 +1,7 @@
 -- Inconsistent pairs (01, "Reading" and "Bad pairs"; ES 201 108, (7.2) and (7.3), whose signed difference 02, C-12, makes an absolute one).
 -- Codebook and thresholds are lists of signed numbers, a frame a list of seven indices.
 -- Assumes nothing.
-use Rattle.std.specs.Prelude.{ℕ, zero, suc, ◌+◌, ◌*◌, ◌<◌, List, Bool, true, ℤ, pos, nat_abs, ◌-ℤ◌, get_or, leb}
+use Rattle.std.specs.Prelude.{ℕ, zero, suc, ◌+◌, ◌*◌, ◌<◌, List, Bool, true, ℤ, pos, negsuc, nat_abs, ◌-ℤ◌, get_or, leb}
 use Rattle.std.specs.Int.Signed.{lt_z}
 use Rattle.lists.specs.Tests.{when}
 use Rattle.layout.specs.Layout.{frame_indices}
@@ -46,3 +46,14 @@ inconsistent tables f g = leb 2 (flags tables f g frame_indices)
 -- the first six indices of a frame are below 64
 abbrev pub InRange : List ℕ → Type 0
 InRange f = (k : ℕ) → k < 6 → get_or f k 0 < 64
+
+-- how far element e of index pair c moves from entry i to entry j, up or down
+abbrev pub moved : Tables → ℕ → ℕ → ℕ → ℕ → ℕ
+moved tables c i j e = nat_abs (at tables.codebook (entry_place c j e) -ℤ at tables.codebook (entry_place c i e))
+
+-- ---- the ends of 32 bits
+abbrev pub largest : ℕ
+largest = 2147483647
+
+abbrev pub least : ℤ
+least = negsuc 2147483647

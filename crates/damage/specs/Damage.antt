@@ -11,7 +11,7 @@ use Rattle.bits.specs.Bits.{bits}
 use Rattle.bits.proofs.Laws.{length_bits, value_lt}
 use Rattle.crc.specs.Crc.{Damaged, right}
 use Rattle.packet.specs.Packet.{packet_of}
-use Rattle.packet.specs.Laws.{packet_of_good, packet_of_damaged}
+use Rattle.packet.proofs.Laws.{packet_of_good, packet_of_damaged}
 use Rattle.header_code.specs.Code.{flips_to}
 use Rattle.message.specs.Message.{message}
 use Rattle.message.specs.Message.Laws.{message_lt}

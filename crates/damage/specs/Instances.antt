@@ -20,7 +20,7 @@ use Rattle.carrier.specs.Carrier.{stream_packet}
 use Rattle.crc.specs.Crc.{crc, after, flip, Damaged}
 use Rattle.crc.specs.Damage.{length_flip, flips_burst}
 use Rattle.packet.specs.Packet.{guarded, packet, row, packet_of, stream}
-use Rattle.packet.specs.Laws.{row_past, length_packet_of, length_stream, stream_part}
+use Rattle.packet.proofs.Laws.{row_past, length_packet_of, length_stream, stream_part}
 use Rattle.header_code.specs.Code.{codeword, flips_to}
 use Rattle.header_code.specs.Code.Distance.{codeword_lt}
 use Rattle.message.specs.Message.Laws.{message_lt}

@@ -14,7 +14,7 @@ use Rattle.layout.specs.Layout.{frame_indices, multiframe_frames, multiframe_oct
 use Rattle.choices.specs.declared.Choices.{Choices}
 use Rattle.tables.specs.Tables.{Tables}
 use Rattle.packet.specs.Packet.{frame_at}
-use Rattle.packet.specs.Laws.{length_row, row_inside, row_past}
+use Rattle.packet.proofs.Laws.{length_row, row_inside, row_past}
 use Rattle.cutting.specs.Laws.{every_length}
 use Rattle.header_readings.specs.Readings.{readings}
 use Rattle.settling.specs.Settling.{settling}

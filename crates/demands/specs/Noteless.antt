@@ -19,7 +19,7 @@ use Rattle.bits.specs.Bits.{bits, total}
 use Rattle.bits.proofs.Laws.{length_bits, length_numbers}
 use Rattle.crc.specs.Crc.{Right}
 use Rattle.packet.specs.Packet.{indices, packet, apart, frame_at, packet_of, stream}
-use Rattle.packet.specs.Laws.{total_widths, packet_92, length_row, get_or_row}
+use Rattle.packet.proofs.Laws.{total_widths, packet_92, length_row, get_or_row}
 use Rattle.header_code.specs.Code.{codeword}
 use Rattle.header_code.specs.Code.Distance.{no_flips}
 use Rattle.message.specs.Message.{message, count_of, exp_of, settings_of}

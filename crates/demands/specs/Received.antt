@@ -16,7 +16,7 @@ use Rattle.layout.specs.Layout.{widths, frame_indices, data_bits, multiframe_pai
 use Rattle.tables.specs.Tables.{Tables}
 use Rattle.crc.specs.Crc.{right}
 use Rattle.packet.specs.Packet.{apart, frame_at}
-use Rattle.packet.specs.Laws.{length_row, packet_of_back}
+use Rattle.packet.proofs.Laws.{length_row, packet_of_back}
 use Rattle.consistency.specs.Consistency.{inconsistent}
 use Rattle.cutting.specs.Laws.{every_length}
 use Rattle.deciding.specs.Deciding.{received_notes}

@@ -24,7 +24,7 @@ use Rattle.carrier.specs.Carrier.{stream_packet}
 use Rattle.crc.specs.Crc.{flip, Damaged}
 use Rattle.crc.specs.Damage.{length_flip, flips_burst, flips_double}
 use Rattle.packet.specs.Packet.{frame_at, packet_of, stream}
-use Rattle.packet.specs.Laws.{length_packet_of, length_stream, stream_part}
+use Rattle.packet.proofs.Laws.{length_packet_of, length_stream, stream_part}
 use Rattle.consistency.specs.Consistency.{element_exceeds, flagged, flags, inconsistent}
 use Rattle.header_code.specs.Code.{codeword, flips_to}
 use Rattle.header_code.specs.Code.Distance.{codeword_lt}

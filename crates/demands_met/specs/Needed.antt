@@ -37,7 +37,7 @@ use Rattle.bits.specs.Bits.{field, laid}
 use Rattle.crc.specs.Crc.{crc, after, flip, Damaged}
 use Rattle.crc.specs.Damage.{length_flip, flip_burst}
 use Rattle.packet.specs.Packet.{packet, guarded, row, packet_of, stream}
-use Rattle.packet.specs.Laws.{length_packet_of, length_stream}
+use Rattle.packet.proofs.Laws.{length_packet_of, length_stream}
 use Rattle.header_code.specs.Code.{codeword, flips_to}
 use Rattle.header_code.specs.Code.Distance.{codeword_lt}
 use Rattle.header_code.specs.Code.Syndrome.{codeword_xor}

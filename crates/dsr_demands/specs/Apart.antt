@@ -6,7 +6,7 @@ use Rattle.std.proofs.Common.{sym, ap, ◌∙◌, subst}
 use Rattle.layout.specs.Layout.{frame_indices, multiframe_pairs, multiframe_octets, first_frame, second_frame}
 use Rattle.settings.specs.declared.Settings.{Settings}
 use Rattle.packet.specs.Packet.{frame_at}
-use Rattle.packet.specs.Laws.{get_or_row}
+use Rattle.packet.proofs.Laws.{get_or_row}
 use Rattle.writer.specs.Utterance.{image_of}
 use Rattle.entries.specs.Entries.{dsr_write}
 use Rattle.damage.specs.Damage.{DamageUpTo, header_bits, header_flips, Touched}

@@ -9,7 +9,8 @@ use Rattle.std.proofs.Math.Bool.{true, false}
 use native.Mathlib.Omega.{arith}
 use Rattle.std.proofs.Math.ListN.{get_or}
 use Rattle.lists.specs.Tests.{when}
-use Rattle.choices.specs.Choices.{by_default, by_one_header, asked, choice_number, asked_for}
+use Rattle.choices.specs.Choices.{by_default, by_one_header, asked, choice_number}
+use Rattle.choices.proofs.ChoicesLaws.{asked_for}
 use Rattle.choices.specs.declared.Choices.{Choices}
 use Rattle.choices.specs.declared.Asked.{Asked}
 use Rattle.choices.specs.declared.Asked.TheVariants.{For, NoSuchChoice}

@@ -15,7 +15,7 @@ use Rattle.tables.specs.Tables.{Tables}
 use Rattle.bits.specs.Bits.{bits}
 use Rattle.bits.proofs.Laws.{bits_octets}
 use Rattle.packet.specs.Packet.{stream}
-use Rattle.packet.specs.Laws.{length_stream}
+use Rattle.packet.proofs.Laws.{length_stream}
 use Rattle.header_code.specs.Code.{codeword, flips_to}
 use Rattle.header_code.specs.Code.Distance.{codeword_lt}
 use Rattle.message.specs.Message.Laws.{message_lt}

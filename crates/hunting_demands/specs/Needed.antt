@@ -25,7 +25,7 @@ use Rattle.cutting.specs.Laws.{every_length}
 use Rattle.crc.specs.Crc.{flip}
 use Rattle.crc.specs.Damage.{length_flip, flips_burst}
 use Rattle.packet.specs.Packet.{packet_of, stream}
-use Rattle.packet.specs.Laws.{length_packet_of, length_stream}
+use Rattle.packet.proofs.Laws.{length_packet_of, length_stream}
 use Rattle.header_code.specs.Code.{codeword}
 use Rattle.header_code.specs.Code.Distance.{codeword_lt}
 use Rattle.message.specs.Message.{message, rate_of, common_bits}

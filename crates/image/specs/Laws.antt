@@ -10,7 +10,7 @@ use Rattle.settings.specs.declared.Settings.{Settings}
 use Rattle.layout.specs.Layout.{multiframe_pairs, multiframe_octets, header_octets, stream_octets, multiframe_of, first_pair, sync}
 use Rattle.bits.specs.Bits.{field, octets}
 use Rattle.packet.specs.Packet.{stream, packet_of}
-use Rattle.packet.specs.Laws.{stream_part, length_stream}
+use Rattle.packet.proofs.Laws.{stream_part, length_stream}
 use Rattle.header_code.specs.Code.{codeword}
 use Rattle.header_code.specs.Code.Distance.{codeword_lt}
 use Rattle.message.specs.Message.{message}

@@ -17,7 +17,7 @@ use Rattle.crc.specs.Crc.{Rem, code, coded, none, fed_all, right}
 use Rattle.crc.specs.Laws.{fed_append}
 use Rattle.crc.proofs.Register.{coded_code, right_test}
 use Rattle.packet.specs.Packet.{second_bits, indices, apart}
-use Rattle.packet.specs.Laws.{total_widths}
+use Rattle.packet.proofs.Laws.{total_widths}
 
 -- ---- reading: bits of a word
 pub masked_word : (s : List ℕ) (i k w x at : ℕ) → i + 8 ≤ length s → k + w ≤ 64 → 8 * i + k ≡ at → x ≡ value (part (8 * i) 64 (bits s))

@@ -18,7 +18,7 @@ use Rattle.crc.specs.Crc.{Rem, crc, code, coded, none, sent, fed_all}
 use Rattle.crc.specs.Laws.{crc_fed, length_sent}
 use Rattle.crc.proofs.Register.{code_lt}
 use Rattle.packet.specs.Packet.{rest_bits, half_bits, second_bits, frame, guarded, packet, row, frame_at, packet_of}
-use Rattle.packet.specs.Laws.{length_frame, total_widths, length_row, row_past}
+use Rattle.packet.proofs.Laws.{length_frame, total_widths, length_row, row_past}
 use Rattle.packet.proofs.Steps.{fed_two}
 
 -- ---- a frame as a word

@@ -22,7 +22,7 @@ use Rattle.settings.specs.Settings.{settings, settings_right}
 use Rattle.frames.specs.Frames.{zero_frame, speaks}
 use Rattle.crc.specs.Damage.{flips_burst, flips_double}
 use Rattle.packet.specs.Packet.{frame_at, packet_of}
-use Rattle.packet.specs.Laws.{length_packet_of}
+use Rattle.packet.proofs.Laws.{length_packet_of}
 use Rattle.header_code.specs.Code.{codeword, flips_to}
 use Rattle.header_code.specs.Code.Distance.{codeword_lt}
 use Rattle.message.specs.Message.Laws.{message_lt}

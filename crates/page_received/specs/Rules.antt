@@ -20,7 +20,7 @@ use Rattle.replacing.specs.Replacing.{source, source_by, run_start, leading}
 use Rattle.replacing.specs.Examples.{stand_ins}
 use Rattle.replacing.specs.Speech.{last_nonzero, speech_of, end_of}
 use Rattle.tables.specs.Tables.{tables_of}
-use Rattle.consistency.specs.Laws.{inconsistent_turned}
+use Rattle.consistency.proofs.Laws.{inconsistent_turned}
 
 -- ---- tables
 -- k, k + 1, .., n of them: the number at place p of `up_to` is p

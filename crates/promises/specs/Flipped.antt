@@ -24,7 +24,7 @@ use Rattle.settings.specs.Settings.{settings, settings_right}
 use Rattle.crc.specs.Crc.{right, flip, Damaged}
 use Rattle.crc.specs.Damage.{length_flip, flip_burst}
 use Rattle.packet.specs.Packet.{packet_of, frame_at}
-use Rattle.packet.specs.Laws.{length_packet_of}
+use Rattle.packet.proofs.Laws.{length_packet_of}
 use Rattle.header_code.specs.Code.{codeword, flips_to}
 use Rattle.header_code.specs.Code.Distance.{codeword_lt}
 use Rattle.header_code.specs.Code.Syndrome.{codeword_xor}

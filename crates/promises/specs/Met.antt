@@ -21,7 +21,7 @@ use Rattle.bits.specs.Bits.{field, laid}
 use Rattle.crc.specs.Crc.{crc, after, right, flip, Damaged}
 use Rattle.crc.specs.Damage.{length_flip, flips_burst, flips_double}
 use Rattle.packet.specs.Packet.{guarded, packet, row, packet_of}
-use Rattle.packet.specs.Laws.{length_packet_of, packet_of_good}
+use Rattle.packet.proofs.Laws.{length_packet_of, packet_of_good}
 use Rattle.cutting.specs.Laws.{every_length}
 use Rattle.header_code.specs.Code.{codeword}
 use Rattle.message.specs.Message.{message}

@@ -24,7 +24,7 @@ use Rattle.frames.specs.Frames.{all_zero, zero_frame, all_zero_at, Nonzero}
 use Rattle.bits.specs.Bits.{value, bits}
 use Rattle.crc.specs.Crc.{right}
 use Rattle.packet.specs.Packet.{frame_at, packet_of}
-use Rattle.packet.specs.Laws.{get_or_row, row_past, packet_of_good}
+use Rattle.packet.proofs.Laws.{get_or_row, row_past, packet_of_good}
 use Rattle.cutting.specs.Cutting.{Cutting, cutting}
 use Rattle.cutting.specs.Laws.{every_length}
 use Rattle.header_code.specs.Code.{codeword}

@@ -15,7 +15,7 @@ use Rattle.tables.specs.Tables.{Tables, zero_tables}
 use Rattle.frames.specs.Frames.{zero_frame, all_zero}
 use Rattle.crc.specs.Crc.{right}
 use Rattle.packet.specs.Packet.{packet_of}
-use Rattle.packet.specs.Laws.{packet_of_good}
+use Rattle.packet.proofs.Laws.{packet_of_good}
 use Rattle.cutting.specs.Cutting.{Cutting, cutting}
 use Rattle.carrier.specs.Carrier.{received, pair_count}
 use Rattle.notes.specs.Notes.{pair_fails, frames_of, pair_inconsistent}

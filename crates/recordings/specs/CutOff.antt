@@ -22,7 +22,7 @@ use Rattle.settings.specs.Settings.{settings}
 use Rattle.frames.specs.Frames.{zero_frame}
 use Rattle.crc.specs.Crc.{right}
 use Rattle.packet.specs.Packet.{packet_of}
-use Rattle.packet.specs.Laws.{get_or_row, packet_of_good}
+use Rattle.packet.proofs.Laws.{get_or_row, packet_of_good}
 use Rattle.cutting.specs.declared.Piece.TheVariants.{CutShort}
 use Rattle.refusals.specs.declared.Reading.TheVariants as RR
 use Rattle.cutting.specs.Cutting.{sync_met, piece_by, piece_of, Cutting, cutting}

@@ -17,7 +17,7 @@ use Rattle.tables.specs.Tables.{Tables}
 use Rattle.frames.specs.Frames.{all_zero, zero_frame, all_zero_at, Nonzero}
 use Rattle.bits.specs.Bits.{value, bits}
 use Rattle.packet.specs.Packet.{apart, frame_at, packet_of}
-use Rattle.packet.specs.Laws.{length_row, get_or_row, packet_of_back}
+use Rattle.packet.proofs.Laws.{length_row, get_or_row, packet_of_back}
 use Rattle.cutting.specs.Cutting.{whole, cutting}
 use Rattle.cutting.specs.Laws.{every_length}
 use Rattle.message.specs.Message.{common_bits}

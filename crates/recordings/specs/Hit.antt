@@ -14,7 +14,7 @@ use Rattle.carrier.specs.Carrier.{stream_packet}
 use Rattle.crc.specs.Crc.{flip, Damaged}
 use Rattle.crc.specs.Damage.{length_flip, flip_burst}
 use Rattle.packet.specs.Packet.{packet_of}
-use Rattle.packet.specs.Laws.{length_packet_of}
+use Rattle.packet.proofs.Laws.{length_packet_of}
 use Rattle.header_code.specs.Code.{codeword, flips_to}
 use Rattle.header_code.specs.Code.Distance.{codeword_lt}
 use Rattle.message.specs.Message.Laws.{message_lt}

@@ -13,7 +13,7 @@ use Rattle.lists.specs.Parts.{over, over_none, over_over, drop_over, length_over
 use Rattle.bits.specs.Bits.{field, numbers, octets}
 use Rattle.bits.proofs.Laws.{length_field, field_add, octets_append, length_octets}
 use Rattle.packet.specs.Packet.{rest_bits, two_packets, packet_of, stream}
-use Rattle.packet.specs.Laws.{length_stream, stream_add}
+use Rattle.packet.proofs.Laws.{length_stream, stream_add}
 
 -- ---- two packets as 23 octets, in four stores: the third begins in the last octet of the second, whose bits it has again
 pub two_packets_lem : (idx : List ℕ) (q : ℕ) → stream idx q 2 ≡ packet_of idx q ++ packet_of idx (q + 1)

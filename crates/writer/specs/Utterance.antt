@@ -13,7 +13,7 @@ use Rattle.layout.specs.Layout.{widths, frame_indices, most_narrow, multiframe_f
 use Rattle.frames.specs.Frames.{Nonzero, unzero}
 use Rattle.bits.specs.Bits.{Fits}
 use Rattle.packet.specs.Packet.{packet_of, frame_at}
-use Rattle.packet.specs.Laws.{fits_frame, get_or_row, packet_of_same}
+use Rattle.packet.proofs.Laws.{fits_frame, get_or_row, packet_of_same}
 use Rattle.header_code.specs.Code.Distance.{codeword_low}
 use Rattle.message.specs.Message.{message, settings_of}
 use Rattle.message.specs.Message.Laws.{message_lt, settings_back}

@@ -10,7 +10,7 @@ use Rattle.std.proofs.lemmas.List.{get_or-replicate}
 use Rattle.lists.specs.Tests.{when, true_false}
 use Rattle.layout.specs.Layout.{threshold_numbers, frame_indices}
 use Rattle.tables.specs.Tables.{Tables, tables_of, at, negative}
-use Rattle.consistency.specs.Consistency.{distance, exceeding, entry_place, threshold_place, element_exceeds, flagged, flags, inconsistent}
+use Rattle.consistency.specs.Consistency.{distance, exceeding, entry_place, threshold_place, element_exceeds, flagged, flags, inconsistent, moved, largest, least}
 
 -- the seventh codebook begins at 768
 pub seventh : (j e : ℕ) → entry_place 6 j e ≡ 768 + 2 * j + e
@@ -94,10 +94,6 @@ negative_flags tables c i j h = either (element_exceeds tables c i j 0) (element
     by (inl n) = inl (of 0 n)
     by (inr n) = inr (of 1 n)
 
--- how far element e of index pair c moves from entry i to entry j, up or down
-abbrev pub moved : Tables → ℕ → ℕ → ℕ → ℕ → ℕ
-moved tables c i j e = nat_abs (at tables.codebook (entry_place c j e) -ℤ at tables.codebook (entry_place c i e))
-
 -- AN INDEX PAIR IS FLAGGED EXACTLY IF one of its two elements moves by more than its threshold
 pub flagged_exactly : (tables : Tables) (c i j s t : ℕ) → at tables.thresholds (threshold_place c 0) ≡ pos s → at tables.thresholds (threshold_place c 1) ≡ pos t
     → (flagged tables c i j ≡ true) ↔ ((s < moved tables c i j 0) ⊎ (t < moved tables c i j 1))
@@ -122,12 +118,6 @@ flagged_exactly tables c i j s t es et = (
     found (inr m) = inr (second ∙ lt-ltb t (moved tables c i j 1) m)
 
 -- ---- the ends of 32 bits
-abbrev pub largest : ℕ
-largest = 2147483647
-
-abbrev pub least : ℤ
-least = negsuc 2147483647
-
 -- ALL THRESHOLDS AT THEIR LARGEST flag only what exceeds: what moves by 2^31 or more
 pub largest_flags : (codebook : List ℤ) (c i j : ℕ) → c < frame_indices → let tables = tables_of codebook (replicate threshold_numbers (pos largest)) in
     (flagged tables c i j ≡ true) ↔ ((largest < moved tables c i j 0) ⊎ (largest < moved tables c i j 1))
