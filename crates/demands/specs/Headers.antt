@@ -29,7 +29,8 @@ use Rattle.settling.specs.Laws.{Has, Earlier, First, settled_first, has_read, re
 use Rattle.header_notes.specs.Laws.{note_lost}
 use Rattle.settling.specs.declared.Settlement.TheVariants.{Settled, Unsettled}
 use Rattle.image.specs.Made.{word_in}
-use Rattle.writer.specs.Utterance.{Utterance, multiframes_of, image_of, settings_right_lem}
+use Rattle.writer.specs.Utterance.{Utterance, multiframes_of, image_of}
+use Rattle.writer.proofs.Utterance.{settings_right_lem}
 use Rattle.damage.specs.Damage.{Damage, header_flips, sent_message, header_read_lem, header_lost, header_near}
 use Rattle.demands.specs.Whole.{row_of, readings_are}
 

@@ -33,8 +33,9 @@ use Rattle.reader.specs.declared.Answer.TheVariants.{Read}
 use Rattle.image.specs.Made.{part_within}
 use Rattle.image.specs.Laws.{length_image, image_sync}
 use Rattle.wrong_frames.specs.WrongFrames.{frame_count}
-use Rattle.writer.specs.Laws.{few_multiframes}
-use Rattle.writer.specs.Utterance.{Utterance, multiframes_of, pairs_of, image_of, is_accepted, rate_not_2, whole_frames}
+use Rattle.writer.proofs.Laws.{few_multiframes}
+use Rattle.writer.specs.Utterance.{Utterance, multiframes_of, pairs_of, image_of}
+use Rattle.writer.proofs.Utterance.{is_accepted, rate_not_2, whole_frames}
 use Rattle.damage.specs.Damage.{DamageUpTo, Damage, loosened, Touched, header_flips}
 use Rattle.demands.specs.Whole.{row_of, Lent, reads_as, header_note_in, pair_note_in, header_note_is, pair_note_is, front_part}
 use Rattle.demands.specs.Headers.{Settling, CanSettle, enough, settles, note_of_header, sent_common, settings_sent, rate_sent, exp_sent}

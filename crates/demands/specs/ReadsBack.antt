@@ -46,7 +46,9 @@ use Rattle.wrong_frames.specs.WrongFrames.{frame_count}
 use Rattle.writer.specs.Writing.{needed, writing}
 use Rattle.writer.specs.Writing as W
 use Rattle.writer.specs.declared.Answer.TheVariants.{Written}
-use Rattle.writer.specs.Utterance.{last_speaks, Utterance, multiframes_of, pairs_of, image_of, is_accepted, whole_frames, writes}
+use Rattle.writer.specs.Utterance.{Utterance, multiframes_of, pairs_of, image_of}
+use Rattle.writer.proofs.Utterance.{is_accepted, whole_frames, writes}
+use Rattle.writer.proofs.Accepted.{last_speaks}
 use Rattle.damage.specs.Damage.{DamageUpTo, Damage, loosened, header_flips}
 use Rattle.damage.specs.Damages.{unharmed}
 use Rattle.demands.specs.Whole.{row_of, Lent, nothing_replaced}

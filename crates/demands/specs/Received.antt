@@ -26,7 +26,8 @@ use Rattle.notes.specs.Laws.{length_notes}
 use Rattle.bad_pairs.specs.BadPairs.{bad, bad_pairs, note_by, notes}
 use Rattle.bad_pairs.specs.Laws.{bad_before, note_at, failed_is_1}
 use Rattle.image.specs.Made.{packet_in}
-use Rattle.writer.specs.Utterance.{Utterance, multiframes_of, pairs_of, image_of, fits_each_frame}
+use Rattle.writer.specs.Utterance.{Utterance, multiframes_of, pairs_of, image_of}
+use Rattle.writer.proofs.Utterance.{fits_each_frame}
 use Rattle.damage.specs.Damage.{DamageUpTo, Touched, Fate, whole, hit, fate, not_touched}
 use Rattle.demands.specs.Whole.{row_of, packet_at_lem}
 

@@ -50,7 +50,7 @@ use Rattle.wrong_frames.specs.WrongFrames.{frame_count}
 use Rattle.writer.specs.Writing.{multiframes_for, writing}
 use Rattle.writer.specs.Writing as W
 use Rattle.writer.specs.declared.Answer.TheVariants as Done
-use Rattle.writer.specs.Utterance.{success}
+use Rattle.writer.proofs.Utterance.{success}
 use Rattle.demands.specs.Whole.{row_of, readings_are, packet_at_lem, header_note_in, pair_note_in, header_note_is, pair_note_is, nothing_replaced}
 use Rattle.demands.specs.Noteless.{clean_header, is_image, spoken, multiframes_spoken, speech_lt, packet_spoken}
 

@@ -37,7 +37,8 @@ use Rattle.settling.specs.Laws.{Enough}
 use Rattle.wrong_frames.specs.WrongFrames.{frame_count}
 use Rattle.writer.specs.Writing.{verdict, room_answer, needed, writing}
 use Rattle.writer.specs.Writing as W
-use Rattle.writer.specs.Utterance.{Utterance, multiframes_of, image_of, whole_frames, writes}
+use Rattle.writer.specs.Utterance.{Utterance, multiframes_of, image_of}
+use Rattle.writer.proofs.Utterance.{whole_frames, writes}
 use Rattle.writer.specs.declared.Answer.TheVariants.{Written}
 use Rattle.damage.specs.Damage.{Damage, sent_message}
 use Rattle.damage.specs.Damages.{damage_made}

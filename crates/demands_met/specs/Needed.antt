@@ -18,7 +18,7 @@ use Rattle.reader.specs.declared.Summary.{Summary}
 use Rattle.image.specs.Image.{image}
 use Rattle.image.specs.Made.{Small, sync_in, word_in, packet_in, made, made_sync, made_word, made_packet}
 use Rattle.image.specs.Laws.{length_image, image_made, image_sync, image_word, image_packet}
-use Rattle.writer.specs.Utterance.{success}
+use Rattle.writer.proofs.Utterance.{success}
 use Rattle.demands.specs.Noteless.{spoken, count_spoken, speech_lt, speech_le, speech_full}
 use Rattle.demands.specs.WritesAgain as A
 use Rattle.polynomials.specs.Light.{ones_in_lem}
@@ -53,8 +53,9 @@ use Rattle.reader.specs.Reading.{outcome, reading}
 use Rattle.refusals.specs.declared.Reading.TheVariants.{Unsettled, AllBad}
 use Rattle.reader.specs.declared.Answer.TheVariants.{Read, Refused}
 use Rattle.writer.specs.Writing.{verdict, room_answer, needed, writing}
-use Rattle.writer.specs.Laws.{few_multiframes}
-use Rattle.writer.specs.Utterance.{Utterance, multiframes_of, pairs_of, image_of, is_accepted, rate_not_2}
+use Rattle.writer.proofs.Laws.{few_multiframes}
+use Rattle.writer.specs.Utterance.{Utterance, multiframes_of, pairs_of, image_of}
+use Rattle.writer.proofs.Utterance.{is_accepted, rate_not_2}
 use Rattle.writer.specs.declared.Answer.TheVariants.{Written}
 use Rattle.damage.specs.Damage.{Damage, loosened, header_flips, sent_message, header_near, differs}
 use Rattle.damage.specs.Damages.{damage_made, unharmed}

@@ -14,8 +14,9 @@ use Rattle.tables.specs.Tables.{Tables}
 use Rattle.image.specs.Made.{Small}
 use Rattle.wrong_frames.specs.WrongFrames.{frame_count}
 use Rattle.writer.specs.Writing.{multiframes_for}
-use Rattle.writer.specs.Laws.{accepts}
-use Rattle.writer.specs.Utterance.{Utterance, whole_frames}
+use Rattle.writer.proofs.Laws.{accepts}
+use Rattle.writer.specs.Utterance.{Utterance}
+use Rattle.writer.proofs.Utterance.{whole_frames}
 use Rattle.reader.specs.Reading.{Outcome, reading}
 use Rattle.reader.specs.declared.Summary.{Summary}
 use Rattle.reader.specs.declared.Answer.TheVariants.{Read}

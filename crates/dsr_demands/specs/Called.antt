@@ -9,9 +9,11 @@ use Rattle.image.specs.Made.{Small}
 use Rattle.image.specs.Laws.{length_image}
 use Rattle.wrong_frames.specs.WrongFrames.{frame_count}
 use Rattle.writer.specs.Writing.{multiframes_for, needed, writing, verdict}
-use Rattle.writer.specs.Laws.{Accepted, accepts}
-use Rattle.writer.specs.Laws as L
-use Rattle.writer.specs.Utterance.{Utterance, image_of, success}
+use Rattle.writer.specs.Laws.{Accepted}
+use Rattle.writer.proofs.Laws.{accepts}
+use Rattle.writer.proofs.Laws as L
+use Rattle.writer.specs.Utterance.{Utterance, image_of}
+use Rattle.writer.proofs.Utterance.{success}
 use Rattle.writer.specs.declared.Answer as WA
 use Rattle.writer.specs.declared.Answer.TheVariants.{Written}
 use Rattle.writer.specs.declared.Answer.TheVariants as WV

@@ -9,8 +9,9 @@ use Rattle.cutting.specs.Cutting.{Cutting, whole, cutting}
 use Rattle.cutting.specs.Laws.{every_length}
 use Rattle.cutting.specs.Reached.{whole_exactly}
 use Rattle.image.specs.Laws.{length_image, image_sync}
-use Rattle.writer.specs.Laws.{few_multiframes}
-use Rattle.writer.specs.Utterance.{Utterance, multiframes_of, image_of, is_accepted}
+use Rattle.writer.proofs.Laws.{few_multiframes}
+use Rattle.writer.specs.Utterance.{Utterance, multiframes_of, image_of}
+use Rattle.writer.proofs.Utterance.{is_accepted}
 use Rattle.reader.specs.RefusalLaws.{CutUp}
 use Rattle.demands.specs.Whole.{row_of, cut_is}
 use Rattle.damage.specs.Instances.{says1}

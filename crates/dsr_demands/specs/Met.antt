@@ -13,7 +13,8 @@ use Rattle.writer.specs.Writing as W
 use Rattle.image.specs.Laws.{length_image}
 use Rattle.writer.specs.Writing.{needed, writing}
 use Rattle.writer.specs.declared.Answer.TheVariants.{Written}
-use Rattle.writer.specs.Utterance.{Utterance, multiframes_of, image_of, writes}
+use Rattle.writer.specs.Utterance.{Utterance, multiframes_of, image_of}
+use Rattle.writer.proofs.Utterance.{writes}
 use Rattle.settling.specs.Laws.{Enough}
 use Rattle.entries.specs.Entries.{answer_numbers, summary_numbers, Returned, returned, dsr_write, dsr_read}
 use Rattle.entries.specs.Bits.{dsr_read_bits}

@@ -22,7 +22,8 @@ use Rattle.reader.specs.declared.Summary.{Summary}
 use Rattle.reader.specs.declared.Answer.{Answer}
 use Rattle.reader.specs.declared.Answer.TheVariants.{Read}
 use Rattle.wrong_frames.specs.WrongFrames.{frame_count}
-use Rattle.writer.specs.Utterance.{Utterance, multiframes_of, pairs_of, image_of, whole_frames}
+use Rattle.writer.specs.Utterance.{Utterance, multiframes_of, pairs_of, image_of}
+use Rattle.writer.proofs.Utterance.{whole_frames}
 use Rattle.entries.specs.Entries.{answer_numbers, summary_numbers, Returned, returned, dsr_read}
 use Rattle.damage.specs.Damage.{DamageUpTo, Touched, header_flips}
 use Rattle.demands.specs.Whole.{front_at, pair_note_in}

@@ -27,7 +27,8 @@ use Rattle.hunting.specs.Says as F
 use Rattle.hunting.specs.declared.Counted.{Counted}
 use Rattle.hunting.specs.declared.Answer.TheVariants.{Read}
 use Rattle.wrong_frames.specs.WrongFrames.{frame_count}
-use Rattle.writer.specs.Utterance.{Utterance, multiframes_of, image_of, whole_frames, pairs_of}
+use Rattle.writer.specs.Utterance.{Utterance, multiframes_of, image_of, pairs_of}
+use Rattle.writer.proofs.Utterance.{whole_frames}
 use Rattle.entries.specs.Entries.{Returned}
 use Rattle.entries.specs.Bits.{counted_numbers, numbers_of, dsr_read_bits}
 use Rattle.damage.specs.Damage.{header_flips}

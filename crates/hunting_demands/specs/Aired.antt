@@ -24,8 +24,9 @@ use Rattle.hunt.specs.Hunt.{sync_bits, header_bits, multiframe_bits, fewest_matc
 use Rattle.hunt.specs.Laws.{searched_all}
 use Rattle.image.specs.Made.{packet_in, made_packet}
 use Rattle.image.specs.Laws.{image_word, image_packet}
-use Rattle.writer.specs.Laws.{few_multiframes}
-use Rattle.writer.specs.Utterance.{Utterance, multiframes_of, pairs_of, image_of, is_accepted}
+use Rattle.writer.proofs.Laws.{few_multiframes}
+use Rattle.writer.specs.Utterance.{Utterance, multiframes_of, pairs_of, image_of}
+use Rattle.writer.proofs.Utterance.{is_accepted}
 use Rattle.damage.specs.Damage.{sent_message}
 use Rattle.demands.specs.Received.{BadPair}
 use Rattle.demands_met.specs.Met.{zero_consistent, index_for, report_for, lent_zeros, hurt_word, hurt_stream, hurt_image, length_hurt, part_on, hurts, says24, two_multiframes}

@@ -23,8 +23,9 @@ use Rattle.hunting.specs.declared.Counted.{Counted}
 use Rattle.hunting.specs.declared.Answer.TheVariants.{Read}
 use Rattle.image.specs.Made.{Small, sync_in, word_in, stream_in, framed, made_again}
 use Rattle.image.specs.Laws.{length_image, image_sync}
-use Rattle.writer.specs.Laws.{few_multiframes}
-use Rattle.writer.specs.Utterance.{Utterance, multiframes_of, image_of, is_accepted}
+use Rattle.writer.proofs.Laws.{few_multiframes}
+use Rattle.writer.specs.Utterance.{Utterance, multiframes_of, image_of}
+use Rattle.writer.proofs.Utterance.{is_accepted}
 use Rattle.damage.specs.Damage.{Damage, header_read_lem}
 use Rattle.demands.specs.NamesTheDamage as N
 use Rattle.hunting_demands.specs.Standing.{place_in_row, row, sync_at, word_at, stream_at, at_most_all, passes_there, InARow, tested_in_row, reads_in_a_row, image_made}

@@ -29,9 +29,10 @@ use Rattle.refusals.specs.declared.Hunting.TheVariants.{Octets}
 use Rattle.image.specs.Made.{word_in, stream_in, packet_in}
 use Rattle.image.specs.Laws.{length_image}
 use Rattle.settling.specs.Laws.{Enough}
-use Rattle.writer.specs.Laws.{few_multiframes}
+use Rattle.writer.proofs.Laws.{few_multiframes}
 use Rattle.image.specs.Laws as I
-use Rattle.writer.specs.Utterance.{Utterance, multiframes_of, pairs_of, image_of, is_accepted}
+use Rattle.writer.specs.Utterance.{Utterance, multiframes_of, pairs_of, image_of}
+use Rattle.writer.proofs.Utterance.{is_accepted}
 use Rattle.demands.specs.Headers.{CanSettle, can_settle}
 use Rattle.damage.specs.Damage.{Damage, header_flips, header_read_lem}
 use Rattle.damage.specs.Damages.{unharmed}

@@ -26,8 +26,9 @@ use Rattle.hunt.specs.Hunt.{sync_bits, header_bits, multiframe_bits, sync, match
 use Rattle.hunt.specs.Laws.{searched_all}
 use Rattle.image.specs.Made.{stream_in}
 use Rattle.image.specs.Laws.{image_word, image_stream}
-use Rattle.writer.specs.Laws.{few_multiframes}
-use Rattle.writer.specs.Utterance.{Utterance, multiframes_of, image_of, is_accepted}
+use Rattle.writer.proofs.Laws.{few_multiframes}
+use Rattle.writer.specs.Utterance.{Utterance, multiframes_of, image_of}
+use Rattle.writer.proofs.Utterance.{is_accepted}
 use Rattle.damage.specs.Damage.{sent_message}
 use Rattle.hunting_demands.specs.Standing.{place_in_row, sync_at, word_at, stream_at, passes_there}
 use Rattle.hunting_demands.specs.Laid.{laid_multiframe, laid_octets, Sizes, bits_laid, size_laid, laid_behind, laid_sync, laid_word, laid_stream}

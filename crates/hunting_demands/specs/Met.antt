@@ -24,8 +24,9 @@ use Rattle.gathering.specs.Gathering.{outside_of}
 use Rattle.hunting.specs.Hunting.{Outcome, outcome, hunting_reading}
 use Rattle.hunting.specs.declared.Answer.TheVariants.{Read}
 use Rattle.image.specs.Laws.{length_image, image_sync}
-use Rattle.writer.specs.Laws.{few_multiframes}
-use Rattle.writer.specs.Utterance.{Utterance, multiframes_of, image_of, is_accepted}
+use Rattle.writer.proofs.Laws.{few_multiframes}
+use Rattle.writer.specs.Utterance.{Utterance, multiframes_of, image_of}
+use Rattle.writer.proofs.Utterance.{is_accepted}
 use Rattle.demands.specs.Whole.{Lent}
 use Rattle.demands.specs.ReadsBack.{spoken, padded}
 use Rattle.demands_met.specs.Met.{index_for, report_for, lent_zeros, says24, two_multiframes}

@@ -55,8 +55,9 @@ use Rattle.refusals.specs.declared.Hunting.{Hunting as Refusal}
 use Rattle.refusals.specs.declared.Hunting.TheVariants.{Octets, MatchRange, Nowhere}
 use Rattle.image.specs.Made.{sync_in, word_in, packet_in, made_packet}
 use Rattle.image.specs.Laws.{image_packet}
-use Rattle.writer.specs.Laws.{few_multiframes}
-use Rattle.writer.specs.Utterance.{Utterance, multiframes_of, image_of, is_accepted, rate_not_2}
+use Rattle.writer.proofs.Laws.{few_multiframes}
+use Rattle.writer.specs.Utterance.{Utterance, multiframes_of, image_of}
+use Rattle.writer.proofs.Utterance.{is_accepted, rate_not_2}
 use Rattle.damage.specs.Damage.{Touched, sent_message, differs}
 use Rattle.demands.specs.Whole.{Lent, row_of, readings_are, cut_is, pair_note_in, front_at, refuses_16}
 use Rattle.demands.specs.Headers.{CanSettle, sent_common, common_sent, rate_sent, exp_sent}

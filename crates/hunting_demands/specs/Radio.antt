@@ -17,9 +17,10 @@ use Rattle.header.specs.Reading.{reading}
 use Rattle.gathering.specs.Gathering.{Gathering, gathering, image_of as foundImage}
 use Rattle.image.specs.Made.{sync_in, word_in, packet_in}
 use Rattle.image.specs.Laws.{length_image}
-use Rattle.writer.specs.Laws.{few_multiframes}
+use Rattle.writer.proofs.Laws.{few_multiframes}
 use Rattle.image.specs.Laws as I
-use Rattle.writer.specs.Utterance.{Utterance, multiframes_of, pairs_of, image_of, is_accepted}
+use Rattle.writer.specs.Utterance.{Utterance, multiframes_of, pairs_of, image_of}
+use Rattle.writer.proofs.Utterance.{is_accepted}
 use Rattle.demands.specs.Headers.{CanSettle}
 use Rattle.damage.specs.Damage.{Damage, header_flips, header_read_lem}
 use Rattle.demands.specs.Whole.{Lent}

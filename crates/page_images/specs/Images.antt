@@ -32,7 +32,8 @@ use Rattle.image.specs.Made.{Small, header_in}
 use Rattle.image.specs.Laws.{image_header}
 use Rattle.writer.specs.Writing.{room_answer, verdict, outcome, writing}
 use Rattle.writer.specs.declared.Answer.TheVariants.{Written}
-use Rattle.writer.specs.Utterance.{Utterance, writes}
+use Rattle.writer.specs.Utterance.{Utterance}
+use Rattle.writer.proofs.Utterance.{writes}
 use Rattle.reader.specs.Reading.{reading}
 use Rattle.reader.specs.Reading as R
 use Rattle.reader.specs.declared.Answer.TheVariants.{Read}

@@ -31,8 +31,10 @@ use Rattle.image.specs.Made.{packet_in, made_word, made_packet}
 use Rattle.image.specs.Laws.{image_packet}
 use Rattle.wrong_frames.specs.WrongFrames.{frame_count, is_wide, must_speak, ends_early}
 use Rattle.writer.specs.Writing.{needed, verdict, Outcome, writing}
-use Rattle.writer.specs.Laws.{Sized, accepts}
-use Rattle.writer.specs.Utterance.{Utterance, multiframes_of, pairs_of, image_of, writes}
+use Rattle.writer.specs.Laws.{Sized}
+use Rattle.writer.proofs.Laws.{accepts}
+use Rattle.writer.specs.Utterance.{Utterance, multiframes_of, pairs_of, image_of}
+use Rattle.writer.proofs.Utterance.{writes}
 use Rattle.writer.specs.declared.Answer.TheVariants.{Written}
 use Rattle.damage.specs.Damage.{header_flips, Touched, sent_message, differs, header_near}
 use Rattle.demands.specs.Received.{BadPair, Count, count_once, count_one, count_none}

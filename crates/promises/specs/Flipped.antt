@@ -55,8 +55,9 @@ use Rattle.image.specs.Made.{sync_in, word_in, packet_in, made, framed, length_m
 use Rattle.image.specs.Laws.{length_image, image_sync, image_packet}
 use Rattle.writer.specs.Writing.{verdict, needed}
 use Rattle.writer.specs.declared.Answer.TheVariants.{Written}
-use Rattle.writer.specs.Laws.{few_multiframes, accepts}
-use Rattle.writer.specs.Utterance.{Utterance, multiframes_of, pairs_of, image_of, is_accepted, kind_small, rate_not_2}
+use Rattle.writer.proofs.Laws.{few_multiframes, accepts}
+use Rattle.writer.specs.Utterance.{Utterance, multiframes_of, pairs_of, image_of}
+use Rattle.writer.proofs.Utterance.{is_accepted, kind_small, rate_not_2}
 use Rattle.damage.specs.Damage.{DamageUpTo, Touched, differs, header_flips, sent_message, header_near, header_read_lem}
 use Rattle.damage.specs.Damages.{damage_up_to}
 use Rattle.demands.specs.Whole.{row_of, Lent, pair_note_in, packet_at_lem, readings_are, reads_as}

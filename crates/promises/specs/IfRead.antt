@@ -25,8 +25,9 @@ use Rattle.reader.specs.declared.Answer.TheVariants.{Read}
 use Rattle.image.specs.Made.{sync_in}
 use Rattle.image.specs.Laws.{length_image, image_sync}
 use Rattle.wrong_frames.specs.WrongFrames.{frame_count}
-use Rattle.writer.specs.Laws.{few_multiframes}
-use Rattle.writer.specs.Utterance.{Utterance, multiframes_of, pairs_of, image_of, is_accepted}
+use Rattle.writer.proofs.Laws.{few_multiframes}
+use Rattle.writer.specs.Utterance.{Utterance, multiframes_of, pairs_of, image_of}
+use Rattle.writer.proofs.Utterance.{is_accepted}
 use Rattle.damage.specs.Damage.{DamageUpTo, header_flips}
 use Rattle.demands.specs.Headers.{sent_enough, Settling, settled_readable, touched_unsettles}
 use Rattle.demands.specs.Received.{BadPair, Tells, is_so, not_so, tells_bad}

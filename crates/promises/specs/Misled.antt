@@ -28,8 +28,9 @@ use Rattle.reader.specs.declared.Answer.TheVariants.{Read}
 use Rattle.reader.specs.Chosen.{default_two}
 use Rattle.image.specs.Made.{sync_in, word_in}
 use Rattle.image.specs.Laws.{length_image, image_sync}
-use Rattle.writer.specs.Laws.{few_multiframes}
-use Rattle.writer.specs.Utterance.{Utterance, multiframes_of, image_of, is_accepted}
+use Rattle.writer.proofs.Laws.{few_multiframes}
+use Rattle.writer.specs.Utterance.{Utterance, multiframes_of, image_of}
+use Rattle.writer.proofs.Utterance.{is_accepted}
 use Rattle.damage.specs.Damage.{header_flips, sent_message, header_near}
 use Rattle.demands.specs.Headers.{sent_common, common_sent, settings_sent, settles_nothing_else}
 use Rattle.demands.specs.Whole.{row_of, readings_are, cut_is}

@@ -51,8 +51,10 @@ use Rattle.image.specs.Made.{sync_in, word_in, packet_in}
 use Rattle.image.specs.Laws.{length_image, image_sync, image_word, image_packet, image_small}
 use Rattle.wrong_frames.specs.WrongFrames.{frame_count}
 use Rattle.writer.specs.Writing.{needed}
-use Rattle.writer.specs.Laws.{few_multiframes}
-use Rattle.writer.specs.Utterance.{last_speaks, Utterance, multiframes_of, pairs_of, image_of, is_accepted, whole_frames}
+use Rattle.writer.proofs.Laws.{few_multiframes}
+use Rattle.writer.specs.Utterance.{Utterance, multiframes_of, pairs_of, image_of}
+use Rattle.writer.proofs.Utterance.{is_accepted, whole_frames}
+use Rattle.writer.proofs.Accepted.{last_speaks}
 use Rattle.damage.specs.Damage.{DamageUpTo, header_bits, loosened, header_flips, sent_message, header_near}
 use Rattle.demands.specs.Whole.{row_of, Lent, header_note_in, pair_note_in, refuses_16}
 use Rattle.demands.specs.Headers.{sent_common, TwoReadable, heard_as, heard_read, heard_lost, headers_read}

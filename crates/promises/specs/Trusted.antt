@@ -36,8 +36,9 @@ use Rattle.image.specs.Made.{sync_in, word_in, packet_in}
 use Rattle.image.specs.Laws.{length_image, image_sync}
 use Rattle.header_readings.specs.Laws.{length_readings}
 use Rattle.settling.specs.Laws.{Enough, settled_enough}
-use Rattle.writer.specs.Laws.{few_multiframes}
-use Rattle.writer.specs.Utterance.{Utterance, multiframes_of, image_of, is_accepted, settings_right_lem}
+use Rattle.writer.proofs.Laws.{few_multiframes}
+use Rattle.writer.specs.Utterance.{Utterance, multiframes_of, image_of}
+use Rattle.writer.proofs.Utterance.{is_accepted, settings_right_lem}
 use Rattle.damage.specs.Damage.{DamageUpTo, Damage, header_bits, loosened, header_flips, sent_message, header_near, Fate, whole, hit, fate}
 use Rattle.demands.specs.Whole.{row_of, Lent, readings_are, cut_is, header_note_in, pair_note_in, header_note_is, pair_note_is}
 use Rattle.demands.specs.Received.{touched_note}

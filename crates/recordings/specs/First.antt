@@ -41,8 +41,10 @@ use Rattle.reader.specs.declared.Answer.TheVariants.{Read}
 use Rattle.image.specs.Made.{sync_in, word_in, packet_in, part_within}
 use Rattle.image.specs.Laws.{length_image, image_sync}
 use Rattle.writer.specs.Writing.{needed}
-use Rattle.writer.specs.Laws.{few_multiframes}
-use Rattle.writer.specs.Utterance.{boundary_speaks, Utterance, multiframes_of, image_of, is_accepted, rate_not_2, fits_each_frame}
+use Rattle.writer.proofs.Laws.{few_multiframes}
+use Rattle.writer.specs.Utterance.{Utterance, multiframes_of, image_of}
+use Rattle.writer.proofs.Utterance.{is_accepted, rate_not_2, fits_each_frame}
+use Rattle.writer.proofs.Accepted.{boundary_speaks}
 use Rattle.damage.specs.Damage.{Damage, header_flips, sent_message, header_near, header_read_lem}
 use Rattle.demands.specs.Whole.{row_of, Lent, readings_are, packet_at_lem, cut_is, reads_as}
 use Rattle.demands.specs.Headers.{CanSettle, sent_common, common_sent, rate_sent, exp_sent}

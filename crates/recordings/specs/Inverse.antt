@@ -23,8 +23,9 @@ use Rattle.reader.specs.declared.Summary.{Summary}
 use Rattle.reader.specs.declared.Answer.TheVariants.{Read, Refused}
 use Rattle.image.specs.Made.{sync_in}
 use Rattle.image.specs.Laws.{length_image, image_sync}
-use Rattle.writer.specs.Laws.{few_multiframes}
-use Rattle.writer.specs.Utterance.{Utterance, multiframes_of, image_of, is_accepted}
+use Rattle.writer.proofs.Laws.{few_multiframes}
+use Rattle.writer.specs.Utterance.{Utterance, multiframes_of, image_of}
+use Rattle.writer.proofs.Utterance.{is_accepted}
 use Rattle.damage.specs.Damage.{Damage}
 use Rattle.demands.specs.Whole.{row_of, cut_is}
 use Rattle.demands_met.specs.Met.{index_for, report_for, lent_zeros, hurt_image, hurts, says24, two_multiframes, names_says24}

@@ -22,8 +22,9 @@ use Rattle.image.specs.Made.{Small}
 use Rattle.image.specs.Laws.{length_image}
 use Rattle.wrong_frames.specs.WrongFrames.{frame_count}
 use Rattle.writer.specs.Writing.{needed, multiframes_for, verdict, writing}
-use Rattle.writer.specs.Laws.{accepted, accepts}
-use Rattle.writer.specs.Utterance.{Utterance, image_of, is_accepted}
+use Rattle.writer.proofs.Laws.{accepted, accepts}
+use Rattle.writer.specs.Utterance.{Utterance, image_of}
+use Rattle.writer.proofs.Utterance.{is_accepted}
 use Rattle.writer.specs.declared.Answer as WA
 use Rattle.writer.specs.declared.Answer.TheVariants.{Written, Refused}
 use Rattle.refusals.specs.declared.Writing as WR

@@ -26,8 +26,9 @@ use Rattle.settling.specs.declared.Settlement.TheVariants as S
 use Rattle.image.specs.Made.{sync_in, word_in}
 use Rattle.refusals.specs.declared.Reading.TheVariants.{Unsettled}
 use Rattle.image.specs.Laws.{length_image, image_sync}
-use Rattle.writer.specs.Utterance.{Utterance, multiframes_of, image_of, rate_not_2, is_accepted}
-use Rattle.writer.specs.Laws.{few_multiframes}
+use Rattle.writer.specs.Utterance.{Utterance, multiframes_of, image_of}
+use Rattle.writer.proofs.Utterance.{rate_not_2, is_accepted}
+use Rattle.writer.proofs.Laws.{few_multiframes}
 use Rattle.damage.specs.Damage.{Damage, header_flips, sent_message, header_read_lem}
 use Rattle.damage.specs.Damages.{unharmed}
 use Rattle.demands.specs.Headers.{sent_common, common_sent, settings_sent, rate_sent, exp_sent, settles_nothing_else}

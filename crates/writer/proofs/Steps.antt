@@ -13,7 +13,7 @@ use Rattle.wrong_frames.specs.WrongFrames.{frame_count}
 use Rattle.writer.specs.Writing.{verdict, multiframes_for, outcome, writing}
 use Rattle.refusals.specs.declared.Writing.{Writing as Refusal}
 use Rattle.writer.specs.declared.Answer.TheVariants.{Written, Refused}
-use Rattle.writer.specs.Laws.{accepted}
+use Rattle.writer.proofs.Laws.{accepted}
 
 -- the writer's end: the first n octets are the image, the rest is as it came
 pub finishes : (settings : Settings) (idx out done : List ℕ) (n : ℕ) → verdict settings idx (length out) ≡ Written n

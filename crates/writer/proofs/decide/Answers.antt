@@ -4,7 +4,8 @@ use Prim.Native.Nat.{◌%◌}
 use native.Mathlib.Omega.{arith}
 use lib.ListN.{length}
 use Rattle.layout.specs.Layout.{frame_indices}
-use Rattle.writer.specs.Laws.{Sized, refuses_settings, refuses_part, refuses_many, refuses_wide, refuses_zero, refuses_short, accepts}
+use Rattle.writer.specs.Laws.{Sized}
+use Rattle.writer.proofs.Laws.{refuses_settings, refuses_part, refuses_many, refuses_wide, refuses_zero, refuses_short, accepts}
 use Rattle.writer.proofs.decide.Goals as goal
 
 pub returns-then-not-is_right : goal.returns-then-not-is_right

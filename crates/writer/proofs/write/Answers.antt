@@ -2,7 +2,7 @@
 use mathlib.Core.Path.{sym}
 use native.Mathlib.Omega.{arith}
 use lib.ListN.{length}
-use Rattle.writer.specs.Laws.{accepted, few_multiframes}
+use Rattle.writer.proofs.Laws.{accepted, few_multiframes}
 use Rattle.writer.proofs.Places.{in_numbers}
 use Rattle.writer.proofs.Steps.{finishes, leaves}
 use Rattle.writer.proofs.write.Goals as goal
