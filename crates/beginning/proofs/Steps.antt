@@ -19,8 +19,9 @@ use Rattle.header.specs.declared.Header.TheVariants.{Lost}
 use Rattle.cutting.specs.declared.Piece.{Piece}
 use Rattle.cutting.specs.declared.Piece.TheVariants.{Multiframe, Inverse}
 use Rattle.cutting.specs.Cutting.{piece_of, Ending, Cutting, ended, step, walk}
-use Rattle.cutting.specs.Laws.{at_place}
-use Rattle.cutting.specs.Reached.{Here, here_says}
+use Rattle.cutting.proofs.Laws.{at_place}
+use Rattle.cutting.specs.Reached.{Here}
+use Rattle.cutting.proofs.ReachedLaws.{here_says}
 use Rattle.header_readings.specs.Readings.{readings}
 use Rattle.settling.specs.Settling.{first_agreeing, settling}
 use Rattle.header_readings.specs.Stored.{packed, opened, open_all, length_open, opened_packed, mended}

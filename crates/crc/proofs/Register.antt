@@ -15,7 +15,7 @@ use Rattle.lists.specs.Tests.{all, all_holds, not_same, true_false}
 use Rattle.bits.specs.Bits.{value, field, odd}
 use Rattle.bits.proofs.Laws.{value_lt, value_field, field_value, field_add, field_low}
 use Rattle.crc.specs.Crc.{Rem, rem, none, sent, fed, fed_all, code, coded, right}
-use Rattle.crc.specs.Laws.{fed_append, right_fed, right_true}
+use Rattle.crc.proofs.Laws.{fed_append, right_fed, right_true}
 
 stepped : Bool → ℕ → Bool
 stepped b n = eqb (cond (xor (eqb (n % 2) 1) b) (bit_xor (n / 2) 12) (n / 2)) (code (fed (coded n) b))

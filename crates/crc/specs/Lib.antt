@@ -1,5 +1,3 @@
 pub mod Crc
 pub mod Laws
-pub mod Remainder
 pub mod Multiples
-pub mod Damage

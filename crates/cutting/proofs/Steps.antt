@@ -15,7 +15,8 @@ use Rattle.cutting.specs.declared.Piece.TheVariants.{End, Multiframe, Inverse, U
 use Rattle.cutting.specs.declared.Cut.{Cut}
 use Rattle.cutting.specs.declared.Cut.TheVariants as C
 use Rattle.cutting.specs.Cutting.{piece_of, Ending, whole, refused, Cutting, step, walk, cutting, answered_by, answered, laid}
-use Rattle.cutting.specs.Laws.{Says, says, at_place}
+use Rattle.cutting.specs.Laws.{Says}
+use Rattle.cutting.proofs.Laws.{says, at_place}
 
 -- one more stored at the front of what is still to be laid
 laid_next : (k x : ℕ) (r l : List ℕ) → k < length l → laid (k + 1) r (set l k x) ≡ laid k (x ∷ r) l

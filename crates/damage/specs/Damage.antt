@@ -16,7 +16,7 @@ use Rattle.header_code.specs.Code.{flips_to}
 use Rattle.message.specs.Message.{message}
 use Rattle.message.specs.Message.Laws.{message_lt}
 use Rattle.header.specs.Reading.{decoded_as, reading}
-use Rattle.header.specs.Reading.Laws.{near, lost_at_three}
+use Rattle.header.proofs.Laws.{near, lost_at_three}
 use Rattle.header.specs.declared.Header.TheVariants.{Codeword, Lost}
 use Rattle.image.specs.Made.{Small, sync_in, header_in, word_in, packet_in}
 use Rattle.image.specs.Laws.{image_word, image_packet}

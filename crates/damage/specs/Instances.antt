@@ -18,13 +18,13 @@ use Rattle.frames.specs.Frames.{zero_frame}
 use Rattle.bits.specs.Bits.{field, laid}
 use Rattle.carrier.specs.Carrier.{stream_packet}
 use Rattle.crc.specs.Crc.{crc, after, flip, Damaged}
-use Rattle.crc.specs.Damage.{length_flip, flips_burst}
+use Rattle.crc.proofs.Damage.{length_flip, flips_burst}
 use Rattle.packet.specs.Packet.{guarded, packet, row, packet_of, stream}
 use Rattle.packet.proofs.Laws.{row_past, length_packet_of, length_stream, stream_part}
 use Rattle.header_code.specs.Code.{codeword, flips_to}
 use Rattle.header_code.specs.Code.Distance.{codeword_lt}
 use Rattle.message.specs.Message.Laws.{message_lt}
-use Rattle.header.specs.Reading.Laws.{flips_of}
+use Rattle.header.proofs.Laws.{flips_of}
 use Rattle.image.specs.Made.{Small, made}
 use Rattle.writer.specs.Writing.{verdict, room_answer, needed}
 use Rattle.writer.specs.Utterance.{Utterance, multiframes_of, pairs_of, image_of}

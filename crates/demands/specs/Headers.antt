@@ -11,13 +11,13 @@ use Rattle.choices.specs.declared.Choices.{Choices}
 use Rattle.lists.specs.Tests.{when, true_false}
 use Rattle.lists.specs.Rows.{each, length_each, each_at, same_each}
 use Rattle.settings.specs.declared.Settings.{Settings}
-use Rattle.cutting.specs.Laws.{every_length}
+use Rattle.cutting.proofs.Laws.{every_length}
 use Rattle.choices.specs.Choices.{one_settles}
 use Rattle.header_code.specs.Code.{flips_to}
 use Rattle.message.specs.Message.{message, rate_of, count_of, exp_of, common_bits, settings_of}
 use Rattle.message.specs.Message.Laws.{count_back, exp_back, common_exp, common_message, settings_back, common_settings}
 use Rattle.header.specs.Reading as H
-use Rattle.header.specs.Reading.Laws.{lost_not_read, same_message}
+use Rattle.header.proofs.Laws.{lost_not_read, same_message}
 use Rattle.header.specs.declared.Decoded.{Decoded}
 use Rattle.header.specs.declared.Header.{Header}
 use Rattle.header.specs.declared.Header.TheVariants.{Codeword, Lost}

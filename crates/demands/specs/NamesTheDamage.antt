@@ -15,7 +15,7 @@ use Rattle.choices.specs.declared.Choices.{Choices}
 use Rattle.tables.specs.Tables.{Tables}
 use Rattle.packet.specs.Packet.{frame_at}
 use Rattle.packet.proofs.Laws.{length_row, row_inside, row_past}
-use Rattle.cutting.specs.Laws.{every_length}
+use Rattle.cutting.proofs.Laws.{every_length}
 use Rattle.header_readings.specs.Readings.{readings}
 use Rattle.settling.specs.Settling.{settling}
 use Rattle.carrier.specs.Carrier.{received, pair_count}

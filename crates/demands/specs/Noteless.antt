@@ -25,7 +25,7 @@ use Rattle.header_code.specs.Code.Distance.{no_flips}
 use Rattle.message.specs.Message.{message, count_of, exp_of, settings_of}
 use Rattle.message.specs.Message.Laws.{message_back, common_exp, count_mod, common_settings}
 use Rattle.header.specs.Reading as H
-use Rattle.header.specs.Reading.Laws.{flips_counted, reads}
+use Rattle.header.proofs.Laws.{flips_counted, reads}
 use Rattle.header.specs.declared.Header.{Header}
 use Rattle.header.specs.declared.Header.TheVariants.{Codeword, Lost}
 use Rattle.header_notes.specs.HeaderNotes.{header_note}

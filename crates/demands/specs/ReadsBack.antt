@@ -24,7 +24,7 @@ use Rattle.settings.specs.declared.Settings.{Settings}
 use Rattle.frames.specs.Frames.{all_zero, zero_frame, all_zero_at, Nonzero}
 use Rattle.packet.specs.Packet.{frame_at}
 use Rattle.packet.proofs.Laws.{length_row, get_or_row}
-use Rattle.cutting.specs.Laws.{every_length}
+use Rattle.cutting.proofs.Laws.{every_length}
 use Rattle.message.specs.Message.{settings_of}
 use Rattle.header.specs.declared.Header.TheVariants.{Lost}
 use Rattle.header_readings.specs.Readings.{readings}

@@ -18,7 +18,7 @@ use Rattle.crc.specs.Crc.{right}
 use Rattle.packet.specs.Packet.{apart, frame_at}
 use Rattle.packet.proofs.Laws.{length_row, packet_of_back}
 use Rattle.consistency.specs.Consistency.{inconsistent}
-use Rattle.cutting.specs.Laws.{every_length}
+use Rattle.cutting.proofs.Laws.{every_length}
 use Rattle.deciding.specs.Deciding.{received_notes}
 use Rattle.carrier.specs.Carrier.{received, pair_count}
 use Rattle.notes.specs.Notes.{pair_fails, frames_of, pair_inconsistent, pair_notes}

@@ -14,10 +14,11 @@ use Rattle.lists.specs.Rows.{each, same_each}
 use Rattle.layout.specs.Layout.{frame_indices, multiframe_pairs, multiframe_octets, most_multiframes, index_octets, report_octets, codebook_numbers, threshold_numbers, pair_of, multiframe_of, first_pair, sync}
 use Rattle.choices.specs.declared.Choices.{Choices}
 use Rattle.tables.specs.Tables.{Tables, RightTables}
-use Rattle.tables.specs.Admitted.{right_passes}
+use Rattle.tables.proofs.AdmittedLaws.{right_passes}
 use Rattle.bits.specs.Bits.{bits}
 use Rattle.cutting.specs.Cutting.{Cutting, whole, cutting}
-use Rattle.cutting.specs.Laws.{every, every_length, every_at, whole_image}
+use Rattle.cutting.specs.Laws.{every}
+use Rattle.cutting.proofs.Laws.{every_length, every_at, whole_image}
 use Rattle.header.specs.Reading as H
 use Rattle.header.specs.declared.Header.TheVariants.{Lost}
 use Rattle.settling.specs.declared.Settlement.TheVariants as S

@@ -17,7 +17,7 @@ use Rattle.tables.specs.Tables.{Tables}
 use Rattle.bits.specs.Bits.{bits}
 use Rattle.bits.proofs.Laws.{length_bits}
 use Rattle.crc.specs.Crc.{Right, right}
-use Rattle.crc.specs.Laws.{right_true}
+use Rattle.crc.proofs.Laws.{right_true}
 use Rattle.packet.specs.Packet.{apart, packet_of}
 use Rattle.header_code.specs.Code.{codeword}
 use Rattle.message.specs.Message.{message, settings_of}
@@ -25,7 +25,7 @@ use Rattle.header.specs.Reading as H
 use Rattle.header.specs.declared.Header.{Header}
 use Rattle.header.specs.declared.Header.TheVariants.{Lost}
 use Rattle.cutting.specs.Cutting.{cutting}
-use Rattle.cutting.specs.Laws.{every_at, no_inverse, sound, place_stands}
+use Rattle.cutting.proofs.Laws.{every_at, no_inverse, sound, place_stands}
 use Rattle.header_readings.specs.Readings.{readings}
 use Rattle.header_notes.specs.HeaderNotes.{header_note}
 use Rattle.carrier.specs.Carrier.{received, pair_count}

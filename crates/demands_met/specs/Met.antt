@@ -17,19 +17,19 @@ use Rattle.lists.specs.Search.{first_from}
 use Rattle.layout.specs.Layout.{frame_indices, packet_bits, multiframe_pairs, stream_octets, index_octets, report_octets, codebook_numbers, threshold_numbers, first_pair}
 use Rattle.choices.specs.declared.Choices.{Choices}
 use Rattle.tables.specs.Tables.{at, zero_tables}
-use Rattle.tables.specs.Admitted.{zero_right}
+use Rattle.tables.proofs.AdmittedLaws.{zero_right}
 use Rattle.settings.specs.Settings.{settings}
 use Rattle.frames.specs.Frames.{zero_frame}
 use Rattle.carrier.specs.Carrier.{stream_packet}
 use Rattle.crc.specs.Crc.{flip, Damaged}
-use Rattle.crc.specs.Damage.{length_flip, flips_burst, flips_double}
+use Rattle.crc.proofs.Damage.{length_flip, flips_burst, flips_double}
 use Rattle.packet.specs.Packet.{frame_at, packet_of, stream}
 use Rattle.packet.proofs.Laws.{length_packet_of, length_stream, stream_part}
 use Rattle.consistency.specs.Consistency.{element_exceeds, flagged, flags, inconsistent}
 use Rattle.header_code.specs.Code.{codeword, flips_to}
 use Rattle.header_code.specs.Code.Distance.{codeword_lt}
 use Rattle.message.specs.Message.Laws.{message_lt}
-use Rattle.header.specs.Reading.Laws.{flips_of}
+use Rattle.header.proofs.Laws.{flips_of}
 use Rattle.reader.specs.Reading.{Outcome, reading}
 use Rattle.image.specs.Made.{Small, made, made_packet}
 use Rattle.image.specs.Laws.{length_image, image_small, image_packet}

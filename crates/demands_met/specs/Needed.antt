@@ -35,7 +35,7 @@ use Rattle.settings.specs.Settings.{settings}
 use Rattle.frames.specs.Frames.{zero_frame}
 use Rattle.bits.specs.Bits.{field, laid}
 use Rattle.crc.specs.Crc.{crc, after, flip, Damaged}
-use Rattle.crc.specs.Damage.{length_flip, flip_burst}
+use Rattle.crc.proofs.Damage.{length_flip, flip_burst}
 use Rattle.packet.specs.Packet.{packet, guarded, row, packet_of, stream}
 use Rattle.packet.proofs.Laws.{length_packet_of, length_stream}
 use Rattle.header_code.specs.Code.{codeword, flips_to}
@@ -44,10 +44,10 @@ use Rattle.header_code.specs.Code.Syndrome.{codeword_xor}
 use Rattle.header_code.specs.Code.Examples.{three_from_rate_1}
 use Rattle.message.specs.Message.{message, settings_of}
 use Rattle.message.specs.Message.Laws.{message_lt, message_back, message_counts, rate_masked, type_masked, count_masked, exp_shifted}
-use Rattle.header.specs.Reading.Laws.{flips_of}
+use Rattle.header.proofs.Laws.{flips_of}
 use Rattle.carrier.specs.Carrier.{stream_packet, received, pair_count}
 use Rattle.notes.specs.Laws.{length_notes}
-use Rattle.cutting.specs.Laws.{every_length}
+use Rattle.cutting.proofs.Laws.{every_length}
 use Rattle.bad_pairs.specs.BadPairs.{bad, bad_pairs}
 use Rattle.reader.specs.Reading.{outcome, reading}
 use Rattle.refusals.specs.declared.Reading.TheVariants.{Unsettled, AllBad}

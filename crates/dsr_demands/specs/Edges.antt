@@ -6,8 +6,8 @@ use Rattle.std.proofs.Common.{ap, ◌∙◌, arith, lit≤}
 use Rattle.choices.specs.Choices.{asked}
 use Rattle.tables.specs.Tables.{Tables, zero_tables}
 use Rattle.cutting.specs.Cutting.{Cutting, whole, cutting}
-use Rattle.cutting.specs.Laws.{every_length}
-use Rattle.cutting.specs.Reached.{whole_exactly}
+use Rattle.cutting.proofs.Laws.{every_length}
+use Rattle.cutting.proofs.ReachedLaws.{whole_exactly}
 use Rattle.image.specs.Laws.{length_image, image_sync}
 use Rattle.writer.proofs.Laws.{few_multiframes}
 use Rattle.writer.specs.Utterance.{Utterance, multiframes_of, image_of}

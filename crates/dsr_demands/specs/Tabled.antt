@@ -13,7 +13,7 @@ use Rattle.layout.specs.Layout.{threshold_numbers}
 use Rattle.choices.specs.declared.Choices.{Choices}
 use Rattle.choices.specs.declared.Asked.TheVariants.{For}
 use Rattle.tables.specs.Tables.{Tables, tables_of, at as number_at, negative, RightSizes, RightTables, FirstNegative, sizes_right, admission}
-use Rattle.tables.specs.Admitted.{ten_exactly}
+use Rattle.tables.proofs.AdmittedLaws.{ten_exactly}
 use Rattle.refusals.specs.Refusals.{no_room, reading_number, reading_place, hunting_number, hunting_place}
 use Rattle.refusals.specs.declared.Reading.{Reading as Refusal}
 use Rattle.refusals.specs.declared.Reading.TheVariants as RV

@@ -21,7 +21,7 @@ use Rattle.packet.specs.Packet.{apart, row, stream, packet_of, packet, guarded}
 use Rattle.bad_pairs.specs.BadPairs.{note_by}
 use Rattle.notes.specs.Notes.{pair_fails, frames_of, all_frames}
 use Rattle.header.specs.Reading.{reading}
-use Rattle.header.specs.Reading.Examples as H
+use Rattle.header.proofs.Examples as H
 use Rattle.choices.specs.Choices.{asked}
 use Rattle.tables.specs.Tables.{tables_of, zero_tables, sizes_right, admission}
 use Rattle.hunt.specs.Hunt.{hunted, found, in_range, misses}

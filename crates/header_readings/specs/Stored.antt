@@ -6,7 +6,7 @@ use Rattle.lists.specs.Tests.{when}
 use Rattle.carrier.specs.Carrier.{word_at, in_places}
 use Rattle.lists.specs.Rows.{each, length_each, each_at, same_each}
 use Rattle.header.specs.Reading.{mendable, ReadAs, reading}
-use Rattle.header.specs.Reading.Laws.{reads}
+use Rattle.header.proofs.Laws.{reads}
 use Rattle.header.specs.declared.Header.{Header}
 use Rattle.header.specs.declared.Header.TheVariants.{Codeword, Lost}
 use Rattle.header_readings.specs.Readings.{readings}

@@ -9,7 +9,7 @@ use Rattle.header_code.specs.Code.{codeword, flips_to}
 use Rattle.header_code.specs.Code.Distance.{itself_near}
 use Rattle.header_code.specs.Code.Examples.{of_octets, count_1, three_from_zero}
 use Rattle.header.specs.Reading.{reading}
-use Rattle.header.specs.Reading.Laws.{near, lost_at_three}
+use Rattle.header.proofs.Laws.{near, lost_at_three}
 use Rattle.hunt.specs.Hunt.{sync_bits, header_bits, multiframe_bits, sync, in_range, matches, readable, passes}
 use Rattle.refusals.specs.Refusals.{hunt_number, hunt_place, hunt_tested}
 use Rattle.refusals.specs.declared.Hunt.TheVariants.{MatchRange, Nowhere}

@@ -10,11 +10,11 @@ use Rattle.layout.specs.Layout.{most_multiframes}
 use Rattle.choices.specs.Choices.{one_settles}
 use Rattle.choices.specs.declared.Choices.{Choices}
 use Rattle.tables.specs.Tables.{Tables, RightTables, admission, if_admitted}
-use Rattle.tables.specs.Admitted.{right_passes}
+use Rattle.tables.proofs.AdmittedLaws.{right_passes}
 use Rattle.refusals.specs.declared.Reading.{Reading as OctetRefusal}
 use Rattle.cutting.specs.Cutting.{Cutting, cutting}
-use Rattle.cutting.specs.Reached.{whole_exactly}
-use Rattle.cutting.specs.Laws.{every_length}
+use Rattle.cutting.proofs.ReachedLaws.{whole_exactly}
+use Rattle.cutting.proofs.Laws.{every_length}
 use Rattle.bits.specs.Bits.{bits}
 use Rattle.hunt.specs.Hunt.{in_range}
 use Rattle.gathering.specs.Gathering.{Ending, whole, too_many, Gathering, gathering, outside_of, image_of}

@@ -5,7 +5,7 @@ use Rattle.std.proofs.Common.{sym, ◌∙◌, arith}
 use Rattle.layout.specs.Layout.{most_multiframes}
 use Rattle.choices.specs.declared.Choices.{Choices}
 use Rattle.tables.specs.Tables.{Tables, RightSizes, RightTables, FirstNegative}
-use Rattle.tables.specs.Admitted.{right_passes, wrong_sizes, negative_refused}
+use Rattle.tables.proofs.AdmittedLaws.{right_passes, wrong_sizes, negative_refused}
 use Rattle.bits.specs.Bits.{bits}
 use Rattle.hunt.specs.Hunt.{in_range}
 use Rattle.refusals.specs.declared.Reading.TheVariants as RR

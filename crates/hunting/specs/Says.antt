@@ -8,12 +8,14 @@ use Rattle.lists.specs.Tests.{by_test, true_false}
 use Rattle.layout.specs.Layout.{multiframe_octets, most_multiframes, index_octets, report_octets, sync_first, sync_second}
 use Rattle.choices.specs.declared.Choices.{Choices}
 use Rattle.tables.specs.Tables.{Tables, RightSizes, RightTables, FirstNegative, admission}
-use Rattle.tables.specs.Admitted.{Shown, shown, by_shown, right_passes}
+use Rattle.tables.specs.Admitted.{Shown}
+use Rattle.tables.proofs.AdmittedLaws.{shown, by_shown, right_passes}
 use Rattle.tables.specs.declared.Admission.{Admission}
 use Rattle.tables.specs.declared.Admission.TheVariants as A
 use Rattle.bits.specs.Bits.{bits}
 use Rattle.cutting.specs.Cutting.{Cutting, cutting, whole as uncut}
-use Rattle.cutting.specs.Laws.{every, every_length, whole_image}
+use Rattle.cutting.specs.Laws.{every}
+use Rattle.cutting.proofs.Laws.{every_length, whole_image}
 use Rattle.settling.specs.declared.Settlement.{Settlement}
 use Rattle.settling.specs.declared.Settlement.TheVariants as S
 use Rattle.unfit.specs.Unfit.{unfit}

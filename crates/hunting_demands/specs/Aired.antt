@@ -19,7 +19,7 @@ use Rattle.packet.specs.Packet.{frame_at}
 use Rattle.header_code.specs.Code.{codeword, flips_to}
 use Rattle.header_code.specs.Code.Distance.{codeword_lt}
 use Rattle.message.specs.Message.Laws.{message_lt}
-use Rattle.header.specs.Reading.Laws.{flips_of}
+use Rattle.header.proofs.Laws.{flips_of}
 use Rattle.hunt.specs.Hunt.{sync_bits, header_bits, multiframe_bits, fewest_matches, sync, matches, passes, searched}
 use Rattle.hunt.specs.Laws.{searched_all}
 use Rattle.image.specs.Made.{packet_in, made_packet}

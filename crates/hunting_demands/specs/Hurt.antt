@@ -20,7 +20,7 @@ use Rattle.header_code.specs.Code.{codeword, flips_to}
 use Rattle.header_code.specs.Code.Distance.{codeword_lt}
 use Rattle.message.specs.Message.Laws.{message_lt}
 use Rattle.header.specs.Reading.{decoded_as, reading}
-use Rattle.header.specs.Reading.Laws.{near, flips_of, three_lost}
+use Rattle.header.proofs.Laws.{near, flips_of, three_lost}
 use Rattle.header.specs.declared.Header.TheVariants.{Codeword, Lost}
 use Rattle.hunt.specs.Hunt.{sync_bits, header_bits, multiframe_bits, sync, matches, passes, searched}
 use Rattle.hunt.specs.Laws.{searched_all}

@@ -16,14 +16,14 @@ use Rattle.layout.specs.Layout.{packet_bits, multiframe_pairs, multiframe_octets
 use Rattle.choices.specs.Choices.{one_settles, by_default, by_one_header}
 use Rattle.choices.specs.declared.Choices.{Choices}
 use Rattle.tables.specs.Tables.{Tables, RightTables, zero_tables}
-use Rattle.tables.specs.Admitted.{right_passes}
+use Rattle.tables.proofs.AdmittedLaws.{right_passes}
 use Rattle.settings.specs.Settings.{settings}
 use Rattle.bits.specs.Bits.{field, fields, value, bits}
 use Rattle.bits.proofs.Laws.{length_field, length_bits}
 use Rattle.carrier.specs.Carrier.{stream_packet}
-use Rattle.cutting.specs.Laws.{every_length}
+use Rattle.cutting.proofs.Laws.{every_length}
 use Rattle.crc.specs.Crc.{flip}
-use Rattle.crc.specs.Damage.{length_flip, flips_burst}
+use Rattle.crc.proofs.Damage.{length_flip, flips_burst}
 use Rattle.packet.specs.Packet.{packet_of, stream}
 use Rattle.packet.proofs.Laws.{length_packet_of, length_stream}
 use Rattle.header_code.specs.Code.{codeword}
@@ -31,7 +31,7 @@ use Rattle.header_code.specs.Code.Distance.{codeword_lt}
 use Rattle.message.specs.Message.{message, rate_of, common_bits}
 use Rattle.message.specs.Message.Laws.{message_lt, rate_back, common_rate}
 use Rattle.header.specs.Reading.{decoded_as, reading}
-use Rattle.header.specs.Reading.Laws.{mended}
+use Rattle.header.proofs.Laws.{mended}
 use Rattle.header.specs.declared.Decoded.{Decoded}
 use Rattle.header.specs.declared.Header.{Header}
 use Rattle.header.specs.declared.Header.TheVariants.{Codeword}

@@ -12,11 +12,11 @@ use Rattle.tables.specs.Tables.{Tables}
 use Rattle.bits.specs.Bits.{field, value, bits}
 use Rattle.bits.proofs.Laws.{length_field, value_field, value_lt, bits_octets}
 use Rattle.header.specs.Reading.{ReadAs, reading}
-use Rattle.header.specs.Reading.Laws.{reads}
+use Rattle.header.proofs.Laws.{reads}
 use Rattle.header.specs.declared.Header.{Header}
 use Rattle.header.specs.declared.Header.TheVariants.{Codeword, Lost}
 use Rattle.cutting.specs.Cutting.{Cutting, cutting}
-use Rattle.cutting.specs.Laws.{every_length}
+use Rattle.cutting.proofs.Laws.{every_length}
 use Rattle.header_readings.specs.Readings.{readings}
 use Rattle.header_notes.specs.HeaderNotes.{header_note}
 use Rattle.deciding.specs.Deciding.{received_notes}

@@ -13,7 +13,7 @@ use Rattle.lists.specs.Parts.{part, length_part}
 use Rattle.layout.specs.Layout.{header_octets, stream_octets, multiframe_octets, most_multiframes, sync_first, sync_second}
 use Rattle.choices.specs.declared.Choices.{Choices}
 use Rattle.tables.specs.Tables.{Tables, RightTables}
-use Rattle.tables.specs.Admitted.{right_passes}
+use Rattle.tables.proofs.AdmittedLaws.{right_passes}
 use Rattle.bits.specs.Bits.{field, fields, value, bits, octets}
 use Rattle.bits.proofs.Laws.{field_value, value_lt, bits_octets, octets_append}
 use Rattle.header.specs.Reading.{reading}

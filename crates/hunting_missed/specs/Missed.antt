@@ -31,7 +31,7 @@ use Rattle.header_code.specs.Code.Examples as E
 use Rattle.message.specs.Message.{message}
 use Rattle.message.specs.Message.Laws.{message_lt, message_counts, packed}
 use Rattle.header.specs.Reading.{decoded_as, reading}
-use Rattle.header.specs.Reading.Laws.{near}
+use Rattle.header.proofs.Laws.{near}
 use Rattle.header.specs.declared.Decoded.{Decoded}
 use Rattle.header.specs.declared.Header.{Header}
 use Rattle.header.specs.declared.Header.TheVariants.{Codeword, Lost}

@@ -14,7 +14,7 @@ use Rattle.last_line.specs.Examples.{empty_refused}
 use Rattle.listing.specs.Listing.{listed, listing}
 use Rattle.choices.specs.Choices.{by_one_header}
 use Rattle.tables.specs.Tables.{zero_tables}
-use Rattle.tables.specs.Admitted.{zero_right, right_passes}
+use Rattle.tables.proofs.AdmittedLaws.{zero_right, right_passes}
 
 -- "refused 14 0"
 pub empty_listed : listing [] ≡ 114 ∷ 101 ∷ 102 ∷ 117 ∷ 115 ∷ 101 ∷ 100 ∷ 32 ∷ 49 ∷ 52 ∷ 32 ∷ 48 ∷ 10 ∷ []

@@ -14,8 +14,8 @@ use Rattle.layout.specs.Layout.{widths, frame_indices, frame_bits, data_bits, pa
 use Rattle.bits.specs.Bits.{bits, octets, total, Fits}
 use Rattle.bits.proofs.Laws.{length_laid, numbers_laid, laid_numbers, numbers_front, fits_each, bits_octets}
 use Rattle.crc.specs.Crc.{crc, sent, Right, right, Damaged}
-use Rattle.crc.specs.Laws.{length_sent, right_true}
-use Rattle.crc.specs.Damage.{damage_named, damage_apart}
+use Rattle.crc.proofs.Laws.{length_sent, right_true}
+use Rattle.crc.proofs.Damage.{damage_named, damage_apart}
 use Rattle.packet.specs.Packet.{frame, indices, guarded, packet, apart, row, frame_at, packet_of, stream}
 
 -- ---- frames

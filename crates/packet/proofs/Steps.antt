@@ -14,7 +14,7 @@ use Rattle.layout.specs.Layout.{widths, frame_indices, frame_bits, most_narrow, 
 use Rattle.bits.specs.Bits.{bits, field, value, numbers, total}
 use Rattle.bits.proofs.Laws.{field_value, take_field, field_part, value_field, length_numbers, numbers_more, numbers_front, total_same, joined, in_word}
 use Rattle.crc.specs.Crc.{Rem, code, coded, none, fed_all, right}
-use Rattle.crc.specs.Laws.{fed_append}
+use Rattle.crc.proofs.Laws.{fed_append}
 use Rattle.crc.proofs.Register.{coded_code, right_test}
 use Rattle.packet.specs.Packet.{second_bits, indices, apart}
 use Rattle.packet.proofs.Laws.{total_widths}

@@ -6,7 +6,7 @@ use Rattle.std.proofs.Common.{arith, lit<}
 use Rattle.layout.specs.Layout.{widths, data_bits, packet_bits}
 use Rattle.bits.specs.Bits.{field, laid}
 use Rattle.crc.specs.Crc.{rem, crc, after, Right, flip}
-use Rattle.crc.specs.Damage.{two_flips}
+use Rattle.crc.proofs.Damage.{two_flips}
 use Rattle.packet.specs.Packet.{frame, guarded, packet}
 
 -- frame 1,0,0,0,0,0,0 and a zero frame

@@ -15,7 +15,7 @@ use Rattle.layout.specs.Layout.{widths, frame_indices, frame_bits, most_narrow, 
 use Rattle.bits.specs.Bits.{field, value, laid}
 use Rattle.bits.proofs.Laws.{field_value, field_add, field_low, value_lt, length_laid, laid_append, laid_one, total_same, joined, joined_lt, word_add}
 use Rattle.crc.specs.Crc.{Rem, crc, code, coded, none, sent, fed_all}
-use Rattle.crc.specs.Laws.{crc_fed, length_sent}
+use Rattle.crc.proofs.Laws.{crc_fed, length_sent}
 use Rattle.crc.proofs.Register.{code_lt}
 use Rattle.packet.specs.Packet.{rest_bits, half_bits, second_bits, frame, guarded, packet, row, frame_at, packet_of}
 use Rattle.packet.proofs.Laws.{length_frame, total_widths, length_row, row_past}

@@ -17,7 +17,7 @@ use Rattle.header_code.specs.Code.Examples as E
 use Rattle.message.specs.Message.{message, settings_of}
 use Rattle.message.specs.Message.Laws.{message_lt, message_back, rate_masked, type_masked, count_masked, exp_shifted}
 use Rattle.header.specs.Reading as R
-use Rattle.header.specs.Reading.Laws.{near, flips_of}
+use Rattle.header.proofs.Laws.{near, flips_of}
 use Rattle.header.specs.declared.Header.TheVariants.{Codeword}
 use Rattle.image.specs.Image.{multiframe}
 

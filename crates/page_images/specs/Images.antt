@@ -15,7 +15,7 @@ use Rattle.layout.specs.Layout.{widths, stream_octets, first_pair, multiframe_pa
 use Rattle.choices.specs.Choices.{by_one_header}
 use Rattle.choices.specs.declared.Choices.{Choices}
 use Rattle.tables.specs.Tables.{Tables, tables_of, zero_tables}
-use Rattle.tables.specs.Admitted.{zero_right}
+use Rattle.tables.proofs.AdmittedLaws.{zero_right}
 use Rattle.settings.specs.Settings.{settings}
 use Rattle.frames.specs.Frames.{zero_frame as isZeroFrame}
 use Rattle.bits.specs.Bits.{numbers, value, laid, field, fields, bits, octets}

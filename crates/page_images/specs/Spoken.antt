@@ -20,13 +20,13 @@ use Rattle.choices.specs.declared.Choices.{Choices}
 use Rattle.settings.specs.declared.Settings.{Settings}
 use Rattle.settings.specs.Settings.{settings, settings_right}
 use Rattle.frames.specs.Frames.{zero_frame, speaks}
-use Rattle.crc.specs.Damage.{flips_burst, flips_double}
+use Rattle.crc.proofs.Damage.{flips_burst, flips_double}
 use Rattle.packet.specs.Packet.{frame_at, packet_of}
 use Rattle.packet.proofs.Laws.{length_packet_of}
 use Rattle.header_code.specs.Code.{codeword, flips_to}
 use Rattle.header_code.specs.Code.Distance.{codeword_lt}
 use Rattle.message.specs.Message.Laws.{message_lt}
-use Rattle.header.specs.Reading.Laws.{flips_of}
+use Rattle.header.proofs.Laws.{flips_of}
 use Rattle.image.specs.Made.{packet_in, made_word, made_packet}
 use Rattle.image.specs.Laws.{image_packet}
 use Rattle.wrong_frames.specs.WrongFrames.{frame_count, is_wide, must_speak, ends_early}

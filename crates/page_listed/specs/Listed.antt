@@ -16,7 +16,7 @@ use Rattle.lists.specs.Rows.{joined, each, each_at, same_each}
 use Rattle.layout.specs.Layout.{index_octets, report_octets, first_pair, multiframe_pairs}
 use Rattle.choices.specs.declared.Choices.{Choices}
 use Rattle.tables.specs.Tables.{Tables, tables_of, zero_tables}
-use Rattle.tables.specs.Admitted.{none_by_test, zero_right}
+use Rattle.tables.proofs.AdmittedLaws.{none_by_test, zero_right}
 use Rattle.settings.specs.Settings.{settings}
 use Rattle.frames.specs.Frames.{zero_frame}
 use Rattle.bits.specs.Bits.{value, numbers, field, fields, total}
@@ -27,7 +27,7 @@ use Rattle.header_code.specs.Code.Examples.{of_octets, three_from_zero}
 use Rattle.message.specs.Message.{message, rate_of, count_of, common_bits}
 use Rattle.message.specs.Message.Laws.{message_lt, rate_back, type_back, count_back, exp_back, common_rate, common_type, common_exp, common_message}
 use Rattle.header.specs.Reading as H
-use Rattle.header.specs.Reading.Laws.{lost_at_three}
+use Rattle.header.proofs.Laws.{lost_at_three}
 use Rattle.header.specs.declared.Header.{Header}
 use Rattle.header.specs.declared.Header.TheVariants.{Codeword, Lost}
 use Rattle.cutting.specs.Cutting.{sync_met, last_met, piece_by, whole, Cutting, walk, cutting}

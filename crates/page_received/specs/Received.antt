@@ -17,7 +17,7 @@ use Rattle.layout.specs.Layout.{multiframe_octets, most_multiframes, index_octet
 use Rattle.choices.specs.Choices.{by_default, by_one_header}
 use Rattle.choices.specs.declared.Choices.{Choices}
 use Rattle.tables.specs.Tables.{Tables}
-use Rattle.tables.specs.Admitted.{right_passes, wrong_sizes}
+use Rattle.tables.proofs.AdmittedLaws.{right_passes, wrong_sizes}
 use Rattle.settings.specs.Settings.{settings}
 use Rattle.frames.specs.Frames.{zero_frame}
 use Rattle.bits.specs.Bits.{value, bits, field, fields}
@@ -27,12 +27,12 @@ use Rattle.header_code.specs.Code.Examples.{of_octets, count_1, count_2, exp_9, 
 use Rattle.message.specs.Message.{message, rate_of, exp_of, common_bits}
 use Rattle.message.specs.Message.Laws.{message_lt, message_counts, rate_back, rate_masked, exp_shifted, common_rate, common_exp, common_message}
 use Rattle.header.specs.Reading as H
-use Rattle.header.specs.Reading.Laws.{lost_at_three}
+use Rattle.header.proofs.Laws.{lost_at_three}
 use Rattle.header.specs.declared.Header.{Header}
 use Rattle.header.specs.declared.Header.TheVariants.{Codeword, Lost}
 use Rattle.cutting.specs.Cutting.{sync_met, last_met, piece_by, piece_of, Ending, whole, refused, Cutting, walk, cutting}
 use Rattle.cutting.specs.declared.Piece.TheVariants.{Multiframe}
-use Rattle.cutting.specs.Laws.{multiframe_met, at_place, every_length}
+use Rattle.cutting.proofs.Laws.{multiframe_met, at_place, every_length}
 use Rattle.header_readings.specs.Readings.{readings}
 use Rattle.settling.specs.Settling.{first_agreeing, only_one, settling}
 use Rattle.header_readings.specs.Laws.{length_readings}

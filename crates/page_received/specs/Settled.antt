@@ -21,7 +21,8 @@ use Rattle.header.specs.declared.Header.TheVariants.{Codeword, Lost}
 use Rattle.refusals.specs.declared.Reading.{Reading as Refusal}
 use Rattle.refusals.specs.declared.Reading.TheVariants.{Unknown, CutShort, Empty, TooMany, Unsettled, Unfit}
 use Rattle.cutting.specs.Cutting.{piece_by, sync_met, last_met, Ending, whole, refused, Cutting, ended, walk, cutting}
-use Rattle.cutting.specs.Laws.{every, every_length, every_at}
+use Rattle.cutting.specs.Laws.{every}
+use Rattle.cutting.proofs.Laws.{every_length, every_at}
 use Rattle.header_readings.specs.Readings.{readings}
 use Rattle.settling.specs.Settling.{first_agreeing, settling}
 use Rattle.settling.specs.Laws.{not_one, only_clean, only_mended, only_default}

@@ -22,7 +22,7 @@ use Rattle.choices.specs.declared.Choices.{Choices}
 use Rattle.tables.specs.Tables.{Tables, zero_tables}
 use Rattle.settings.specs.Settings.{settings, settings_right}
 use Rattle.crc.specs.Crc.{right, flip, Damaged}
-use Rattle.crc.specs.Damage.{length_flip, flip_burst}
+use Rattle.crc.proofs.Damage.{length_flip, flip_burst}
 use Rattle.packet.specs.Packet.{packet_of, frame_at}
 use Rattle.packet.proofs.Laws.{length_packet_of}
 use Rattle.header_code.specs.Code.{codeword, flips_to}
@@ -31,7 +31,7 @@ use Rattle.header_code.specs.Code.Syndrome.{codeword_xor}
 use Rattle.header_code.specs.Code.Examples.{codeword_1}
 use Rattle.message.specs.Message.{message, rate_of, type_of, count_of, exp_of, common_bits}
 use Rattle.message.specs.Message.Laws.{message_lt, message_back, rate_back, type_back, count_back, exp_back, rate_masked, type_masked, count_masked, exp_shifted, count_mod}
-use Rattle.header.specs.Reading.Laws.{flips_of}
+use Rattle.header.proofs.Laws.{flips_of}
 use Rattle.header.specs.Reading as H
 use Rattle.header.specs.declared.Header.{Header}
 use Rattle.header.specs.declared.Header.TheVariants.{Codeword, Lost}
@@ -41,7 +41,7 @@ use Rattle.header_notes.specs.HeaderNotes.{header_note}
 use Rattle.settling.specs.Laws.{Has, read_has}
 use Rattle.unfit.specs.Laws.{Usable}
 use Rattle.settling.specs.declared.Settlement.TheVariants.{Settled}
-use Rattle.cutting.specs.Laws.{every_length}
+use Rattle.cutting.proofs.Laws.{every_length}
 use Rattle.carrier.specs.Carrier.{stream_packet, received, pair_count}
 use Rattle.notes.specs.Notes.{pair_fails, frames_of, pair_inconsistent, pair_notes}
 use Rattle.notes.specs.Laws.{length_notes}

@@ -11,7 +11,7 @@ use Rattle.layout.specs.Layout.{multiframe_frames, index_octets, report_octets, 
 use Rattle.choices.specs.declared.Choices.{Choices}
 use Rattle.tables.specs.Tables.{Tables}
 use Rattle.frames.specs.Frames.{all_zero, zero_frame}
-use Rattle.cutting.specs.Laws.{every_length}
+use Rattle.cutting.proofs.Laws.{every_length}
 use Rattle.replacing.specs.Speech.{last_nonzero, speech_of, end_of}
 use Rattle.deciding.specs.Deciding.{received_notes}
 use Rattle.reader.specs.Reading.{index_part, summary, Outcome, outcome, reading}

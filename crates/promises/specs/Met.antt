@@ -19,10 +19,10 @@ use Rattle.settings.specs.Settings.{settings}
 use Rattle.frames.specs.Frames.{zero_frame}
 use Rattle.bits.specs.Bits.{field, laid}
 use Rattle.crc.specs.Crc.{crc, after, right, flip, Damaged}
-use Rattle.crc.specs.Damage.{length_flip, flips_burst, flips_double}
+use Rattle.crc.proofs.Damage.{length_flip, flips_burst, flips_double}
 use Rattle.packet.specs.Packet.{guarded, packet, row, packet_of}
 use Rattle.packet.proofs.Laws.{length_packet_of, packet_of_good}
-use Rattle.cutting.specs.Laws.{every_length}
+use Rattle.cutting.proofs.Laws.{every_length}
 use Rattle.header_code.specs.Code.{codeword}
 use Rattle.message.specs.Message.{message}
 use Rattle.header.specs.Reading.{decoded_as}

@@ -10,12 +10,12 @@ use Rattle.choices.specs.declared.Choices.{Choices}
 use Rattle.lists.specs.Rows.{each}
 use Rattle.tables.specs.Tables.{Tables}
 use Rattle.cutting.specs.Cutting.{Cutting, cutting}
-use Rattle.cutting.specs.Laws.{every_length}
+use Rattle.cutting.proofs.Laws.{every_length}
 use Rattle.header_code.specs.Code.Distance.{far_from_one}
 use Rattle.message.specs.Message.{settings_of, common_bits}
 use Rattle.message.specs.Message.Laws.{message_lt}
 use Rattle.header.specs.Reading as H
-use Rattle.header.specs.Reading.Laws.{flips_counted, reads}
+use Rattle.header.proofs.Laws.{flips_counted, reads}
 use Rattle.header.specs.declared.Header.{Header}
 use Rattle.header.specs.declared.Header.TheVariants.{Codeword}
 use Rattle.header_readings.specs.Readings.{readings}

@@ -26,7 +26,7 @@ use Rattle.crc.specs.Crc.{right}
 use Rattle.packet.specs.Packet.{frame_at, packet_of}
 use Rattle.packet.proofs.Laws.{get_or_row, row_past, packet_of_good}
 use Rattle.cutting.specs.Cutting.{Cutting, cutting}
-use Rattle.cutting.specs.Laws.{every_length}
+use Rattle.cutting.proofs.Laws.{every_length}
 use Rattle.header_code.specs.Code.{codeword}
 use Rattle.message.specs.Message.{message}
 use Rattle.header.specs.Reading.{decoded_as}

@@ -19,11 +19,11 @@ use Rattle.header_code.specs.Code.Distance.{far_from_one}
 use Rattle.message.specs.Message.{message, settings_of}
 use Rattle.message.specs.Message.Laws.{message_lt, rate_lt, type_lt, settings_fit_lem, settings_back}
 use Rattle.header.specs.Reading as H
-use Rattle.header.specs.Reading.Laws.{flips_of}
+use Rattle.header.proofs.Laws.{flips_of}
 use Rattle.header.specs.declared.Header.{Header}
 use Rattle.header.specs.declared.Header.TheVariants.{Lost}
 use Rattle.cutting.specs.Cutting.{Cutting, cutting}
-use Rattle.cutting.specs.Laws.{every_length}
+use Rattle.cutting.proofs.Laws.{every_length}
 use Rattle.header_readings.specs.Readings.{readings}
 use Rattle.header_notes.specs.HeaderNotes.{header_note}
 use Rattle.carrier.specs.Carrier.{received, pair_count}

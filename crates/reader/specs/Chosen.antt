@@ -10,12 +10,12 @@ use Rattle.lists.specs.Tests.{when}
 use Rattle.choices.specs.Choices.{one_settles}
 use Rattle.choices.specs.declared.Choices.{Choices}
 use Rattle.tables.specs.Tables.{Tables, admission, if_admitted}
-use Rattle.tables.specs.Admitted.{passes_right}
+use Rattle.tables.proofs.AdmittedLaws.{passes_right}
 use Rattle.tables.specs.declared.Admission.{Admission}
 use Rattle.tables.specs.declared.Admission.TheVariants as A
 use Rattle.refusals.specs.declared.Reading.TheVariants.{Empty, Unsettled}
 use Rattle.cutting.specs.Cutting.{Ending, whole, refused, cutting}
-use Rattle.cutting.specs.Reached.{whole_exactly}
+use Rattle.cutting.proofs.ReachedLaws.{whole_exactly}
 use Rattle.carrier.specs.Carrier.{pair_count}
 use Rattle.header_readings.specs.Readings.{readings}
 use Rattle.settling.specs.Settling.{settling}

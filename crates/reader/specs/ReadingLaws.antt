@@ -11,7 +11,7 @@ use Rattle.lists.specs.Parts.{over}
 use Rattle.layout.specs.Layout.{index_octets, report_octets, codebook_numbers, threshold_numbers}
 use Rattle.choices.specs.declared.Choices.{Choices}
 use Rattle.tables.specs.Tables.{Tables, RightTables, admission, if_admitted}
-use Rattle.tables.specs.Admitted.{right_passes, passes_right}
+use Rattle.tables.proofs.AdmittedLaws.{right_passes, passes_right}
 use Rattle.tables.specs.declared.Admission.{Admission}
 use Rattle.tables.specs.declared.Admission.TheVariants as A
 use Rattle.cutting.specs.Cutting.{Ending, whole, refused, cutting}

@@ -11,13 +11,15 @@ use Rattle.lists.specs.Tests.{by_test}
 use Rattle.layout.specs.Layout.{index_octets, report_octets}
 use Rattle.choices.specs.declared.Choices.{Choices}
 use Rattle.tables.specs.Tables.{Tables, RightSizes, RightTables, FirstNegative, admission, if_admitted}
-use Rattle.tables.specs.Admitted.{Shown, shown, by_shown, right_passes, wrong_sizes, negative_refused}
+use Rattle.tables.specs.Admitted.{Shown}
+use Rattle.tables.proofs.AdmittedLaws.{shown, by_shown, right_passes, wrong_sizes, negative_refused}
 use Rattle.tables.specs.declared.Admission.{Admission}
 use Rattle.tables.specs.declared.Admission.TheVariants as A
 use Rattle.refusals.specs.declared.Reading.{Reading as Refusal}
 use Rattle.refusals.specs.declared.Reading.TheVariants.{WrongTables, NegativeThreshold, Unknown, CutShort, Empty, TooMany, Unsettled, Unfit, IndexShort, ReportShort, AllBad}
 use Rattle.cutting.specs.Cutting.{Ending, whole, refused, cutting}
-use Rattle.cutting.specs.Reached.{Reached, Meets, Reason, ends_exactly, whole_exactly}
+use Rattle.cutting.specs.Reached.{Reached, Meets, Reason}
+use Rattle.cutting.proofs.ReachedLaws.{ends_exactly, whole_exactly}
 use Rattle.cutting.specs.declared.Piece.TheVariants as P
 use Rattle.header_readings.specs.Readings.{readings}
 use Rattle.settling.specs.Settling.{settling}

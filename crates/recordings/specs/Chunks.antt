@@ -8,11 +8,12 @@ use Rattle.std.proofs.Math.ListN.{get_or-append}
 use Rattle.layout.specs.Layout.{multiframe_octets, sync_octets, most_multiframes, sync_first, sync_second, inverse_first, inverse_second}
 use Rattle.choices.specs.declared.Choices.{Choices}
 use Rattle.tables.specs.Tables.{Tables, RightTables}
-use Rattle.tables.specs.Admitted.{right_passes}
+use Rattle.tables.proofs.AdmittedLaws.{right_passes}
 use Rattle.cutting.specs.declared.Piece.{Piece}
 use Rattle.cutting.specs.declared.Piece.TheVariants.{End, Multiframe, Inverse, Unknown, CutShort, TooMany}
 use Rattle.cutting.specs.Cutting.{piece_of, whole, refused, Cutting, prepend, step, walk, cutting}
-use Rattle.cutting.specs.Laws.{multiframe_met, inverse_met, Says, says, walk_step, Chunk, multiframe, inverse, octets_of, places_of, Proper}
+use Rattle.cutting.specs.Laws.{Says, Chunk, multiframe, inverse, octets_of, places_of, Proper}
+use Rattle.cutting.proofs.Laws.{multiframe_met, inverse_met, says, walk_step}
 use Rattle.deciding.specs.Deciding.{whole_verdict}
 use Rattle.reader.specs.Reading.{end_verdict, verdict, Outcome, outcome, reading}
 use Rattle.reader.specs.ReadingLaws.{refused_keeps}

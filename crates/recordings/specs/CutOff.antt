@@ -26,7 +26,8 @@ use Rattle.packet.proofs.Laws.{get_or_row, packet_of_good}
 use Rattle.cutting.specs.declared.Piece.TheVariants.{CutShort}
 use Rattle.refusals.specs.declared.Reading.TheVariants as RR
 use Rattle.cutting.specs.Cutting.{sync_met, piece_by, piece_of, Cutting, cutting}
-use Rattle.cutting.specs.Laws.{lone_sync, every_length, octets_of}
+use Rattle.cutting.specs.Laws.{octets_of}
+use Rattle.cutting.proofs.Laws.{lone_sync, every_length}
 use Rattle.message.specs.Message.{settings_of}
 use Rattle.message.specs.Message.Laws.{count_back}
 use Rattle.header.specs.declared.Header.{Header}

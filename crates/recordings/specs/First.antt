@@ -19,7 +19,7 @@ use Rattle.bits.specs.Bits.{value, bits}
 use Rattle.packet.specs.Packet.{apart, frame_at, packet_of}
 use Rattle.packet.proofs.Laws.{length_row, get_or_row, packet_of_back}
 use Rattle.cutting.specs.Cutting.{whole, cutting}
-use Rattle.cutting.specs.Laws.{every_length}
+use Rattle.cutting.proofs.Laws.{every_length}
 use Rattle.message.specs.Message.{common_bits}
 use Rattle.header.specs.Reading as H
 use Rattle.header.specs.declared.Decoded.{Decoded}

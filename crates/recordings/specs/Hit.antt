@@ -12,7 +12,7 @@ use Rattle.lists.specs.Rows.{joined, length_joined, joined_part}
 use Rattle.layout.specs.Layout.{packet_bits, stream_octets, multiframe_pairs, first_pair, multiframe_of}
 use Rattle.carrier.specs.Carrier.{stream_packet}
 use Rattle.crc.specs.Crc.{flip, Damaged}
-use Rattle.crc.specs.Damage.{length_flip, flip_burst}
+use Rattle.crc.proofs.Damage.{length_flip, flip_burst}
 use Rattle.packet.specs.Packet.{packet_of}
 use Rattle.packet.proofs.Laws.{length_packet_of}
 use Rattle.header_code.specs.Code.{codeword, flips_to}

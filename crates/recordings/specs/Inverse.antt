@@ -15,7 +15,8 @@ use Rattle.choices.specs.declared.Choices.{Choices}
 use Rattle.tables.specs.Tables.{Tables, RightTables, zero_tables}
 use Rattle.cutting.specs.declared.Piece.TheVariants.{CutShort, TooMany}
 use Rattle.cutting.specs.Cutting.{piece_of, Cutting, whole, cutting}
-use Rattle.cutting.specs.Laws.{one_too_many, lone_sync, every_length, Chunk, multiframe, inverse, octets_of, places_of, Proper, cut_chunks, places_placed}
+use Rattle.cutting.specs.Laws.{Chunk, multiframe, inverse, octets_of, places_of, Proper}
+use Rattle.cutting.proofs.Laws.{one_too_many, lone_sync, every_length, cut_chunks, places_placed}
 use Rattle.refusals.specs.Refusals.{reading_place}
 use Rattle.refusals.specs.declared.Reading.TheVariants as RR
 use Rattle.reader.specs.Reading.{Outcome, reading}

@@ -8,7 +8,7 @@ use Rattle.lists.specs.Rows.{joined}
 use Rattle.lists.specs.Search.{first_from}
 use Rattle.layout.specs.Layout.{frame_indices, index_octets, report_octets, threshold_numbers, first_frame, second_frame}
 use Rattle.tables.specs.Tables.{Tables, tables_of, RightTables}
-use Rattle.tables.specs.Admitted.{none_by_test}
+use Rattle.tables.proofs.AdmittedLaws.{none_by_test}
 use Rattle.settings.specs.Settings.{settings}
 use Rattle.frames.specs.Frames.{zero_frame}
 use Rattle.packet.specs.Packet.{row, frame_at}

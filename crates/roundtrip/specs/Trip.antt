@@ -13,7 +13,7 @@ use Rattle.lists.specs.Search.{first_from}
 use Rattle.layout.specs.Layout.{index_octets, report_octets, codebook_numbers}
 use Rattle.choices.specs.Choices.{by_one_header}
 use Rattle.tables.specs.Tables.{Tables, tables_of, zero_tables, RightSizes, FirstNegative, sizes_right, admission}
-use Rattle.tables.specs.Admitted.{wrong_sizes, negative_refused, ten_exactly}
+use Rattle.tables.proofs.AdmittedLaws.{wrong_sizes, negative_refused, ten_exactly}
 use Rattle.settings.specs.declared.Settings.{Settings}
 use Rattle.settings.specs.Settings.{settings}
 use Rattle.writer.specs.Writing as W

@@ -11,7 +11,7 @@ use Rattle.lists.specs.Tests.{when, true_false}
 use Rattle.message.specs.Message.{common_bits}
 use Rattle.choices.specs.Choices.{one_settles}
 use Rattle.choices.specs.declared.Choices.{Choices}
-use Rattle.header.specs.Reading.Laws.{lost_not_read, same_message}
+use Rattle.header.proofs.Laws.{lost_not_read, same_message}
 use Rattle.header.specs.declared.Decoded.{Decoded}
 use Rattle.header.specs.declared.Header.{Header}
 use Rattle.header.specs.declared.Header.TheVariants.{Codeword, Lost}

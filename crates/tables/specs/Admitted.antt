@@ -1,124 +1,21 @@
--- What turns the tables away, and when: `admission` says exactly whether they are right, and else which refusal is theirs.
+-- What each admission of the tables says of them: that they are right, or the refusal's own condition.
 -- Assumes nothing.
-use Rattle.std.specs.Prelude.{ℕ, ◌≡◌, Bool, not, ◌↔◌, pos, length, T}
-use Rattle.std.proofs.Math.Path.{refl}
-use Rattle.std.proofs.Common.{sym, ap, subst, ◌∙◌, arith}
-use Rattle.std.proofs.Math.Bool.{true, false}
-use Rattle.std.proofs.lemmas.List.{length-replicate, get_or-replicate}
-use Rattle.std.proofs.Math.Dec.{eqb}
-use borrow.Author.Tests.{eq-eqb, eqb-true}
-use Rattle.lists.specs.Tests.{when, both, by_test, true_false, all, all_holds}
-use Rattle.lists.specs.Search as S
-use Rattle.layout.specs.Layout.{codebook_numbers, threshold_numbers}
-use Rattle.refusals.specs.declared.Reading.{Reading}
 use Rattle.refusals.specs.declared.Reading.TheVariants as R
-use Rattle.tables.specs.Tables.{Tables, at, negative, RightSizes, NoneNegative, RightTables, FirstNegative, sizes_right, first_negative, sign_admission, admission, zero_tables}
+use Rattle.tables.specs.Tables.{Tables, RightSizes, RightTables, FirstNegative}
 use Rattle.tables.specs.declared.Admission.{Admission}
 use Rattle.tables.specs.declared.Admission.TheVariants.{Admitted, Refused}
 
-module _ (tables : Tables) where
-  -- ---- the sizes
-  pub sizes_pass : RightSizes tables → sizes_right tables ≡ true
-  unfolding sizes_right
-  sizes_pass h = rw (eq-eqb (length tables.codebook) codebook_numbers h.0, eq-eqb (length tables.thresholds) threshold_numbers h.1)
-
-  pub pass_sizes : sizes_right tables ≡ true → RightSizes tables
-  unfolding sizes_right
-  pass_sizes = by (eqb (length tables.codebook) codebook_numbers) refl
-    where
-      by : (a : Bool) → eqb (length tables.codebook) codebook_numbers ≡ a → both a (eqb (length tables.thresholds) threshold_numbers) ≡ true → RightSizes tables
-      by true ea eb = (eqb-true (length tables.codebook) codebook_numbers ea, eqb-true (length tables.thresholds) threshold_numbers eb)
-      by false ea eb = absurd (true_false (sym eb))
-
-  -- ---- what each admission shows
-  abbrev test : ℕ → Bool
-  test k = negative (at tables.thresholds k)
-
-  -- right tables, or the refusal's own condition, with that of the one before it ruled out; no other refusal is about the tables
-  abbrev pub Shown : Admission → Type 0
-  Shown Admitted = RightTables tables
-  Shown (Refused R.WrongTables) = RightSizes tables → ⊥
-  Shown (Refused (R.NegativeThreshold k)) = RightSizes tables × FirstNegative tables k
-  Shown (Refused (R.Unknown p)) = ⊥
-  Shown (Refused (R.CutShort p)) = ⊥
-  Shown (Refused (R.Empty n)) = ⊥
-  Shown (Refused (R.TooMany p)) = ⊥
-  Shown (Refused R.Unsettled) = ⊥
-  Shown (Refused R.Unfit) = ⊥
-  Shown (Refused (R.IndexShort n)) = ⊥
-  Shown (Refused (R.ReportShort n)) = ⊥
-  Shown (Refused R.AllBad) = ⊥
-
-  -- so what holds of 11 and of 10 holds of every refusal that is shown
-  pub by_shown : (P : Reading → Type 0) → ((RightSizes tables → ⊥) → P R.WrongTables)
-      → ((k : ℕ) → RightSizes tables × FirstNegative tables k → P (R.NegativeThreshold k)) → (r : Reading) → Shown (Refused r) → P r
-  by_shown P eleven ten R.WrongTables h = eleven h
-  by_shown P eleven ten (R.NegativeThreshold k) h = ten k h
-  by_shown P eleven ten (R.Unknown p) h = absurd h
-  by_shown P eleven ten (R.CutShort p) h = absurd h
-  by_shown P eleven ten (R.Empty n) h = absurd h
-  by_shown P eleven ten (R.TooMany p) h = absurd h
-  by_shown P eleven ten R.Unsettled h = absurd h
-  by_shown P eleven ten R.Unfit h = absurd h
-  by_shown P eleven ten (R.IndexShort n) h = absurd h
-  by_shown P eleven ten (R.ReportShort n) h = absurd h
-  by_shown P eleven ten R.AllBad h = absurd h
-
-  shown_sign : RightSizes tables → (s : S.Search) → S.Says test 0 threshold_numbers s → Shown (sign_admission s)
-  shown_sign h (S.at k) e = (h, (omega (arith, e.1), e.2, λ i l. e.3 i (omega arith) l))
-  shown_sign h S.nowhere e = (h, λ k l. e k (omega arith) (omega arith))
-
-  pub shown : Shown (admission tables)
-  unfolding admission
-  shown =
-      by_test Shown (sizes_right tables) (λ e. shown_sign (pass_sizes e) (first_negative tables) (S.first_says test 0 threshold_numbers))
-      (λ e h. true_false (sym (sizes_pass h) ∙ e))
-
-  -- ---- and what leads to each
-  -- past 11 the signs decide
-  pub signs_next : RightSizes tables → admission tables ≡ sign_admission (first_negative tables)
-  unfolding admission
-  signs_next h = rw (sizes_pass h)
-
-  pub right_passes : RightTables tables → admission tables ≡ Admitted
-  right_passes h = signs_next h.0 ∙ ap sign_admission (S.says_is test 0 threshold_numbers S.nowhere (λ i a b. h.1 i (omega arith)))
-
-  pub wrong_sizes : (RightSizes tables → ⊥) → admission tables ≡ Refused R.WrongTables
-  unfolding admission
-  wrong_sizes h = by (sizes_right tables) refl
-    where
-      by : (a : Bool) → sizes_right tables ≡ a → when a (sign_admission (first_negative tables)) (Refused R.WrongTables) ≡ Refused R.WrongTables
-      by true e = absurd (h (pass_sizes e))
-      by false e = refl
-
-  pub negative_refused : (k : ℕ) → RightSizes tables → FirstNegative tables k → admission tables ≡ Refused (R.NegativeThreshold k)
-  negative_refused k h f =
-      signs_next h ∙ ap sign_admission (S.says_is test 0 threshold_numbers (S.at k) (omega arith, omega (arith, f.0), f.1, λ i a b. f.2 i b))
-
-  -- ---- so each exactly
-  pub passes_right : admission tables ≡ Admitted → RightTables tables
-  passes_right e = subst Shown e shown
-
-  pub right_exactly : (admission tables ≡ Admitted) ↔ RightTables tables
-  right_exactly = (passes_right, right_passes)
-
-  pub eleven_exactly : (admission tables ≡ Refused R.WrongTables) ↔ (RightSizes tables → ⊥)
-  eleven_exactly = (λ e. subst Shown e shown, wrong_sizes)
-
-  pub ten_exactly : (k : ℕ) → (admission tables ≡ Refused (R.NegativeThreshold k)) ↔ (RightSizes tables × FirstNegative tables k)
-  ten_exactly k = (λ e. subst Shown e shown, λ h. negative_refused k h.0 h.1)
-
--- whether no threshold is negative, computed
-pub none_by_test : (tables : Tables) → T (all (λ k. not (negative (at tables.thresholds k))) threshold_numbers) → NoneNegative tables
-none_by_test tables t k l = holds (negative (at tables.thresholds k)) (all_holds (λ i. not (negative (at tables.thresholds i))) threshold_numbers t k l)
-  where
-    holds : (b : Bool) → T (not b) → b ≡ false
-    holds true t = absurd t
-    holds false t = refl
-
--- tables of zeros are right
-pub zero_right : RightTables zero_tables
-zero_right = (
-  (length-replicate codebook_numbers (pos 0), length-replicate threshold_numbers (pos 0)),
-  λ k l. ap negative (get_or-replicate threshold_numbers k (pos 0) (pos 0) l),
-)
+-- right tables, or the refusal's own condition, with that of the one before it ruled out; no other refusal is about the tables
+abbrev pub Shown : Tables → Admission → Type 0
+Shown tables Admitted = RightTables tables
+Shown tables (Refused R.WrongTables) = RightSizes tables → ⊥
+Shown tables (Refused (R.NegativeThreshold k)) = RightSizes tables × FirstNegative tables k
+Shown tables (Refused (R.Unknown p)) = ⊥
+Shown tables (Refused (R.CutShort p)) = ⊥
+Shown tables (Refused (R.Empty n)) = ⊥
+Shown tables (Refused (R.TooMany p)) = ⊥
+Shown tables (Refused R.Unsettled) = ⊥
+Shown tables (Refused R.Unfit) = ⊥
+Shown tables (Refused (R.IndexShort n)) = ⊥
+Shown tables (Refused (R.ReportShort n)) = ⊥
+Shown tables (Refused R.AllBad) = ⊥

@@ -17,8 +17,9 @@ use Rattle.header.specs.declared.Header.{Header}
 use Rattle.cutting.specs.declared.Piece.{Piece}
 use Rattle.cutting.specs.declared.Piece.TheVariants.{End, Multiframe, Inverse, Unknown, CutShort, TooMany}
 use Rattle.cutting.specs.Cutting.{piece_of, Cutting, step, walk, cutting}
-use Rattle.cutting.specs.Laws.{at_place}
-use Rattle.cutting.specs.Reached.{MultiframeAt, InverseAt, Reached, Here, here_piece, here_says, reached_within, reached_few}
+use Rattle.cutting.proofs.Laws.{at_place}
+use Rattle.cutting.specs.Reached.{MultiframeAt, InverseAt, Reached, Here}
+use Rattle.cutting.proofs.ReachedLaws.{here_piece, here_says, reached_within, reached_few}
 use Rattle.cutting.specs.Reached as C
 use Rattle.header_readings.specs.Readings.{readings}
 

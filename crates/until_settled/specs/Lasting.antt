@@ -18,8 +18,10 @@ use Rattle.refusals.specs.declared.Reading.TheVariants.{WrongTables, NegativeThr
 use Rattle.cutting.specs.declared.Piece.{Piece}
 use Rattle.cutting.specs.declared.Piece.TheVariants as P
 use Rattle.cutting.specs.Cutting.{Ending, whole, refused, Cutting, ended, step, cutting}
-use Rattle.cutting.specs.Laws.{Says, at_place}
-use Rattle.cutting.specs.Reached.{Here, here_piece, Meets, Reason, ends_exactly}
+use Rattle.cutting.specs.Laws.{Says}
+use Rattle.cutting.proofs.Laws.{at_place}
+use Rattle.cutting.specs.Reached.{Here, Meets, Reason}
+use Rattle.cutting.proofs.ReachedLaws.{here_piece, ends_exactly}
 use Rattle.header_readings.specs.Readings.{readings}
 use Rattle.settling.specs.Settling.{first_agreeing, settling}
 use Rattle.unfit.specs.Unfit.{unfit}

@@ -21,8 +21,9 @@ use Rattle.refusals.specs.declared.Reading.{Reading as Refusal}
 use Rattle.refusals.specs.declared.Reading.TheVariants.{WrongTables, NegativeThreshold, Unknown, CutShort, Empty, TooMany, Unsettled, Unfit, IndexShort, ReportShort, AllBad}
 use Rattle.header.specs.declared.Header.{Header}
 use Rattle.cutting.specs.Cutting.{Ending, whole, refused, Cutting, ended, walk, cutting}
-use Rattle.cutting.specs.Laws.{places_placed, at_most_255}
-use Rattle.cutting.specs.Reached.{Reason, ends_exactly}
+use Rattle.cutting.proofs.Laws.{places_placed, at_most_255}
+use Rattle.cutting.specs.Reached.{Reason}
+use Rattle.cutting.proofs.ReachedLaws.{ends_exactly}
 use Rattle.header_readings.specs.Readings.{readings}
 use Rattle.settling.specs.Settling.{first_agreeing, settling}
 use Rattle.unfit.specs.Unfit.{unfit}

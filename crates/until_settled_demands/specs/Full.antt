@@ -13,7 +13,7 @@ use Rattle.message.specs.Message.{settings_of}
 use Rattle.refusals.specs.declared.Reading.{Reading as Refusal}
 use Rattle.refusals.specs.declared.Reading.TheVariants.{WrongTables, NegativeThreshold, Unknown, CutShort, Empty, TooMany, Unsettled, Unfit, IndexShort, ReportShort, AllBad}
 use Rattle.cutting.specs.Cutting.{whole, refused, cutting}
-use Rattle.cutting.specs.Reached.{ends_exactly, whole_exactly}
+use Rattle.cutting.proofs.ReachedLaws.{ends_exactly, whole_exactly}
 use Rattle.header_readings.specs.Readings.{readings}
 use Rattle.settling.specs.Settling.{first_agreeing, settling}
 use Rattle.unfit.specs.Unfit.{unfit}

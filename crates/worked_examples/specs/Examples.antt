@@ -10,7 +10,7 @@ use Rattle.header_code.specs.Code.Examples.{octets, count_1, count_2, count_3, r
 use Rattle.message.specs.Message.{message}
 use Rattle.message.specs.Message.Laws.{message_counts, message_nothing, message_rate_1, message_exp_9}
 use Rattle.header.specs.Reading.{decoded_as, reading}
-use Rattle.header.specs.Reading.Laws.{lost_at_three}
+use Rattle.header.proofs.Laws.{lost_at_three}
 use Rattle.header.specs.declared.Header.TheVariants.{Codeword, Lost}
 use Rattle.layout.specs.Layout.{widths, data_bits, packet_bits}
 use Rattle.settings.specs.Settings.{settings}

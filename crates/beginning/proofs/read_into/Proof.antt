@@ -17,7 +17,7 @@ use lib.ListN.{length, get_or, set, take, drop, length-set}
 use Rattle.cutting.specs.declared.Piece.{Piece}
 use Rattle.cutting.specs.declared.Piece.TheVariants.{End, Multiframe, Inverse, Unknown, CutShort, TooMany}
 use Rattle.cutting.specs.Cutting.{piece_of, whole, refused}
-use Rattle.cutting.specs.Laws.{rest_of}
+use Rattle.cutting.proofs.Laws.{rest_of}
 use native.Mathlib.Omega.{arith}
 use Rattle.beginning.proofs.Steps.{Going, begun, ends, steps, below, inside, room_for_it, settles, goes_on, front_length, last_inside}
 use borrow.Author.Rules.{rules}

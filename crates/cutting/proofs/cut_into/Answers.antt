@@ -8,7 +8,7 @@ use lib.ListN.{length, take, drop}
 use Rattle.cutting.specs.declared.Piece.{Piece}
 use Rattle.cutting.specs.declared.Piece.TheVariants.{End, Multiframe, Inverse, Unknown, CutShort, TooMany}
 use Rattle.cutting.specs.Cutting.{piece_of}
-use Rattle.cutting.specs.Laws.{rest_of}
+use Rattle.cutting.proofs.Laws.{rest_of}
 use Rattle.cutting.proofs.Steps.{Going, Next, begun, next}
 use Rattle.cutting.proofs.cut_into.Goals as goal
 

@@ -1,7 +1,7 @@
 -- A codeword is read as it stands; any other word is handed on with what is wrong with it. Assumes nothing.
 use mathlib.Core.Path.{refl}
 use lib.Bits.{mask_lt, and_mask}
-use Rattle.header.specs.Reading.Search.{clean}
+use Rattle.header.proofs.Search.{clean}
 use Rattle.header.proofs.read.Goals as goal
 
 pub overflow_cast-result : goal.overflow_cast-result

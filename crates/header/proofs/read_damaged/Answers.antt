@@ -5,7 +5,7 @@ use Prim.Native.Nat.{◌<◌}
 use native.Mathlib.Omega.{arith}
 use borrow.Author.Count.{below_none, below_more}
 use lib.Bits.{bit_xor, mask_lt, and_mask}
-use Rattle.header.specs.Reading.Search.{miss_none, miss_one, miss_two, lost, found, fit_one, fit_two}
+use Rattle.header.proofs.Search.{miss_none, miss_one, miss_two, lost, found, fit_one, fit_two}
 use Rattle.header.proofs.read_damaged.Goals as goal
 use Rattle.header.proofs.read_damaged.Goals.{then-loop-i-test+then-columns-i, else-loop-i-test+then-loop-i-2-test+then-loop-j-test+then-columns-j}
 

@@ -5,14 +5,15 @@ use mathlib.Core.List.{List}
 use native.Mathlib.Omega.{arith}
 use lib.ListN.{length, take, replicate}
 use Rattle.cutting.specs.Cutting.{whole, cutting}
-use Rattle.cutting.specs.Laws.{Placed, places_placed, at_most_255}
+use Rattle.cutting.specs.Laws.{Placed}
+use Rattle.cutting.proofs.Laws.{places_placed, at_most_255}
 use Rattle.reader.specs.Steps.{not_admitted, not_cut, whole_reading}
 use Rattle.reader.proofs.Steps.{cut_whole, cut_refused, front_places, in_numbers}
 use borrow.Author.Rules.{rules}
 use Rattle.reader.proofs.read.Statement.{statement}
 use Rattle.reader.proofs.read.Tie as tie
 use Rattle.tables.specs.Tables.{tables_of, admission}
-use Rattle.tables.specs.Admitted.{passes_right}
+use Rattle.tables.proofs.AdmittedLaws.{passes_right}
 use Rattle.tables.specs.declared.Admission.TheVariants.{Admitted}
 
 -- cutting met nothing that it refuses, and counted the places

@@ -3,7 +3,7 @@
 use mathlib.Core.Path.{sym, ◌∙◌}
 use native.Mathlib.Omega.{arith}
 use Rattle.tables.specs.Tables.{tables_of}
-use Rattle.tables.specs.Admitted.{pass_sizes}
+use Rattle.tables.proofs.AdmittedLaws.{pass_sizes}
 use Rattle.tables.proofs.Admitting.{not_sized, begins, stops, goes_on, ends}
 use Rattle.tables.proofs.admit.Goals as goal
 

@@ -6,7 +6,8 @@ use Rattle.std.proofs.Common.{sym, ap, ap₂, ◌∙◌, arith, length-append}
 use Rattle.std.proofs.Math.Bool.{xor}
 use Rattle.std.proofs.lemmas.List.{length-replicate}
 use Rattle.crc.specs.Crc.{Rem, rem, none, next, after, sent, crc, mixed, times}
-use Rattle.crc.specs.Laws.{◌⊕◌, after_add, after_append, after_none, after_sent, add_none, none_add, length_mixed, length_sent, xor_self, xor_false, false_xor, xor_comm, xor_assoc, mixed_none}
+use Rattle.crc.specs.Laws.{◌⊕◌}
+use Rattle.crc.proofs.Laws.{after_add, after_append, after_none, after_sent, add_none, none_add, length_mixed, length_sent, xor_self, xor_false, false_xor, xor_comm, xor_assoc, mixed_none}
 
 pub length_times : (q : List Bool) → length (times q) ≡ 4 + length q
 unfolding times

@@ -6,8 +6,9 @@ use Rattle.std.proofs.Math.Decide.{ℕ_discrete, dec_lt}
 use Rattle.std.proofs.Math.ListN.{get_or-eq_default}
 use Rattle.lists.specs.Tests.{true_false}
 use Rattle.crc.specs.Crc.{Rem, none, sent, Right, right, flip, mixed, Burst, Double, Damaged}
-use Rattle.crc.specs.Laws.{right_false}
-use Rattle.crc.specs.Multiples.{Multiple, placed, stays_right, pattern_burst, burst_no_multiple, two_flips_multiple}
+use Rattle.crc.proofs.Laws.{right_false}
+use Rattle.crc.specs.Multiples.{Multiple, placed}
+use Rattle.crc.proofs.MultiplesLaws.{stays_right, pattern_burst, burst_no_multiple, two_flips_multiple}
 
 -- a flip keeps the length
 pub length_flip : (l : List Bool) (i : ℕ) → length (flip l i) ≡ length l
