@@ -22,7 +22,7 @@ use Rattle.carrier.specs.Carrier.{received, pair_count}
 use Rattle.notes.specs.Laws.{length_notes, length_all, frames_at}
 use Rattle.bad_pairs.specs.BadPairs.{bad, bad_pairs}
 use Rattle.bad_pairs.specs.Laws.{Good, none_good}
-use Rattle.replacing.specs.Laws.{good_kept}
+use Rattle.replacing.proofs.Laws.{good_kept}
 use Rattle.deciding.specs.Deciding.{received_notes}
 use Rattle.report.specs.Report.{report_part}
 use Rattle.reader.specs.Reading.{index_part, summary, Outcome, outcome, reading, received_frames}

@@ -6,7 +6,7 @@ use Rattle.std.proofs.Common.{sym, ◌∙◌, arith, ext_get_or, get_or-take, ge
 use Rattle.std.proofs.Math.Path.{ap, ap₂, subst}
 use borrow.Author.Tests.{eq-eqb, ne_eqb, le-ltb}
 use Rattle.replacing.specs.Replacing.{source, pairs_octets, replaced}
-use Rattle.replacing.specs.Laws.{good_stays, replaced_length, replaced_at}
+use Rattle.replacing.proofs.Laws.{good_stays, replaced_length, replaced_at}
 use mathlib.Core.List.{List, ◌∷◌}
 use Rattle.std.proofs.Math.ListN.{length, get_or-append}
 use Rattle.lists.specs.Parts.{part, over, part_left}

@@ -41,7 +41,8 @@ use Rattle.settling.specs.declared.Settlement.TheVariants as Set
 use Rattle.notes.specs.Laws.{length_notes, length_all}
 use Rattle.bad_pairs.specs.Laws.{Good}
 use Rattle.replacing.specs.Replacing.{frame_before, frame_after, source}
-use Rattle.replacing.specs.Laws.{Run, at_the_end, first_half, second_half, frame_replaced}
+use Rattle.replacing.specs.Laws.{Run}
+use Rattle.replacing.proofs.Laws.{at_the_end, first_half, second_half, frame_replaced}
 use Rattle.replacing.specs.Speech.{last_nonzero, speech_of, end_of, place_le, zero_behind, nonzero_at, place_stop}
 use Rattle.reader.specs.Reading.{index_part, summary, Outcome, outcome, reading, received_frames}
 use Rattle.reader.specs.declared.Summary.{Summary}

@@ -22,7 +22,7 @@ use Rattle.bad_pairs.specs.Laws.{Good, some_good, few_bad}
 use Rattle.cutting.specs.Cutting.{Ending, whole, refused, Cutting, answered_by, answered, laid}
 use Rattle.cutting.specs.declared.Cut.TheVariants as C
 use Rattle.replacing.specs.Replacing.{pairs_octets, replaced}
-use Rattle.replacing.specs.Laws.{same_replaced}
+use Rattle.replacing.proofs.Laws.{same_replaced}
 use Rattle.replacing.specs.Speech.{last_nonzero, speech_of, end_of}
 use Rattle.deciding.specs.Deciding.{whole_verdict, received_notes}
 use Rattle.report.specs.Report.{report_part}

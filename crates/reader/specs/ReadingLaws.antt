@@ -21,7 +21,7 @@ use Rattle.unfit.specs.Laws.{fit_is}
 use Rattle.carrier.specs.Carrier.{pair_count}
 use Rattle.bad_pairs.specs.BadPairs.{bad_pairs}
 use Rattle.replacing.specs.Replacing.{pairs_octets}
-use Rattle.replacing.specs.Laws.{replaced_length}
+use Rattle.replacing.proofs.Laws.{replaced_length}
 use Rattle.deciding.specs.Laws.{Fitting, WholeSays, whole_says}
 use Rattle.deciding.specs.Deciding.{room_verdict, settled_verdict, whole_verdict, received_notes}
 use Rattle.report.specs.Report.{report_part}

@@ -22,7 +22,8 @@ use Rattle.notes.specs.Notes.{pair_fails, frames_of, pair_inconsistent}
 use Rattle.notes.specs.Laws.{length_notes, length_all}
 use Rattle.bad_pairs.specs.Laws.{Good}
 use Rattle.replacing.specs.Replacing.{replaced}
-use Rattle.replacing.specs.Laws.{good_kept, Run, at_the_end, frame_replaced}
+use Rattle.replacing.specs.Laws.{Run}
+use Rattle.replacing.proofs.Laws.{good_kept, at_the_end, frame_replaced}
 use Rattle.replacing.specs.Speech.{end_of}
 use Rattle.deciding.specs.Deciding.{received_notes}
 use Rattle.report.specs.Report.{report_part}

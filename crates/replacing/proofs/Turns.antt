@@ -16,7 +16,8 @@ use Rattle.lists.specs.Parts.{over, length_over, over_in, over_behind}
 use Rattle.layout.specs.Layout.{frame_indices, pair_of, first_frame}
 use Rattle.bad_pairs.specs.Laws.{Good}
 use Rattle.replacing.specs.Replacing.{run_start, run_end, middle_frame, source_by, source, taken, pairs_octets, replaced}
-use Rattle.replacing.specs.Laws.{Run, run_of, in_run, good_stays, good_source, run_stop, replaced_at, replaced_length}
+use Rattle.replacing.specs.Laws.{Run}
+use Rattle.replacing.proofs.Laws.{run_of, in_run, good_stays, good_source, run_stop, replaced_at, replaced_length}
 use Rattle.replacing.specs.Steps.{Changed, Spread, Filled}
 
 -- ---- one octet stored

@@ -3,7 +3,7 @@
 use native.Mathlib.Omega.{arith}
 use mathlib.Core.Path.{◌≡◌, subst}
 use lib.ListN.{length}
-use Rattle.replacing.specs.Laws.{not_all_bad}
+use Rattle.replacing.proofs.Laws.{not_all_bad}
 use Rattle.replacing.proofs.Turns.{Going, begun, good_turn, the_run, run_turn, done}
 use Rattle.replacing.proofs.replace.Goals as goal
 

@@ -4,7 +4,7 @@ use native.Mathlib.Omega.{arith}
 use mathlib.Core.Path.{◌≡◌, ap, sym, ◌∙◌}
 use lib.ListN.{length}
 use Rattle.replacing.specs.Replacing.{run_end}
-use Rattle.replacing.specs.Laws.{end_on, end_stop, end_last}
+use Rattle.replacing.proofs.Laws.{end_on, end_stop, end_last}
 use Rattle.std.proofs.Common.{rules}
 use Rattle.replacing.proofs.run_end.Goals as goal
 
