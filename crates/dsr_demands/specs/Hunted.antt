@@ -6,7 +6,8 @@ use Rattle.std.proofs.Common.{sym, ap, ◌∙◌, subst}
 use Rattle.lists.specs.Tests.{true_false}
 use Rattle.bits.specs.Bits.{bits}
 use Rattle.hunt.specs.Hunt.{multiframe_bits, in_range, passes, searched, places_left, hunted, hunted_from}
-use Rattle.hunt.specs.Laws.{range_says, in_range_lem, Says, says, range_exactly, hunts}
+use Rattle.hunt.specs.Laws.{Says}
+use Rattle.hunt.proofs.Laws.{range_says, in_range_lem, says, range_exactly, hunts}
 use Rattle.hunt.specs.declared.Hunted.{Hunted}
 use Rattle.hunt.specs.declared.Hunted.TheVariants.{Found, Refused}
 use Rattle.refusals.specs.declared.Hunt.TheVariants.{MatchRange, Nowhere}

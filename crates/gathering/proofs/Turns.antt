@@ -11,7 +11,8 @@ use Rattle.layout.specs.Layout.{multiframe_octets, most_multiframes}
 use Rattle.bits.specs.Bits.{bits}
 use Rattle.hunt.specs.Hunt.{multiframe_bits, searched, hunted_from}
 use Rattle.refusals.specs.Refusals.{hunt_tested}
-use Rattle.hunt.specs.Laws.{Says, says}
+use Rattle.hunt.specs.Laws.{Says}
+use Rattle.hunt.proofs.Laws.{says}
 use Rattle.hunt.specs.declared.Hunted.{Hunted}
 use Rattle.hunt.specs.declared.Hunted.TheVariants as H
 use Rattle.refusals.specs.declared.Hunt.{Hunt as Refusal}

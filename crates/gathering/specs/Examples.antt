@@ -4,7 +4,7 @@ use Rattle.std.specs.Prelude.{◌≡◌, List, ℕ, length}
 use Rattle.std.proofs.Common.{arith}
 use Rattle.bits.specs.Bits.{bits}
 use Rattle.bits.proofs.Laws.{length_bits}
-use Rattle.hunt.specs.Laws.{searched_all}
+use Rattle.hunt.proofs.Laws.{searched_all}
 use Rattle.gathering.specs.Gathering.{outside_of}
 
 -- of 145 octets searched from bit 3 on, with one multiframe found, five bits are outside

@@ -9,7 +9,8 @@ use Rattle.lists.specs.Tests.{true_false}
 use Rattle.layout.specs.Layout.{sync_octets, multiframe_octets}
 use Rattle.bits.proofs.Laws.{length_octets}
 use Rattle.hunt.specs.Hunt.{multiframe_bits, searched, passes, hunted_from}
-use Rattle.hunt.specs.Laws.{Says, says}
+use Rattle.hunt.specs.Laws.{Says}
+use Rattle.hunt.proofs.Laws.{says}
 use Rattle.hunt.specs.declared.Hunted.{Hunted}
 use Rattle.hunt.specs.declared.Hunted.TheVariants as H
 use Rattle.refusals.specs.declared.Hunt.TheVariants as HR

@@ -6,6 +6,7 @@ use Rattle.std.proofs.Math.Path.{ap}
 use Rattle.std.proofs.Common.{subst, arith}
 use Rattle.hunt.specs.Hunt.{multiframe_bits, searched, passes, places_left, hunted_from}
 use Rattle.hunt.specs.Laws as Hunt
+use Rattle.hunt.proofs.Laws as HuntLaws
 use Rattle.hunt.specs.declared.Hunted.{Hunted}
 use Rattle.hunt.specs.declared.Hunted.TheVariants as H
 use Rattle.refusals.specs.declared.Hunt.TheVariants as HR
@@ -49,9 +50,9 @@ module _ (l : List Bool) (least : ℕ) where
 
   pub tested_says : (k at : ℕ) → (gathering l least k at).ending ≡ whole → Tested at (gathering l least k at).tested (gathering l least k at).places
   unfolding gathering
-  tested_says zero at e = tested_done at (hunted_from l at least) (Hunt.says least l at) e
+  tested_says zero at e = tested_done at (hunted_from l at least) (HuntLaws.says least l at) e
   tested_says (suc k) at e =
-      tested_step at (hunted_from l at least) (λ p. gathering l least k (p + multiframe_bits)) (Hunt.says least l at) (λ p. apart l least k (p + multiframe_bits))
+      tested_step at (hunted_from l at least) (λ p. gathering l least k (p + multiframe_bits)) (HuntLaws.says least l at) (λ p. apart l least k (p + multiframe_bits))
       (λ p. tested_says k (p + multiframe_bits)) e
 
   -- nothing is found exactly if no place passes
@@ -62,11 +63,11 @@ module _ (l : List Bool) (least : ℕ) where
 
   pub none_found : (k at : ℕ) → (gathering l least (suc k) at).places ≡ [] → NonePasses at
   unfolding gathering
-  none_found k at e = none_step at (hunted_from l at least) (λ p. gathering l least k (p + multiframe_bits)) (Hunt.says least l at) e
+  none_found k at e = none_step at (hunted_from l at least) (λ p. gathering l least k (p + multiframe_bits)) (HuntLaws.says least l at) e
 
   pub nothing_found : (k at : ℕ) → NonePasses at → gathering l least (suc k) at ≡ ended whole (places_left l at)
   unfolding gathering
-  nothing_found k at none = ap (λ (h : Hunted). step h (λ p. gathering l least k (p + multiframe_bits))) ((Hunt.nowhere_exactly least l at).1 none)
+  nothing_found k at none = ap (λ (h : Hunted). step h (λ p. gathering l least k (p + multiframe_bits))) ((HuntLaws.nowhere_exactly least l at).1 none)
 
   -- the end of the last of the places, or `at` if there is none
   abbrev pub end_of : ℕ → List ℕ → ℕ
@@ -102,5 +103,5 @@ module _ (l : List Bool) (least : ℕ) where
 
   pub many_says : (k at p : ℕ) → (gathering l least k at).ending ≡ too_many p → Beyond k at p (gathering l least k at).places
   unfolding gathering
-  many_says zero at p e = many_done at p (hunted_from l at least) (Hunt.says least l at) e
+  many_says zero at p e = many_done at p (hunted_from l at least) (HuntLaws.says least l at) e
   many_says (suc k) at p e = many_step k at p (hunted_from l at least) (λ q. gathering l least k (q + multiframe_bits)) (λ q. many_says k (q + multiframe_bits) p) e

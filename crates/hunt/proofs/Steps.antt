@@ -22,7 +22,7 @@ use Rattle.bits.specs.Bits.{field, value, bits}
 use Rattle.bits.proofs.Laws.{length_bits, length_field, field_value, in_word}
 use Rattle.header.specs.Reading.{reading}
 use Rattle.hunt.specs.Hunt.{sync_bits, multiframe_bits, sync, fewest_matches, in_range, alike, matches, readable, passes, head_passes, at_once, fewest_off, all_far, searched, places_left, misses, found, hunted_from, hunted}
-use Rattle.hunt.specs.Laws.{searched_le, misses_none, misses_hit, misses_on}
+use Rattle.hunt.proofs.Laws.{searched_le, misses_none, misses_hit, misses_on}
 use Rattle.hunt.specs.declared.Hunted.{Hunted}
 use Rattle.hunt.specs.declared.Hunted.TheVariants.{Found, Refused}
 use Rattle.refusals.specs.declared.Hunt.TheVariants.{MatchRange, Nowhere}

@@ -21,7 +21,7 @@ use Rattle.header_code.specs.Code.Distance.{codeword_lt}
 use Rattle.message.specs.Message.Laws.{message_lt}
 use Rattle.header.proofs.Laws.{flips_of}
 use Rattle.hunt.specs.Hunt.{sync_bits, header_bits, multiframe_bits, fewest_matches, sync, matches, passes, searched}
-use Rattle.hunt.specs.Laws.{searched_all}
+use Rattle.hunt.proofs.Laws.{searched_all}
 use Rattle.image.specs.Made.{packet_in, made_packet}
 use Rattle.image.specs.Laws.{image_word, image_packet}
 use Rattle.writer.proofs.Laws.{few_multiframes}

@@ -23,7 +23,7 @@ use Rattle.header.specs.Reading.{decoded_as, reading}
 use Rattle.header.proofs.Laws.{near, flips_of, three_lost}
 use Rattle.header.specs.declared.Header.TheVariants.{Codeword, Lost}
 use Rattle.hunt.specs.Hunt.{sync_bits, header_bits, multiframe_bits, sync, matches, passes, searched}
-use Rattle.hunt.specs.Laws.{searched_all}
+use Rattle.hunt.proofs.Laws.{searched_all}
 use Rattle.image.specs.Made.{stream_in}
 use Rattle.image.specs.Laws.{image_word, image_stream}
 use Rattle.writer.proofs.Laws.{few_multiframes}

@@ -19,7 +19,7 @@ use Rattle.bits.specs.Bits.{field, fields, bits, octets}
 use Rattle.bits.proofs.Laws.{length_bits, bits_part, bits_octets}
 use Rattle.crc.specs.Crc.{flip}
 use Rattle.hunt.specs.Hunt.{sync_bits, multiframe_bits, fewest_matches, sync, matches, passes, searched}
-use Rattle.hunt.specs.Laws.{searched_all}
+use Rattle.hunt.proofs.Laws.{searched_all}
 use Rattle.gathering.specs.Gathering.{outside_of}
 use Rattle.hunting.specs.Hunting.{Outcome, outcome, hunting_reading}
 use Rattle.hunting.specs.declared.Answer.TheVariants.{Read}

@@ -42,7 +42,7 @@ use Rattle.settling.specs.Laws.{one_default, two_or_more, only_clean, only_mende
 use Rattle.unfit.specs.Laws.{Usable, fit_is}
 use Rattle.settling.specs.declared.Settlement.TheVariants as S
 use Rattle.hunt.specs.Hunt.{sync_bits, header_bits, multiframe_bits, fewest_matches, in_range, sync, matches, passes, searched, places_left}
-use Rattle.hunt.specs.Laws.{searched_all, in_range_lem}
+use Rattle.hunt.proofs.Laws.{searched_all, in_range_lem}
 use Rattle.deciding.specs.Deciding.{room_verdict, settled_verdict, whole_verdict}
 use Rattle.reader.specs.Reading as R
 use Rattle.reader.specs.declared.Answer.TheVariants as Ra

@@ -25,7 +25,7 @@ use Rattle.header_notes.specs.Laws.{note_flips}
 use Rattle.notes.specs.Laws.{length_notes}
 use Rattle.reader.specs.Reading as R
 use Rattle.hunt.specs.Hunt.{sync_bits, header_bits, multiframe_bits, sync, matches, readable, passes}
-use Rattle.hunt.specs.Laws.{searched_le}
+use Rattle.hunt.proofs.Laws.{searched_le}
 use Rattle.gathering.specs.Gathering.{aligned, image_of}
 use Rattle.gathering.specs.Laws.{Apart, length_aligned}
 use Rattle.hunting.specs.Hunting as G

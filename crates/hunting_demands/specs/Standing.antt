@@ -21,7 +21,7 @@ use Rattle.header.specs.declared.Decoded.{Decoded}
 use Rattle.header.specs.declared.Header.{Header}
 use Rattle.header.specs.declared.Header.TheVariants.{Codeword, Lost}
 use Rattle.hunt.specs.Hunt.{fewest_matches, sync_bits, header_bits, multiframe_bits, sync, matches, readable, passes, searched, places_left, hunted_from}
-use Rattle.hunt.specs.Laws.{in_range_lem, searched_le, says, once, nowhere_exactly}
+use Rattle.hunt.proofs.Laws.{in_range_lem, searched_le, says, once, nowhere_exactly}
 use Rattle.hunt.specs.declared.Hunted.{Hunted}
 use Rattle.hunt.specs.declared.Hunted.TheVariants as H
 use Rattle.reader.specs.Reading as R

@@ -39,7 +39,7 @@ use Rattle.header_readings.specs.Readings.{readings}
 use Rattle.settling.specs.Settling.{settling, first_agreeing}
 use Rattle.settling.specs.declared.Settlement.TheVariants as S
 use Rattle.hunt.specs.Hunt.{sync_bits, header_bits, multiframe_bits, fewest_matches, sync, matches, passes, searched}
-use Rattle.hunt.specs.Laws.{searched_all}
+use Rattle.hunt.proofs.Laws.{searched_all}
 use Rattle.reader.specs.Reading as R
 use Rattle.reader.specs.declared.Answer.TheVariants as Ra
 use Rattle.refusals.specs.declared.Reading.TheVariants.{Unsettled}

@@ -2,7 +2,7 @@
 use mathlib.Core.Path.{refl, ◌∙◌}
 use native.Mathlib.Omega.{arith}
 use Rattle.bits.specs.Bits.{bits}
-use Rattle.hunt.specs.Laws.{searched_lt}
+use Rattle.hunt.proofs.Laws.{searched_lt}
 use Rattle.gathering.proofs.Turns.{begun, room_for_more, in_bits, few_tested, going_on, too_many_lem, few_tested_last, finished}
 use Rattle.gathering.proofs.gather.Goals as goal
 

@@ -5,7 +5,7 @@ use lib.ListN.{length-set}
 use Rattle.layout.specs.Layout.{multiframe_octets}
 use Rattle.bits.specs.Bits.{bits}
 use Rattle.bits.proofs.Laws.{length_bits}
-use Rattle.hunt.specs.Laws.{searched_le, searched_lt}
+use Rattle.hunt.proofs.Laws.{searched_le, searched_lt}
 use Rattle.gathering.proofs.Steps.{put_is}
 use Rattle.gathering.proofs.put_found.Goals as goal
 

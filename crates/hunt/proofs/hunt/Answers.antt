@@ -1,6 +1,6 @@
 -- `hunt` meets its contract: the hunt itself where T is in range, refused where it is not. Assumes nothing.
 use Rattle.std.proofs.Common.{sym, ◌∙◌}
-use Rattle.hunt.specs.Laws.{range_says}
+use Rattle.hunt.proofs.Laws.{range_says}
 use Rattle.hunt.proofs.Steps.{hunted_in, hunted_out}
 use Rattle.hunt.proofs.hunt.Goals as goal
 

@@ -1,6 +1,6 @@
 -- `read` meets its contract: what turns the tables away, then 21, then what is found. Assumes nothing.
 use mathlib.Core.Path.{◌≡◌, sym, ◌∙◌}
-use Rattle.hunt.specs.Laws.{range_says}
+use Rattle.hunt.proofs.Laws.{range_says}
 use Rattle.hunting.proofs.Ends.{not_admitted, out_of_range, in_range_lem}
 use borrow.Author.Rules.{rules}
 use Rattle.hunting.proofs.read.Statement.{statement}
