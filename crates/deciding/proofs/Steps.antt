@@ -60,6 +60,11 @@ early_common m index report c d = by (unfit c) (ltb index (index_octets * m)) (l
     by false false true e = cc
     by false false false e = cc
 
+-- and what it does not refuse it accepts with those
+accepts : (m index report c : ℕ) (v : Verdict) → v ≡ early_verdict m index report c → ((r : Refusal) → v ≡ Refuse r → ⊥) → v ≡ Accept c
+accepts m index report c (Refuse r) e n = absurd (n r refl)
+accepts m index report c (Accept d) e n = ap Accept (early_common m index report c d (sym e))
+
 -- ---- what the deciding functions' branches show
 module _ (m bad pairs index report c : ℕ) (v : Verdict) (ev : v ≡ early_verdict m index report c) where
   pub refused_early : (r : Refusal) → v ≡ Refuse r → Refuse r ≡ settled_verdict m bad pairs index report (S.Settled c)
@@ -69,9 +74,9 @@ module _ (m bad pairs index report c : ℕ) (v : Verdict) (ev : v ≡ early_verd
   passed_early w e l = l ∙ ap (λ (x : Verdict). and_then x (last_verdict bad pairs c)) (sym e ∙ ev) ∙ in_two m bad pairs index report c
 
   -- how many are bad, of how many
-  module _ (d b n : ℕ) (e : v ≡ Accept d) (eb : b ≡ bad) (en : n ≡ pairs) where
+  module _ (b n : ℕ) (e : (r : Refusal) → v ≡ Refuse r → ⊥) (eb : b ≡ bad) (en : n ≡ pairs) where
     same_accept : v ≡ Accept c
-    same_accept = e ∙ ap Accept (early_common m index report c d (sym ev ∙ e))
+    same_accept = accepts m index report c v ev e
 
     pub all_bad_lem : b ≡ n → Refuse AllBad ≡ settled_verdict m bad pairs index report (S.Settled c)
     unfolding last_verdict
@@ -80,6 +85,11 @@ module _ (m bad pairs index report c : ℕ) (v : Verdict) (ev : v ≡ early_verd
     pub not_all_bad : (b ≡ n → ⊥) → Accept c ≡ settled_verdict m bad pairs index report (S.Settled c)
     unfolding last_verdict
     not_all_bad q = passed_early (Accept c) same_accept (rw (ne_eqb bad pairs (λ z. q (eb ∙ z ∙ sym en))))
+
+-- what is not settled is unsettled
+unsettled : (s : Settlement) → ((c : ℕ) → s ≡ S.Settled c → ⊥) → s ≡ S.Unsettled
+unsettled S.Unsettled n = refl
+unsettled (S.Settled c) n = absurd (n c refl)
 
 module _ (ch : Choices) (octets : List ℕ) (tables : Tables) (index report : ℕ) (places : List ℕ) where
   -- 14
@@ -92,9 +102,9 @@ module _ (ch : Choices) (octets : List ℕ) (tables : Tables) (index report : �
     settles : settling ch (readings octets places) ≡ s
     settles = sym (es ∙ ap (λ (l : List ℕ). settling ch (open_all l)) eh ∙ ap (settling ch) (stored_back octets places))
 
-    pub decided_unsettled : s ≡ S.Unsettled → Refuse Unsettled ≡ whole_verdict ch octets tables index report places
+    pub decided_unsettled : ((c : ℕ) → s ≡ S.Settled c → ⊥) → Refuse Unsettled ≡ whole_verdict ch octets tables index report places
     unfolding whole_verdict settled_verdict
-    decided_unsettled e = rw (ne_eqb (length places) 0 some, settles, e)
+    decided_unsettled n = rw (ne_eqb (length places) 0 some, settles, unsettled s n)
 
     pub decided_settled : (c : ℕ) (v : Verdict) → s ≡ S.Settled c
         → v ≡ settled_verdict (length places) (bad_pairs (received_notes octets places tables)) (pair_count places) index report (S.Settled c)
