@@ -25,7 +25,8 @@ use Rattle.header_readings.specs.Readings.{readings}
 use Rattle.settling.specs.Settling.{among, settling}
 use Rattle.header_notes.specs.HeaderNotes.{header_note}
 use Rattle.header_readings.specs.Laws.{length_readings}
-use Rattle.settling.specs.Laws.{Has, Earlier, First, settled_first, has_read, read_has, settled_same, two_settle, Enough, settled_enough, one_default, only_clean, only_mended, only_lost}
+use Rattle.settling.specs.Laws.{Has, Earlier, First, Enough}
+use Rattle.settling.proofs.Laws.{settled_first, has_read, read_has, settled_same, two_settle, settled_enough, one_default, only_clean, only_mended, only_lost}
 use Rattle.header_notes.specs.Laws.{note_lost}
 use Rattle.settling.specs.declared.Settlement.TheVariants.{Settled, Unsettled}
 use Rattle.image.specs.Made.{word_in}

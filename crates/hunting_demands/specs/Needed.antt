@@ -38,7 +38,7 @@ use Rattle.header.specs.declared.Header.TheVariants.{Codeword}
 use Rattle.header_readings.specs.Readings.{readings}
 use Rattle.settling.specs.Settling.{settling, first_agreeing}
 use Rattle.header_readings.specs.Laws.{length_readings}
-use Rattle.settling.specs.Laws.{one_default, two_or_more, only_clean, only_mended}
+use Rattle.settling.proofs.Laws.{one_default, two_or_more, only_clean, only_mended}
 use Rattle.unfit.specs.Laws.{Usable, fit_is}
 use Rattle.settling.specs.declared.Settlement.TheVariants as S
 use Rattle.hunt.specs.Hunt.{sync_bits, header_bits, multiframe_bits, fewest_matches, in_range, sync, matches, passes, searched, places_left}

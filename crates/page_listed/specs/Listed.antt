@@ -34,7 +34,7 @@ use Rattle.cutting.specs.Cutting.{sync_met, last_met, piece_by, whole, Cutting, 
 use Rattle.header_readings.specs.Readings.{readings}
 use Rattle.settling.specs.Settling.{first_agreeing, settling}
 use Rattle.header_notes.specs.HeaderNotes.{header_note}
-use Rattle.settling.specs.Laws.{all_agree}
+use Rattle.settling.proofs.Laws.{all_agree}
 use Rattle.unfit.specs.Laws.{Usable}
 use Rattle.header_notes.specs.Laws.{note_lost}
 use Rattle.settling.specs.declared.Settlement.TheVariants as S

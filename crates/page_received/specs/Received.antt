@@ -36,7 +36,7 @@ use Rattle.cutting.proofs.Laws.{multiframe_met, at_place, every_length}
 use Rattle.header_readings.specs.Readings.{readings}
 use Rattle.settling.specs.Settling.{first_agreeing, only_one, settling}
 use Rattle.header_readings.specs.Laws.{length_readings}
-use Rattle.settling.specs.Laws.{neither, one_default, only_clean, only_mended, all_agree}
+use Rattle.settling.proofs.Laws.{neither, one_default, only_clean, only_mended, all_agree}
 use Rattle.unfit.specs.Laws.{Usable, fit_is, unfit_is}
 use Rattle.carrier.specs.Carrier.{received, pair_count}
 use Rattle.settling.specs.declared.Settlement.{Settlement}

@@ -13,7 +13,7 @@ use Rattle.header.specs.declared.Header.{Header}
 use Rattle.header.specs.declared.Header.TheVariants.{Codeword, Lost}
 use Rattle.settling.specs.Settling.{first_agreeing, only_one, settling}
 use Rattle.header_notes.specs.HeaderNotes.{header_note}
-use Rattle.settling.specs.Laws.{two_or_more, only_mended}
+use Rattle.settling.proofs.Laws.{two_or_more, only_mended}
 use Rattle.settling.specs.declared.Settlement.TheVariants.{Settled, Unsettled}
 use Rattle.consistency.specs.Consistency.{exceeding, element_exceeds, flagged, flags, inconsistent}
 use Rattle.replacing.specs.Replacing.{source, source_by, run_start, leading}

@@ -25,7 +25,7 @@ use Rattle.cutting.specs.Laws.{every}
 use Rattle.cutting.proofs.Laws.{every_length, every_at}
 use Rattle.header_readings.specs.Readings.{readings}
 use Rattle.settling.specs.Settling.{first_agreeing, settling}
-use Rattle.settling.specs.Laws.{not_one, only_clean, only_mended, only_default}
+use Rattle.settling.proofs.Laws.{not_one, only_clean, only_mended, only_default}
 use Rattle.unfit.specs.Laws.{Usable, fit_is, unfit_is}
 use Rattle.settling.specs.declared.Settlement.{Settlement}
 use Rattle.settling.specs.declared.Settlement.TheVariants as S

@@ -38,7 +38,8 @@ use Rattle.header.specs.declared.Header.TheVariants.{Codeword, Lost}
 use Rattle.header_readings.specs.Readings.{readings}
 use Rattle.settling.specs.Settling.{settling}
 use Rattle.header_notes.specs.HeaderNotes.{header_note}
-use Rattle.settling.specs.Laws.{Has, read_has}
+use Rattle.settling.specs.Laws.{Has}
+use Rattle.settling.proofs.Laws.{read_has}
 use Rattle.unfit.specs.Laws.{Usable}
 use Rattle.settling.specs.declared.Settlement.TheVariants.{Settled}
 use Rattle.cutting.proofs.Laws.{every_length}

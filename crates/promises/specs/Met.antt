@@ -30,7 +30,8 @@ use Rattle.header.specs.declared.Header.TheVariants.{Codeword, Lost}
 use Rattle.header_readings.specs.Readings.{readings}
 use Rattle.settling.specs.Settling.{settling}
 use Rattle.header_notes.specs.HeaderNotes.{header_note}
-use Rattle.settling.specs.Laws.{Enough, two_settle}
+use Rattle.settling.specs.Laws.{Enough}
+use Rattle.settling.proofs.Laws.{two_settle}
 use Rattle.carrier.specs.Carrier.{received, pair_count}
 use Rattle.settling.specs.declared.Settlement.TheVariants.{Settled}
 use Rattle.notes.specs.Laws.{length_notes}

@@ -20,7 +20,7 @@ use Rattle.header.specs.declared.Header.{Header}
 use Rattle.header.specs.declared.Header.TheVariants.{Codeword}
 use Rattle.header_readings.specs.Readings.{readings}
 use Rattle.settling.specs.Settling.{settling}
-use Rattle.settling.specs.Laws.{only_settles}
+use Rattle.settling.proofs.Laws.{only_settles}
 use Rattle.settling.specs.declared.Settlement.TheVariants.{Settled}
 use Rattle.reader.specs.Reading.{reading}
 use Rattle.reader.specs.declared.Summary.{Summary}

@@ -35,7 +35,8 @@ use Rattle.header.specs.declared.Header.{Header}
 use Rattle.header.specs.declared.Header.TheVariants.{Codeword, Lost}
 use Rattle.header_readings.specs.Readings.{readings}
 use Rattle.settling.specs.Settling.{settling, first_agreeing}
-use Rattle.settling.specs.Laws.{Enough, two_or_more}
+use Rattle.settling.specs.Laws.{Enough}
+use Rattle.settling.proofs.Laws.{two_or_more}
 use Rattle.carrier.specs.Carrier.{received, pair_count}
 use Rattle.settling.specs.declared.Settlement.TheVariants as Set
 use Rattle.notes.specs.Laws.{length_notes, length_all}

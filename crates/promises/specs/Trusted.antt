@@ -35,7 +35,8 @@ use Rattle.reader.specs.declared.Answer.TheVariants.{Read}
 use Rattle.image.specs.Made.{sync_in, word_in, packet_in}
 use Rattle.image.specs.Laws.{length_image, image_sync}
 use Rattle.header_readings.specs.Laws.{length_readings}
-use Rattle.settling.specs.Laws.{Enough, settled_enough}
+use Rattle.settling.specs.Laws.{Enough}
+use Rattle.settling.proofs.Laws.{settled_enough}
 use Rattle.writer.proofs.Laws.{few_multiframes}
 use Rattle.writer.specs.Utterance.{Utterance, multiframes_of, image_of}
 use Rattle.writer.proofs.Utterance.{is_accepted, settings_right_lem}

@@ -20,7 +20,7 @@ use Rattle.carrier.specs.Carrier.{pair_count}
 use Rattle.header_readings.specs.Readings.{readings}
 use Rattle.settling.specs.Settling.{settling}
 use Rattle.header_readings.specs.Laws.{length_readings}
-use Rattle.settling.specs.Laws.{not_one, one_default}
+use Rattle.settling.proofs.Laws.{not_one, one_default}
 use Rattle.settling.specs.declared.Settlement.{Settlement}
 use Rattle.settling.specs.declared.Settlement.TheVariants as S
 use Rattle.bad_pairs.specs.BadPairs.{bad_pairs}

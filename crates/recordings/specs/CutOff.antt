@@ -35,7 +35,8 @@ use Rattle.header.specs.declared.Header.TheVariants.{Codeword, Lost}
 use Rattle.header_readings.specs.Readings.{readings}
 use Rattle.header_notes.specs.HeaderNotes.{header_note}
 use Rattle.header_readings.specs.Laws.{length_readings}
-use Rattle.settling.specs.Laws.{Enough, settled_enough}
+use Rattle.settling.specs.Laws.{Enough}
+use Rattle.settling.proofs.Laws.{settled_enough}
 use Rattle.header_notes.specs.Laws.{clean_note}
 use Rattle.carrier.specs.Carrier.{received, pair_count}
 use Rattle.notes.specs.Notes.{pair_fails}

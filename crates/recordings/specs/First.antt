@@ -27,7 +27,8 @@ use Rattle.header.specs.declared.Header.{Header}
 use Rattle.header.specs.declared.Header.TheVariants.{Codeword, Lost}
 use Rattle.header_readings.specs.Readings.{readings}
 use Rattle.settling.specs.Settling.{settling}
-use Rattle.settling.specs.Laws.{AllHave, all_agree, only_clean}
+use Rattle.settling.specs.Laws.{AllHave}
+use Rattle.settling.proofs.Laws.{all_agree, only_clean}
 use Rattle.carrier.specs.Carrier.{stream_packet, received, pair_count}
 use Rattle.settling.specs.declared.Settlement.TheVariants.{Settled}
 use Rattle.notes.specs.Notes.{pair_fails, frames_of, pair_notes, pair_inconsistent}

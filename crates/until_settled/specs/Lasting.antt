@@ -25,7 +25,7 @@ use Rattle.cutting.proofs.ReachedLaws.{here_piece, ends_exactly}
 use Rattle.header_readings.specs.Readings.{readings}
 use Rattle.settling.specs.Settling.{first_agreeing, settling}
 use Rattle.unfit.specs.Unfit.{unfit}
-use Rattle.settling.specs.Laws.{not_one}
+use Rattle.settling.proofs.Laws.{not_one}
 use Rattle.settling.specs.declared.Settlement.{Settlement}
 use Rattle.settling.specs.declared.Settlement.TheVariants as S
 use Rattle.until_settled.specs.declared.Beginning.{Beginning}

@@ -28,7 +28,7 @@ use Rattle.header_readings.specs.Readings.{readings}
 use Rattle.settling.specs.Settling.{first_agreeing, settling}
 use Rattle.unfit.specs.Unfit.{unfit}
 use Rattle.header_readings.specs.Laws.{length_readings}
-use Rattle.settling.specs.Laws.{not_one}
+use Rattle.settling.proofs.Laws.{not_one}
 use Rattle.unfit.specs.Laws.{Usable, Unusable, fit_is, unfit_is, fit_says}
 use Rattle.settling.specs.declared.Settlement.{Settlement}
 use Rattle.settling.specs.declared.Settlement.TheVariants as S

@@ -19,7 +19,7 @@ use Rattle.cutting.proofs.Laws.{every_length}
 use Rattle.header_readings.specs.Readings.{readings}
 use Rattle.settling.specs.Settling.{first_agreeing, settling}
 use Rattle.header_readings.specs.Laws.{length_readings}
-use Rattle.settling.specs.Laws.{two_or_more}
+use Rattle.settling.proofs.Laws.{two_or_more}
 use Rattle.unfit.specs.Laws.{Usable, fit_is}
 use Rattle.settling.specs.declared.Settlement.{Settlement}
 use Rattle.settling.specs.declared.Settlement.TheVariants as S

@@ -1,6 +1,6 @@
 -- `only_one` meets its contract. Assumes nothing.
 use Rattle.std.proofs.Common.{sym, ◌∙◌}
-use Rattle.settling.specs.Laws.{not_only}
+use Rattle.settling.proofs.Laws.{not_only}
 use Rattle.header_readings.specs.Stored.{length_open}
 use Rattle.settling.proofs.Steps.{only_lost, only_clean, only_mended}
 use Rattle.settling.proofs.only_one.Goals as goal
