@@ -27,7 +27,7 @@ use Rattle.deciding.specs.Deciding.{received_notes}
 use Rattle.report.specs.Report.{report_part}
 use Rattle.reader.specs.Reading.{index_part, summary, Outcome, outcome, reading, received_frames}
 use Rattle.deciding.specs.Laws.{Fitting}
-use Rattle.reader.specs.ReadingLaws.{length_index}
+use Rattle.reader.proofs.ReadingLaws.{length_index}
 use Rattle.reader.specs.declared.Summary.{Summary}
 use Rattle.reader.specs.declared.Answer.TheVariants.{Read}
 use Rattle.image.specs.Made.{part_within}

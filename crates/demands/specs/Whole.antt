@@ -32,7 +32,8 @@ use Rattle.deciding.specs.Deciding.{room_verdict, settled_verdict, whole_verdict
 use Rattle.report.specs.Report.{report_part, length_report, report_at}
 use Rattle.reader.specs.Reading.{index_part, summary, end_verdict, verdict, finished, outcome, reading}
 use Rattle.deciding.specs.Laws.{Fitting}
-use Rattle.reader.specs.ReadingLaws.{Accepted, accepting}
+use Rattle.reader.specs.ReadingLaws.{Accepted}
+use Rattle.reader.proofs.ReadingLaws.{accepting}
 use Rattle.deciding.specs.declared.Verdict.{Verdict}
 use Rattle.refusals.specs.declared.Reading.TheVariants.{Unsettled, AllBad}
 use Rattle.reader.specs.declared.Answer.TheVariants.{Read, Refused}

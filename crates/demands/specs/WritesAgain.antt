@@ -37,7 +37,8 @@ use Rattle.replacing.specs.Speech.{speech_of, end_of}
 use Rattle.deciding.specs.Deciding.{received_notes}
 use Rattle.report.specs.Report.{report_part}
 use Rattle.reader.specs.Reading.{index_part, summary, verdict, finished, Outcome, outcome, reading, received_frames}
-use Rattle.reader.specs.ReadingLaws.{Accepted, accepted}
+use Rattle.reader.specs.ReadingLaws.{Accepted}
+use Rattle.reader.proofs.ReadingLaws.{accepted}
 use Rattle.reader.specs.declared.Summary.{Summary}
 use Rattle.refusals.specs.declared.Reading.{Reading as Refusal}
 use Rattle.deciding.specs.declared.Verdict.{Verdict}

@@ -13,7 +13,7 @@ use Rattle.cutting.specs.Cutting.{cutting}
 use Rattle.replacing.specs.Speech.{speech_of, end_of}
 use Rattle.deciding.specs.Deciding.{received_notes}
 use Rattle.reader.specs.Reading.{index_part, Outcome}
-use Rattle.reader.specs.ReadingLaws.{length_index}
+use Rattle.reader.proofs.ReadingLaws.{length_index}
 use Rattle.reader.specs.declared.Summary.{Summary}
 use Rattle.image.specs.Image.{image}
 use Rattle.image.specs.Made.{Small, sync_in, word_in, packet_in, made, made_sync, made_word, made_packet}

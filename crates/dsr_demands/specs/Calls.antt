@@ -24,7 +24,7 @@ use Rattle.reader.specs.Reading as R
 use Rattle.reader.specs.Reading.{reading}
 use Rattle.reader.specs.declared.Summary.{Summary}
 use Rattle.refusals.specs.declared.Reading.{Reading as Refusal}
-use Rattle.reader.specs.ReadingLaws.{refusal_keeps}
+use Rattle.reader.proofs.ReadingLaws.{refusal_keeps}
 use Rattle.reader.specs.declared.Answer.{Answer}
 use Rattle.reader.specs.declared.Answer.TheVariants.{Read, Refused}
 use Rattle.hunting.specs.Hunting as G

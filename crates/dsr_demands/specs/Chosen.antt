@@ -25,7 +25,7 @@ use Rattle.refusals.specs.declared.Reading.TheVariants.{Unsettled}
 use Rattle.refusals.specs.declared.Hunting.TheVariants.{Octets}
 use Rattle.reader.specs.Reading as R
 use Rattle.reader.specs.RefusalLaws.{CutUp}
-use Rattle.reader.specs.Chosen.{two_alike, one_refused, default_two}
+use Rattle.reader.proofs.Chosen.{two_alike, one_refused, default_two}
 use Rattle.hunting.specs.Hunting as G
 use Rattle.hunting.specs.Chosen.{found_alike, found_refused, found_two}
 use Rattle.entries.specs.Entries.{answer_numbers, Returned, returned, unchosen, given_of, dsr_read}

@@ -17,7 +17,7 @@ use Rattle.notes.specs.Laws.{length_notes}
 use Rattle.deciding.specs.Deciding.{received_notes}
 use Rattle.report.specs.Report.{report_part, length_report}
 use Rattle.reader.specs.Reading.{index_part, Outcome, outcome, reading}
-use Rattle.reader.specs.ReadingLaws.{length_index}
+use Rattle.reader.proofs.ReadingLaws.{length_index}
 use Rattle.reader.specs.declared.Summary.{Summary}
 use Rattle.reader.specs.declared.Answer.{Answer}
 use Rattle.reader.specs.declared.Answer.TheVariants.{Read}

@@ -20,7 +20,7 @@ use Rattle.refusals.specs.declared.Reading.TheVariants as RV
 use Rattle.refusals.specs.declared.Hunting.{Hunting}
 use Rattle.refusals.specs.declared.Hunting.TheVariants as HV
 use Rattle.reader.specs.Reading.{reading}
-use Rattle.reader.specs.RefusalLaws.{refused_exactly}
+use Rattle.reader.proofs.RefusalLaws.{refused_exactly}
 use Rattle.reader.specs.declared.Answer.{Answer}
 use Rattle.reader.specs.declared.Answer.TheVariants.{Read, Refused}
 use Rattle.hunting.specs.Hunting as G

@@ -14,7 +14,7 @@ use Rattle.refusals.specs.declared.Reading.{Reading}
 use Rattle.cutting.specs.Cutting.{cutting}
 use Rattle.deciding.specs.Deciding.{received_notes}
 use Rattle.reader.specs.Reading.{Outcome, outcome, reading, finished, verdict, summary}
-use Rattle.reader.specs.ReadingLaws.{accepted}
+use Rattle.reader.proofs.ReadingLaws.{accepted}
 use Rattle.reader.specs.declared.Summary.{Summary}
 use Rattle.deciding.specs.declared.Verdict.{Verdict}
 use Rattle.deciding.specs.declared.Verdict.TheVariants.{Refuse, Accept}

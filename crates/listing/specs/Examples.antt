@@ -8,7 +8,7 @@ use Rattle.cutting.specs.Cutting.{walk}
 use Rattle.refusals.specs.declared.Reading.TheVariants.{Empty}
 use Rattle.deciding.specs.Deciding.{whole_verdict}
 use Rattle.reader.specs.Reading.{Outcome, outcome}
-use Rattle.reader.specs.Steps.{whole_reading}
+use Rattle.reader.proofs.FirstTests.{whole_reading}
 use Rattle.reader.specs.declared.Answer.TheVariants.{Refused}
 use Rattle.last_line.specs.Examples.{empty_refused}
 use Rattle.listing.specs.Listing.{listed, listing}

@@ -49,7 +49,8 @@ use Rattle.deciding.specs.Deciding.{received_notes}
 use Rattle.report.specs.Report.{report_part}
 use Rattle.reader.specs.Reading.{answer_number, answer_values, summary, index_part, Outcome, outcome, finished, reading, received_frames}
 use Rattle.deciding.specs.Laws.{Fitting}
-use Rattle.reader.specs.ReadingLaws.{Accepted, accepting}
+use Rattle.reader.specs.ReadingLaws.{Accepted}
+use Rattle.reader.proofs.ReadingLaws.{accepting}
 use Rattle.deciding.specs.declared.Verdict.{Verdict}
 use Rattle.reader.specs.declared.Answer.TheVariants.{Read}
 use Rattle.worked_examples.specs.Examples as E

@@ -45,7 +45,7 @@ use Rattle.notes.specs.Notes.{pair_fails, pair_notes, pair_inconsistent}
 use Rattle.bad_pairs.specs.BadPairs.{note_by, notes, bad_pairs}
 use Rattle.deciding.specs.Deciding.{room_verdict, settled_verdict, whole_verdict, received_notes}
 use Rattle.reader.specs.Reading.{answer_number, answer_values, Outcome, outcome, finished, reading}
-use Rattle.reader.specs.Steps.{not_admitted, not_cut, whole_reading}
+use Rattle.reader.proofs.FirstTests.{not_admitted, not_cut, whole_reading}
 use Rattle.refusals.specs.Refusals.{reading_number, reading_place}
 use Rattle.refusals.specs.declared.Reading.{Reading as Refusal}
 use Rattle.refusals.specs.declared.Reading.TheVariants.{WrongTables, Empty, Unsettled, Unfit, IndexShort, ReportShort, AllBad}

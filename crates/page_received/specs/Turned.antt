@@ -7,7 +7,7 @@ use Rattle.lists.specs.Search.{at, first_from}
 use Rattle.choices.specs.declared.Choices.{Choices}
 use Rattle.tables.specs.Tables.{tables_of, first_negative, sign_admission}
 use Rattle.tables.proofs.AdmittedLaws.{signs_next, wrong_sizes}
-use Rattle.reader.specs.Steps.{not_admitted}
+use Rattle.reader.proofs.FirstTests.{not_admitted}
 use Rattle.refusals.specs.declared.Reading.TheVariants.{WrongTables, NegativeThreshold}
 use Rattle.page_received.specs.Received.{Refuses, refuses}
 

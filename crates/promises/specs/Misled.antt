@@ -25,7 +25,7 @@ use Rattle.settling.specs.declared.Settlement.TheVariants.{Settled}
 use Rattle.reader.specs.Reading.{reading}
 use Rattle.reader.specs.declared.Summary.{Summary}
 use Rattle.reader.specs.declared.Answer.TheVariants.{Read}
-use Rattle.reader.specs.Chosen.{default_two}
+use Rattle.reader.proofs.Chosen.{default_two}
 use Rattle.image.specs.Made.{sync_in, word_in}
 use Rattle.image.specs.Laws.{length_image, image_sync}
 use Rattle.writer.proofs.Laws.{few_multiframes}

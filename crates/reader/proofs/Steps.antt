@@ -28,7 +28,7 @@ use Rattle.deciding.specs.Deciding.{whole_verdict, received_notes}
 use Rattle.report.specs.Report.{report_part}
 use Rattle.reader.specs.Reading.{answer_number, answer_values, index_part, summary, Outcome, outcome, finished, reading, received_frames}
 use Rattle.deciding.specs.Laws.{whole_accepted}
-use Rattle.reader.specs.ReadingLaws.{length_index}
+use Rattle.reader.proofs.ReadingLaws.{length_index}
 use Rattle.reader.specs.declared.Summary.{Summary}
 use Rattle.reader.specs.declared.Answer.TheVariants.{Read, Refused}
 use Rattle.refusals.specs.declared.Reading.{Reading as Refusal}

@@ -1,5 +1,3 @@
 pub mod Reading
 pub mod ReadingLaws
-pub mod Steps
 pub mod RefusalLaws
-pub mod Chosen

@@ -2,7 +2,6 @@
 -- Frames, pairs and multiframes count from 0.
 -- Assumes nothing.
 use Rattle.std.specs.Prelude.{ℕ, ◌*◌, List, [], ◌∷◌, length}
-use Rattle.lists.specs.Tests.{when}
 use Rattle.lists.specs.Parts.{over}
 use Rattle.layout.specs.Layout.{index_octets, report_octets}
 use Rattle.choices.specs.declared.Choices.{Choices}

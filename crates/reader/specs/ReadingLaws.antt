@@ -1,37 +1,17 @@
--- What an accepted input has, and that nothing else is accepted: the refusals read backwards.
+-- What an accepted input has, as a record.
 -- Assumes nothing.
-use Rattle.std.specs.Prelude.{ℕ, ◌*◌, List, Bool, true, false}
-use native.Mathlib.Omega.{arith}
-use Rattle.std.proofs.Math.Path.{◌≡◌, refl}
-use Rattle.std.proofs.Common.{ap, ◌∙◌}
+use Rattle.std.specs.Prelude.{ℕ, List}
+use Rattle.std.proofs.Math.Path.{◌≡◌}
 use Rattle.std.proofs.Math.ListN.{length}
-use borrow.Author.Tests.{ne_eqb, le-ltb}
-use Rattle.lists.specs.Tests.{when, by_test}
-use Rattle.lists.specs.Parts.{over}
-use Rattle.layout.specs.Layout.{index_octets, report_octets, codebook_numbers, threshold_numbers}
 use Rattle.choices.specs.declared.Choices.{Choices}
-use Rattle.tables.specs.Tables.{Tables, RightTables, admission, if_admitted}
-use Rattle.tables.proofs.AdmittedLaws.{right_passes, passes_right}
-use Rattle.tables.specs.declared.Admission.{Admission}
-use Rattle.tables.specs.declared.Admission.TheVariants as A
-use Rattle.cutting.specs.Cutting.{Ending, whole, refused, cutting}
+use Rattle.tables.specs.Tables.{Tables, RightTables}
+use Rattle.cutting.specs.Cutting.{whole, cutting}
 use Rattle.header_readings.specs.Readings.{readings}
 use Rattle.settling.specs.Settling.{settling}
-use Rattle.unfit.specs.Laws.{fit_is}
 use Rattle.carrier.specs.Carrier.{pair_count}
 use Rattle.bad_pairs.specs.BadPairs.{bad_pairs}
-use Rattle.replacing.specs.Replacing.{pairs_octets}
-use Rattle.replacing.proofs.Laws.{replaced_length}
-use Rattle.deciding.specs.Laws.{Fitting, WholeSays, whole_says}
-use Rattle.deciding.specs.Deciding.{room_verdict, settled_verdict, whole_verdict, received_notes}
-use Rattle.report.specs.Report.{report_part}
-use Rattle.reader.specs.Reading.{index_part, summary, end_verdict, verdict, finished, outcome, end_reading, reading, received_frames}
-use Rattle.refusals.specs.declared.Reading.{Reading as Refusal}
-use Rattle.reader.specs.declared.Summary.{Summary}
-use Rattle.reader.specs.declared.Answer.{Answer}
-use Rattle.reader.specs.declared.Answer.TheVariants.{Read, Refused}
-use Rattle.deciding.specs.declared.Verdict.{Verdict}
-use Rattle.deciding.specs.declared.Verdict.TheVariants.{Refuse, Accept}
+use Rattle.deciding.specs.Laws.{Fitting}
+use Rattle.deciding.specs.Deciding.{received_notes}
 
 module _ (ch : Choices) (octets : List ℕ) (tables : Tables) (index report : ℕ) where
   abbrev places : List ℕ
@@ -43,95 +23,3 @@ module _ (ch : Choices) (octets : List ℕ) (tables : Tables) (index report : �
     pub uncut : (cutting octets).ending ≡ whole
     pub some : length places ≡ 0 → ⊥
     pub fitting : Fitting (length places) (bad_pairs (received_notes octets places tables)) (pair_count places) index report (settling ch (readings octets places)) c
-
-  abbrev AcceptedBy : Verdict → Type 0
-  AcceptedBy (Refuse r) = Unit
-  AcceptedBy (Accept c) = Accepted c
-
-  accepted_by : AcceptedBy (verdict ch octets tables index report)
-  unfolding verdict
-  accepted_by =
-      by (admission tables) refl
-    where
-      fit : (v : Verdict) → RightTables tables → (cutting octets).ending ≡ whole → WholeSays ch octets tables index report places v → AcceptedBy v
-      fit (Refuse r) t e h = tt
-      fit (Accept c) t e h = record { right_tables = t; uncut = e; some = h.0; fitting = h.1 }
-
-      ended : (e : Ending) → (cutting octets).ending ≡ e → RightTables tables → AcceptedBy (end_verdict ch octets tables index report places e)
-      ended (refused r) e t = tt
-      ended whole e t = fit (whole_verdict ch octets tables index report places) t e (whole_says ch octets tables index report places)
-
-      by : (a : Admission) → admission tables ≡ a → AcceptedBy (if_admitted a Refuse (end_verdict ch octets tables index report places (cutting octets).ending))
-      by A.Admitted e = ended (cutting octets).ending refl (passes_right tables e)
-      by (A.Refused r) e = tt
-
-  -- what acceptance says
-  pub accepted : (c : ℕ) → verdict ch octets tables index report ≡ Accept c → Accepted c
-  accepted c e = rw e at accepted_by
-
-  -- and what it takes
-  pub accepting : (c : ℕ) → Accepted c → verdict ch octets tables index report ≡ Accept c
-  unfolding verdict whole_verdict settled_verdict room_verdict
-  accepting c a =
-      let f = a.fitting in
-      rw (
-        right_passes tables a.right_tables,
-        a.uncut,
-        ne_eqb (length places) 0 a.some,
-        f.settles,
-        fit_is c f.usable,
-        le-ltb index (index_octets * length places) f.roomy.index_room,
-        le-ltb report (report_octets * length places) f.roomy.report_room,
-        ne_eqb (bad_pairs (received_notes octets places tables)) (pair_count places) f.roomy.not_all,
-      )
-
--- ---- the one outcome of each input
-module _ (ch : Choices) (octets : List ℕ) (tables : Tables) (index report : List ℕ) where
-  -- a refusal changes no octet of either buffer
-  pub refused_keeps : (r : Refusal) → verdict ch octets tables (length index) (length report) ≡ Refuse r
-      → reading ch octets tables index report ≡ outcome (Refused r) index report
-  unfolding reading
-  refused_keeps r e = rw e
-
-  -- so an answer that is a refusal says that both buffers are as they came
-  pub refusal_keeps : (r : Refusal) → (reading ch octets tables index report).answer ≡ Refused r
-      → reading ch octets tables index report ≡ outcome (Refused r) index report
-  unfolding reading
-  refusal_keeps r e = by (verdict ch octets tables (length index) (length report)) e
-    where
-      never : (s : Summary) → Read s ≡ Refused r → ⊥
-      never s e = let z : ◌≡◌ {A = ℕ} 0 1 = cc in omega arith
-
-      by : (v : Verdict) → (finished octets tables index report (cutting octets).places v).answer ≡ Refused r
-          → finished octets tables index report (cutting octets).places v ≡ outcome (Refused r) index report
-      by (Refuse x) e = ap (λ (a : Answer). outcome a index report) e
-      by (Accept c) e = absurd (never _ e)
-
-  -- success lays both parts over the buffers' fronts
-  pub accepted_lays : (c : ℕ) → verdict ch octets tables (length index) (length report) ≡ Accept c
-      → reading ch octets tables index report
-      ≡ outcome (Read (summary octets (cutting octets).places (received_notes octets (cutting octets).places tables) c))
-      (over index 0 (index_octets * length (cutting octets).places) (index_part octets (cutting octets).places (received_notes octets (cutting octets).places tables)))
-      (over report 0 (report_octets * length (cutting octets).places) (report_part octets (cutting octets).places (received_notes octets (cutting octets).places tables) c))
-  unfolding reading
-  accepted_lays c e = rw e
-
-  -- a reading by its parts: 11 and 10, what cutting refuses, else the reading of the multiframes found
-  pub in_order : reading ch octets tables index report
-      ≡ if_admitted (admission tables) (λ r. outcome (Refused r) index report) (end_reading ch octets tables index report (cutting octets).places (cutting octets).ending)
-  unfolding reading verdict
-  in_order = by (admission tables) (cutting octets).ending
-    where
-      by : (a : Admission) (e : Ending)
-          → finished octets tables index report (cutting octets).places
-          (if_admitted a Refuse (end_verdict ch octets tables (length index) (length report) (cutting octets).places e))
-          ≡ if_admitted a (λ r. outcome (Refused r) index report) (end_reading ch octets tables index report (cutting octets).places e)
-      by (A.Refused r) e = refl
-      by A.Admitted whole = refl
-      by A.Admitted (refused r) = refl
-
--- ---- the sizes of what a reading holds
-module _ (octets places ns : List ℕ) where
-  -- 168 octets for each multiframe
-  pub length_index : length ns ≡ pair_count places → length (index_part octets places ns) ≡ index_octets * length places
-  length_index e = replaced_length ns (received_frames octets places) ∙ ap pairs_octets e ∙ omega arith

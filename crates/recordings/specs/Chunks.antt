@@ -16,7 +16,7 @@ use Rattle.cutting.specs.Laws.{Says, Chunk, multiframe, inverse, octets_of, plac
 use Rattle.cutting.proofs.Laws.{multiframe_met, inverse_met, says, walk_step}
 use Rattle.deciding.specs.Deciding.{whole_verdict}
 use Rattle.reader.specs.Reading.{end_verdict, verdict, Outcome, outcome, reading}
-use Rattle.reader.specs.ReadingLaws.{refused_keeps}
+use Rattle.reader.proofs.ReadingLaws.{refused_keeps}
 use Rattle.refusals.specs.Refusals.{reading_number, reading_place}
 use Rattle.refusals.specs.declared.Reading.{Reading as Refusal}
 use Rattle.refusals.specs.declared.Reading.TheVariants as RR

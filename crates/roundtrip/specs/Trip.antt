@@ -30,8 +30,8 @@ use Rattle.writer.specs.declared.Answer.TheVariants.{Written, Refused}
 use Rattle.refusals.specs.declared.Writing as WR
 use Rattle.refusals.specs.declared.Writing.TheVariants.{WrongSettings}
 use Rattle.reader.specs.Reading.{Outcome, outcome, reading}
-use Rattle.reader.specs.ReadingLaws.{refusal_keeps}
-use Rattle.reader.specs.Steps as S
+use Rattle.reader.proofs.ReadingLaws.{refusal_keeps}
+use Rattle.reader.proofs.FirstTests as S
 use Rattle.reader.specs.declared.Summary.{Summary}
 use Rattle.reader.specs.declared.Answer as Ra
 use Rattle.reader.specs.declared.Answer.TheVariants as R

@@ -24,8 +24,9 @@ use Rattle.settling.specs.declared.Settlement.TheVariants as S
 use Rattle.deciding.specs.declared.Verdict.{Verdict}
 use Rattle.deciding.specs.declared.Verdict.TheVariants.{Refuse, Accept}
 use Rattle.reader.specs.Reading.{verdict, finished, reading}
-use Rattle.reader.specs.ReadingLaws.{accepted}
-use Rattle.reader.specs.RefusalLaws.{Fit, Given, decided_exactly, refused_exactly}
+use Rattle.reader.proofs.ReadingLaws.{accepted}
+use Rattle.reader.specs.RefusalLaws.{Fit, Given}
+use Rattle.reader.proofs.RefusalLaws.{decided_exactly, refused_exactly}
 use Rattle.reader.specs.declared.Summary.{Summary}
 use Rattle.reader.specs.declared.Answer as Ra
 use Rattle.reader.specs.declared.Answer.TheVariants as R

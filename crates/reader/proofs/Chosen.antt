@@ -1,6 +1,6 @@
 -- What the choice changes (02, C-20): an only multiframe, which by default is refused with 16, and nothing else.
 -- Assumes nothing.
-use Rattle.std.specs.Prelude.{ℕ, ◌≤◌, ◌<◌, List, Bool, true, false, eqb}
+use Rattle.std.specs.Prelude.{ℕ, ◌≤◌, ◌<◌, List, false, eqb}
 use native.Mathlib.Omega.{arith}
 use Rattle.std.proofs.Math.Decide.{dec_lt}
 use Rattle.std.proofs.Math.Path.{◌≡◌, refl, ap, sym}
@@ -26,9 +26,10 @@ use Rattle.settling.specs.declared.Settlement.TheVariants as S
 use Rattle.bad_pairs.specs.BadPairs.{bad_pairs}
 use Rattle.deciding.specs.Deciding.{received_notes, settled_verdict, whole_verdict}
 use Rattle.reader.specs.Reading.{summary, end_verdict, verdict, finished, outcome, reading}
-use Rattle.reader.specs.Steps.{not_admitted, not_cut}
-use Rattle.reader.specs.RefusalLaws.{CutUp, refuses_unsettled}
-use Rattle.reader.specs.ReadingLaws.{accepted, refused_keeps}
+use Rattle.reader.proofs.FirstTests.{not_admitted, not_cut}
+use Rattle.reader.specs.RefusalLaws.{CutUp}
+use Rattle.reader.proofs.RefusalLaws.{refuses_unsettled}
+use Rattle.reader.proofs.ReadingLaws.{accepted, refused_keeps}
 use Rattle.reader.specs.declared.Summary.{Summary}
 use Rattle.reader.specs.declared.Answer.TheVariants.{Read, Refused}
 use Rattle.deciding.specs.declared.Verdict.{Verdict}
