@@ -4,11 +4,11 @@ use mathlib.Core.Path.{◌≡◌, subst, ap₂, ◌∙◌}
 use mathlib.Core.List.{List, ◌++◌, append_assoc}
 use Prim.Native.Nat.{ℕ, ◌+◌, ◌*◌, ◌≤◌}
 use native.Mathlib.Omega.{arith}
-use lib.ListN.{length, get_or}
+use lib.ListN.{length}
 use Rattle.refusals.specs.Refusals.{reading_number, reading_place}
 use Rattle.refusals.specs.declared.Reading.{Reading}
 use Rattle.reader.specs.declared.Summary.{Summary}
-use Rattle.text.specs.Text.{number_digits, decimal, field, Put}
+use Rattle.text.specs.Text.{number_digits, field, Put}
 use Rattle.text.proofs.Steps.{put_on, put_length}
 use Rattle.lines.specs.Lines.{newline, space}
 use Rattle.last_line.specs.LastLine.{rate_word, type_word, multiframes_word, speech_word, bad_word, end_word, refused_word, most_total, total, refusal}

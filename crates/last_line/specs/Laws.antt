@@ -1,7 +1,7 @@
 -- The last line tells its numbers: a refusal its number and place, the total the success answer's fields.
 -- Assumes nothing.
-use Rattle.std.specs.Prelude.{◌≡◌, refl, List, [], ◌∷◌, ◌++◌, ℕ, zero, suc, ◌+◌, ◌<◌}
-use Rattle.std.proofs.Common.{sym, ap, ap₂, ◌∙◌, append_assoc, arith}
+use Rattle.std.specs.Prelude.{◌≡◌, List, [], ◌∷◌, ◌++◌, ℕ, ◌<◌}
+use Rattle.std.proofs.Common.{sym, ◌∙◌, append_assoc, arith}
 use Rattle.refusals.specs.Refusals.{reading_number, reading_place}
 use Rattle.refusals.specs.declared.Reading.{Reading}
 use Rattle.reader.specs.declared.Summary.{Summary}
