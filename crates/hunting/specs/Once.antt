@@ -1,6 +1,6 @@
 -- What the laws of the hunting reading say leaves only one answer: the places, and with them the count, the bits outside and the places tested.
 -- Assumes nothing.
-use Rattle.std.specs.Prelude.{ℕ, ◌≡◌, List, false, length}
+use Rattle.std.specs.Prelude.{ℕ, ◌≡◌, List, false}
 use Rattle.std.proofs.Common.{sym, ◌∙◌, arith}
 use Rattle.layout.specs.Layout.{most_multiframes}
 use Rattle.choices.specs.declared.Choices.{Choices}
