@@ -1,9 +1,8 @@
 -- A literal listing: of 01's empty input.
 -- Assumes nothing.
-use Rattle.std.specs.Prelude.{◌≡◌, refl, List, [], ◌∷◌, ℕ, ◌*◌, ℤ, pos, replicate}
+use Rattle.std.specs.Prelude.{◌≡◌, refl, List, [], ◌∷◌, ℕ, ◌*◌, replicate}
 use Rattle.std.proofs.Common.{sym, ap, ◌∙◌}
-use Rattle.std.proofs.lemmas.List.{length-replicate}
-use Rattle.layout.specs.Layout.{most_multiframes, index_octets, report_octets, codebook_numbers, threshold_numbers}
+use Rattle.layout.specs.Layout.{most_multiframes, index_octets, report_octets}
 use Rattle.cutting.specs.Cutting.{walk}
 use Rattle.refusals.specs.declared.Reading.TheVariants.{Empty}
 use Rattle.deciding.specs.Deciding.{whole_verdict}
