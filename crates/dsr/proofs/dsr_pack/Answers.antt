@@ -1,7 +1,6 @@
 -- Each answer is the definition's, by the tests that led to it. Assumes nothing.
-use mathlib.Core.Path.{◌≡◌, sym, ap, ◌∙◌}
+use mathlib.Core.Path.{sym}
 use native.Mathlib.Omega.{arith}
-use Rattle.wrong_frames.specs.Laws.{found_as}
 use Rattle.entries.specs.Laws.{packs_no_length, packs_no_room, packs_no_wide, packs}
 use Rattle.dsr.proofs.dsr_pack.Goals as goal
 

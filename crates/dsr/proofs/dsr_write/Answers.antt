@@ -1,7 +1,6 @@
 -- Settings that are no octets are the writer's refusal 1; of all others the writer's answer in numbers. Assumes nothing.
 use mathlib.Core.Path.{sym, ap, ◌∙◌}
 use native.Mathlib.Omega.{arith}
-use Rattle.lists.specs.Tests.{not_true, not_false}
 use Rattle.writer.specs.Writing.{Outcome}
 use Rattle.entries.specs.Laws.{fit_octets, unfit_refused, written_as}
 use Rattle.dsr.proofs.dsr_write.Goals as goal
