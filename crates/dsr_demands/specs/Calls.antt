@@ -30,6 +30,7 @@ use Rattle.reader.specs.declared.Answer.TheVariants.{Read, Refused}
 use Rattle.hunting.specs.Hunting as G
 use Rattle.hunting.specs.Hunting.{hunting_reading}
 use Rattle.hunting.specs.Says as F
+use Rattle.hunting.proofs.Says as FL
 use Rattle.hunting.specs.declared.Counted.{Counted}
 use Rattle.refusals.specs.declared.Hunting as GR
 use Rattle.hunting.specs.declared.Answer as GA
@@ -173,7 +174,7 @@ module _ (ch : Choices) (s : List ℕ) (from least : ℕ) (tables : Tables) (ind
   found = hunting_reading ch s from least tables index report
 
   bits_stay : (x : GR.Hunting) → found.answer ≡ GW.Refused x → (found.index ≡ index) × (found.report ≡ report)
-  bits_stay x e = by (F.fate ch s from least tables index report)
+  bits_stay x e = by (FL.fate ch s from least tables index report)
     where
       kept : (y : GR.Hunting) → found ≡ G.outcome (GW.Refused y) index report → (found.index ≡ index) × (found.report ≡ report)
       kept y q = (ap (λ (o : G.Outcome). o.index) q, ap (λ (o : G.Outcome). o.report) q)

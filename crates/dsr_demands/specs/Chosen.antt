@@ -27,7 +27,7 @@ use Rattle.reader.specs.Reading as R
 use Rattle.reader.specs.RefusalLaws.{CutUp}
 use Rattle.reader.proofs.Chosen.{two_alike, one_refused, default_two}
 use Rattle.hunting.specs.Hunting as G
-use Rattle.hunting.specs.Chosen.{found_alike, found_refused, found_two}
+use Rattle.hunting.proofs.Chosen.{found_alike, found_refused, found_two}
 use Rattle.entries.specs.Entries.{answer_numbers, Returned, returned, unchosen, given_of, dsr_read}
 use Rattle.entries.specs.Entries as E
 use Rattle.entries.specs.Bits.{counted_numbers, bits_given, dsr_read_bits}

@@ -23,7 +23,7 @@ use Rattle.reader.specs.declared.Answer.TheVariants as Ra
 use Rattle.gathering.specs.Gathering.{image_of as foundImage, outside_of}
 use Rattle.hunting.specs.Hunting as G
 use Rattle.hunting.specs.Hunting.{hunting_reading}
-use Rattle.hunting.specs.Says as F
+use Rattle.hunting.proofs.Says as F
 use Rattle.hunting.specs.declared.Counted.{Counted}
 use Rattle.hunting.specs.declared.Answer.TheVariants.{Read}
 use Rattle.wrong_frames.specs.WrongFrames.{frame_count}

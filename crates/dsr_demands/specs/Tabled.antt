@@ -27,6 +27,7 @@ use Rattle.hunting.specs.Hunting as G
 use Rattle.hunting.specs.Hunting.{hunting_reading}
 use Rattle.hunting.specs.Once.{negative_next}
 use Rattle.hunting.specs.Says as F
+use Rattle.hunting.proofs.Says as FL
 use Rattle.hunting.specs.declared.Counted.{Counted}
 use Rattle.hunting.specs.declared.Answer as GA
 use Rattle.hunting.specs.declared.Answer.TheVariants as GW
@@ -124,7 +125,7 @@ module _ (ch : Choices) (s : List ℕ) (from least : ℕ) (tables : Tables) (ind
       of (HV.Nowhere f n) ex e = absurd (omega arith)
       of (HV.TooMany p) ex e = absurd (omega arith)
       of (HV.Octets y) ex e = turned y (of_number y e) (subst (λ (v : Refusal). F.Comes ch s from least tables index report (HV.Octets v)) (of_number y e)
-          (F.comes ch s from least tables index report (HV.Octets y) ex))
+          (FL.comes ch s from least tables index report (HV.Octets y) ex))
         where
           turned : (y : Refusal) → y ≡ RV.NegativeThreshold (reading_place y) → F.Comes ch s from least tables index report (HV.Octets (RV.NegativeThreshold (reading_place y)))
               → RightSizes tables × FirstNegative tables (reading_place y)
@@ -148,7 +149,7 @@ module _ (ch : Choices) (s : List ℕ) (from least : ℕ) (tables : Tables) (ind
   pub c_bits_zero_right : (dsr_read_bits s from least (For ch) tables index report answer place).number ≡ 0 → RightTables tables
   c_bits_zero_right e =
       let z = bits_zero answer place index report (hunting_reading ch s from least tables index report) e in
-      by z.1.0 z.1.1 (F.fate ch s from least tables index report)
+      by z.1.0 z.1.1 (FL.fate ch s from least tables index report)
     where
       other : (c : Counted) (x : Hunting) → (hunting_reading ch s from least tables index report).answer ≡ GW.Read c
           → hunting_reading ch s from least tables index report ≡ G.outcome (GW.Refused x) index report → RightTables tables

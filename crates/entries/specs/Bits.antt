@@ -14,7 +14,7 @@ use Rattle.hunt.specs.declared.Hunted.TheVariants as HA
 use Rattle.refusals.specs.Refusals.{success, hunt_number, hunt_place, hunt_tested, hunting_number, hunting_place}
 use Rattle.refusals.specs.declared.Hunt.{Hunt as HuntRefusal}
 use Rattle.hunting.specs.Hunting.{Outcome, hunting_reading}
-use Rattle.hunting.specs.Says.{never_12_to_14}
+use Rattle.hunting.proofs.Says.{never_12_to_14}
 use Rattle.hunting.specs.declared.Counted.{Counted}
 use Rattle.hunting.specs.declared.Answer.{Answer}
 use Rattle.hunting.specs.declared.Answer.TheVariants.{Read, Refused}

@@ -2,4 +2,3 @@ pub mod Hunting
 pub mod Says
 pub mod Once
 pub mod Examples
-pub mod Chosen

@@ -49,7 +49,7 @@ use Rattle.reader.specs.declared.Answer.TheVariants as Ra
 use Rattle.refusals.specs.declared.Reading.TheVariants.{Unsettled, IndexShort}
 use Rattle.gathering.specs.Gathering.{image_of as foundImage, outside_of}
 use Rattle.hunting.specs.Hunting.{counted, Outcome, outcome, hunting_reading}
-use Rattle.hunting.specs.Says.{nowhere_exactly}
+use Rattle.hunting.proofs.Says.{nowhere_exactly}
 use Rattle.hunting.specs.declared.Answer.TheVariants.{Refused}
 use Rattle.refusals.specs.declared.Hunting.{Hunting as Refusal}
 use Rattle.refusals.specs.declared.Hunting.TheVariants.{Octets, MatchRange, Nowhere}

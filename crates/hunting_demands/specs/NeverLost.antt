@@ -30,7 +30,7 @@ use Rattle.gathering.specs.Gathering.{aligned, image_of}
 use Rattle.gathering.specs.Laws.{Apart, length_aligned}
 use Rattle.hunting.specs.Hunting as G
 use Rattle.hunting.specs.Hunting.{hunting_reading}
-use Rattle.hunting.specs.Says.{image_cut, success}
+use Rattle.hunting.proofs.Says.{image_cut, success}
 use Rattle.hunting.specs.declared.Counted.{Counted}
 use Rattle.hunting.specs.declared.Answer.TheVariants.{Read}
 use Rattle.image.specs.Made.{word_in, framed, length_framed, framed_header}

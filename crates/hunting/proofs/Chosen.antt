@@ -24,7 +24,7 @@ use Rattle.reader.specs.Reading as R
 use Rattle.refusals.specs.declared.Reading.TheVariants.{Unsettled}
 use Rattle.refusals.specs.declared.Hunting.TheVariants.{Octets, MatchRange}
 use Rattle.hunting.specs.Hunting.{Outcome, outcome, counted, reading_by, reading_found, hunting_reading}
-use Rattle.hunting.specs.Says.{image_cut, success}
+use Rattle.hunting.proofs.Says.{image_cut, success}
 use Rattle.hunting.specs.declared.Counted.{Counted}
 use Rattle.hunting.specs.declared.Answer.TheVariants.{Read, Refused}
 
