@@ -1,7 +1,8 @@
 -- The writer's and the reader's equations put one behind the other; that it comes back is the theorem "reads back". Assumes nothing.
 use mathlib.Core.Path.{sym, ap}
 use lib.Seq.{length-take-le}
-use Rattle.roundtrip.specs.Trip.{trip_of, ends_unwritten, ends_read, fits_output, meets}
+use Rattle.roundtrip.specs.Trip.{trip_of}
+use Rattle.roundtrip.proofs.TripLaws.{ends_unwritten, ends_read, fits_output, meets}
 use Rattle.tables.specs.Tables.{tables_of}
 use Rattle.roundtrip.proofs.write_and_read.Goals as goal
 
