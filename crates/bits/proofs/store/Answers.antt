@@ -1,9 +1,8 @@
 -- `bits::store` meets its contract: after k turns the low k octets of the word lie over the slice from octet i on.
 -- Assumes nothing.
 use mathlib.Core.Path.{◌≡◌, refl, ap, ◌∙◌}
-use Prim.Native.Nat.{ℕ, ◌*◌, ◌/◌, ◌^◌}
+use Prim.Native.Nat.{ℕ, ◌*◌}
 use native.Mathlib.Omega.{arith}
-use lib.Bits.{mask_lt}
 use lib.ListN.{length-set}
 use Rattle.lists.specs.Parts.{over}
 use Rattle.bits.specs.Bits.{field, octets}
@@ -13,9 +12,6 @@ use Rattle.bits.proofs.store.Goals as goal
 
 pub loop-k-init : goal.loop-k-init
 loop-k-init c = (search rules, refl, store_none c.args.s.now c.args.i c.args.w)
-
-pub overflow_cast-s : goal.overflow_cast-s
-overflow_cast-s c = record { fits = mask_lt (c.args.w / 2 ^ (8 * c.loop-k.k)) 8 }
 
 pub loop-k-preserved : goal.loop-k-preserved
 loop-k-preserved c =

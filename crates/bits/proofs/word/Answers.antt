@@ -14,7 +14,7 @@ loop-k-init c = (search rules, word_none (bits c.args.s.now))
 
 pub loop-k-preserved : goal.loop-k-preserved
 loop-k-preserved c =
-    let known = (c.shared_slice_known-1.given (c.args.i + c.loop-k.k)).fits in
+    let known = (c.type_inv.s (c.args.i + c.loop-k.k)).fits in
     (search rules, word_more c.args.s.now c.args.i c.loop-k.k c.loop-k.x c.wide.result (omega arith) (omega arith) known c.wide.ensures c.loop-k.invariant.1)
 
 pub returns : goal.returns

@@ -1,11 +1,8 @@
 -- A codeword is read as it stands; any other word is handed on with what is wrong with it. Assumes nothing.
 use mathlib.Core.Path.{refl}
-use lib.Bits.{mask_lt, and_mask}
+use lib.Bits.{and_mask}
 use Rattle.header.proofs.Search.{clean}
 use Rattle.header.proofs.read.Goals as goal
-
-pub overflow_cast-result : goal.overflow_cast-result
-overflow_cast-result c = record { fits = mask_lt c.args.word 16 }
 
 pub returns : goal.returns
 returns c =

@@ -4,7 +4,7 @@ use mathlib.Core.Path.{refl}
 use Prim.Native.Nat.{◌<◌}
 use native.Mathlib.Omega.{arith}
 use borrow.Author.Count.{below_none, below_more}
-use lib.Bits.{bit_xor, mask_lt, and_mask}
+use lib.Bits.{bit_xor, and_mask}
 use Rattle.header.proofs.Search.{miss_none, miss_one, miss_two, lost, found, fit_one, fit_two}
 use Rattle.header.proofs.read_damaged.Goals as goal
 use Rattle.header.proofs.read_damaged.Goals.{then-loop-i-test+then-columns-i, else-loop-i-test+then-loop-i-2-test+then-loop-j-test+then-columns-j}
@@ -44,9 +44,6 @@ pub returns-in-search : goal.returns-in-search
 returns-in-search c =
     lost c.args.word c.ranges.word.fits (miss_none c.args.word _ c.requires.0 c.requires.1)
     (λ i h. c.loop-i.invariant.1 i (omega arith)) (λ i j h g. c.loop-i-2.invariant.1 i (omega arith) j h g)
-
-pub overflow_cast-result : goal.overflow_cast-result
-overflow_cast-result c = record { fits = mask_lt (bit_xor c.args.word c.loop-i-test.pattern) 16 }
 
 pub returns : goal.returns
 returns c =

@@ -16,9 +16,6 @@ loop-k-init c =
     let m = bit_and c.args.self.0 15 in
     (search rules, (sym (div-one c.args.w), kept m (mask_lt c.args.self.0 4) ∙ fed_none m c.args.w))
 
-pub overflow_cast-x : goal.overflow_cast-x
-overflow_cast-x c = record { fits = mask_lt c.loop-k.x 8 }
-
 pub octet-r-requires : goal.octet-r-requires
 octet-r-requires c =
     subst (λ (n : ℕ). n < 16) (sym c.loop-k.invariant.1.1) (code_lt (fed_all (coded (bit_and c.args.self.0 15)) (field (8 * c.loop-k.k) c.args.w)))
