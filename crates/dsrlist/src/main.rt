@@ -48,18 +48,24 @@ fn read_all<R: Read>(input: &mut R, buffer: &mut [u8]) -> Input
     Input::Came(at)
 }
 
+// Writes text to standard output. One that is closed or full loses the text and nothing else.
+fn say(rt: &impl Print, text: &[u8]) {
+    let _ = io::writer(rt).write_all(text);
+}
+
 // The listing, or nothing of a listing: an input that is longer than the limit, or that could not be read to its end, is not listed.
-fn main(rt: HostRuntime) -> io::Result<()> {
+fn main(rt: HostRuntime) {
     let mut buffer = [0u8; LIMIT + 1];
     let mut input = rt.stdin();
-    let mut output = io::writer(&rt);
     let Input::Came(n) = read_all(&mut input, &mut buffer) else {
-        return output.write_all(b"unreadable\n");
+        say(&rt, b"unreadable\n");
+        return;
     };
     if LIMIT < n {
-        return output.write_all(b"too long\n");
+        say(&rt, b"too long\n");
+        return;
     }
     let mut text = [0u8; listing::MOST];
     let end = listing::put_listing(&buffer[..n], &mut text);
-    output.write_all(&text[..end])
+    say(&rt, &text[..end]);
 }
