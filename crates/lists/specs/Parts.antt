@@ -1,7 +1,7 @@
 -- A part of a list, and a list laid over a part of another: the one way in which this house reads from and stores to bits and buffers.
 -- Assumes nothing.
-use Rattle.std.specs.Prelude.{◌≡◌, refl, List, [], ◌∷◌, ◌++◌, ℕ, zero, suc, ◌+◌, ◌-◌, ◌≤◌, ◌<◌, length, take, drop, get_or, set}
-use Rattle.std.proofs.Common.{sym, ap, ap₂, ◌∙◌, subst, append_assoc, add-zero, add_assoc, add-one, arith, length-append, length-take, length-drop, take-append-drop, take_at, drop_at, length-take-le, drop-drop, get_or-drop, get_or-take}
+use Rattle.std.specs.Prelude.{◌≡◌, List, [], ◌∷◌, ◌++◌, ℕ, ◌+◌, ◌-◌, ◌≤◌, ◌<◌, length, take, drop, get_or, set}
+use Rattle.std.proofs.Common.{sym, ap, ◌∙◌, subst, append_assoc, add-zero, add_assoc, add-one, arith, length-append, length-take, length-drop, take-append-drop, take_at, drop_at, length-take-le, drop-drop, get_or-drop, get_or-take}
 use Rattle.std.proofs.Math.ListN.{get_or-append}
 use Rattle.std.proofs.lemmas.List.{take-append-le, drop-append-le, set_split}
 use Rattle.std.proofs.Math.Seq.{drop-append-add}
