@@ -19,7 +19,7 @@ use Rattle.header.specs.Reading.{decoded_as, reading}
 use Rattle.header.proofs.Laws.{near, lost_at_three}
 use Rattle.header.specs.declared.Header.TheVariants.{Codeword, Lost}
 use Rattle.image.specs.Made.{Small, sync_in, header_in, word_in, packet_in}
-use Rattle.image.specs.Laws.{image_word, image_packet}
+use Rattle.image.proofs.Laws.{image_word, image_packet}
 use Rattle.writer.specs.Utterance.{Utterance, multiframes_of, pairs_of, image_of}
 
 -- ---- the damage: `sent` is an image of m multiframes, `got` is what came of it

@@ -13,7 +13,7 @@ use Rattle.crc.specs.Crc.{Damaged}
 use Rattle.packet.specs.Packet.{packet_of}
 use Rattle.header_code.specs.Code.{flips_to}
 use Rattle.image.specs.Made.{word_in, packet_in, made, length_made, small_made, made_sync, made_word, made_packet}
-use Rattle.image.specs.Laws.{length_image, image_sync, image_word, image_packet, image_small}
+use Rattle.image.proofs.Laws.{length_image, image_sync, image_word, image_packet, image_small}
 use Rattle.writer.specs.Utterance.{Utterance, multiframes_of, pairs_of, image_of}
 use Rattle.damage.specs.Damage.{DamageUpTo, Damage, sent_message}
 

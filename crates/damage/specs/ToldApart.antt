@@ -10,7 +10,7 @@ use Rattle.packet.specs.Packet.{packet_of, frame_at}
 use Rattle.header_code.specs.Code.Distance.{far_from_one}
 use Rattle.message.specs.Message.Laws.{message_lt}
 use Rattle.image.specs.Made.{word_in}
-use Rattle.image.specs.Laws.{length_image}
+use Rattle.image.proofs.Laws.{length_image}
 use Rattle.writer.specs.Utterance.{Utterance, multiframes_of, pairs_of, image_of}
 use Rattle.writer.proofs.Utterance.{same_settings, same_pair}
 use Rattle.damage.specs.Damage.{DamageUpTo, Damage, header_bits, loosened, header_flips, Touched, sent_message, header_near, fate, Fate, whole, hit, not_touched}

@@ -31,9 +31,9 @@ use Rattle.header.specs.declared.Header.TheVariants.{Codeword, Lost}
 use Rattle.header_notes.specs.HeaderNotes.{header_note}
 use Rattle.header_notes.specs.Laws.{note_zero, note_lost}
 use Rattle.replacing.specs.Speech.{last_nonzero, speech_of, end_of, place_le, place_stop, zero_behind, nonzero_at}
-use Rattle.image.specs.Image.{image}
+use Rattle.image.specs.Image.{image, words, streams}
 use Rattle.image.specs.Made.{Small, sync_in, word_in, stream_in, packet_in, framed, made_again, part_within, rows}
-use Rattle.image.specs.Laws.{image_made, words, streams}
+use Rattle.image.proofs.Laws.{image_made}
 use Rattle.wrong_frames.specs.WrongFrames.{frame_count}
 use Rattle.writer.specs.Writing.{multiframes_for}
 

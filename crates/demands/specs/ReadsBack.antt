@@ -41,7 +41,7 @@ use Rattle.reader.specs.Reading.{index_part, summary, Outcome, outcome, reading,
 use Rattle.reader.specs.declared.Summary.{Summary}
 use Rattle.reader.specs.declared.Answer.TheVariants.{Read}
 use Rattle.image.specs.Made.{word_in, packet_in}
-use Rattle.image.specs.Laws.{length_image}
+use Rattle.image.proofs.Laws.{length_image}
 use Rattle.wrong_frames.specs.WrongFrames.{frame_count}
 use Rattle.writer.specs.Writing.{needed, writing}
 use Rattle.writer.specs.Writing as W

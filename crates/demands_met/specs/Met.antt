@@ -32,7 +32,7 @@ use Rattle.message.specs.Message.Laws.{message_lt}
 use Rattle.header.proofs.Laws.{flips_of}
 use Rattle.reader.specs.Reading.{Outcome, reading}
 use Rattle.image.specs.Made.{Small, made, made_packet}
-use Rattle.image.specs.Laws.{length_image, image_small, image_packet}
+use Rattle.image.proofs.Laws.{length_image, image_small, image_packet}
 use Rattle.settling.specs.Laws.{Enough}
 use Rattle.wrong_frames.specs.WrongFrames.{frame_count}
 use Rattle.writer.specs.Writing.{verdict, room_answer, needed, writing}

@@ -17,7 +17,7 @@ use Rattle.reader.proofs.ReadingLaws.{length_index}
 use Rattle.reader.specs.declared.Summary.{Summary}
 use Rattle.image.specs.Image.{image}
 use Rattle.image.specs.Made.{Small, sync_in, word_in, packet_in, made, made_sync, made_word, made_packet}
-use Rattle.image.specs.Laws.{length_image, image_made, image_sync, image_word, image_packet}
+use Rattle.image.proofs.Laws.{length_image, image_made, image_sync, image_word, image_packet}
 use Rattle.writer.proofs.Utterance.{success}
 use Rattle.demands.specs.Noteless.{spoken, count_spoken, speech_lt, speech_le, speech_full}
 use Rattle.demands.specs.WritesAgain as A

@@ -6,7 +6,7 @@ use Rattle.layout.specs.Layout.{multiframe_octets}
 use Rattle.settings.specs.Settings.{settings}
 use Rattle.writer.specs.Writing as W
 use Rattle.image.specs.Made.{Small}
-use Rattle.image.specs.Laws.{length_image}
+use Rattle.image.proofs.Laws.{length_image}
 use Rattle.wrong_frames.specs.WrongFrames.{frame_count}
 use Rattle.writer.specs.Writing.{multiframes_for, needed, writing, verdict}
 use Rattle.writer.specs.Laws.{Accepted}

@@ -8,7 +8,7 @@ use Rattle.tables.specs.Tables.{Tables, zero_tables}
 use Rattle.cutting.specs.Cutting.{Cutting, whole, cutting}
 use Rattle.cutting.proofs.Laws.{every_length}
 use Rattle.cutting.proofs.ReachedLaws.{whole_exactly}
-use Rattle.image.specs.Laws.{length_image, image_sync}
+use Rattle.image.proofs.Laws.{length_image, image_sync}
 use Rattle.writer.proofs.Laws.{few_multiframes}
 use Rattle.writer.specs.Utterance.{Utterance, multiframes_of, image_of}
 use Rattle.writer.proofs.Utterance.{is_accepted}

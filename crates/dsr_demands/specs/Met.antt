@@ -10,7 +10,7 @@ use Rattle.choices.specs.declared.Asked.TheVariants.{For}
 use Rattle.hunt.specs.Hunt.{fewest_matches}
 use Rattle.reader.specs.Reading.{reading}
 use Rattle.writer.specs.Writing as W
-use Rattle.image.specs.Laws.{length_image}
+use Rattle.image.proofs.Laws.{length_image}
 use Rattle.writer.specs.Writing.{needed, writing}
 use Rattle.writer.specs.declared.Answer.TheVariants.{Written}
 use Rattle.writer.specs.Utterance.{Utterance, multiframes_of, image_of}

@@ -1,2 +1,4 @@
+pub mod Laws
+pub mod SaysLaws
 pub mod Steps
 pub mod Turns

@@ -18,7 +18,7 @@ use Rattle.hunt.specs.declared.Hunted.TheVariants as H
 use Rattle.refusals.specs.declared.Hunt.{Hunt as Refusal}
 use Rattle.refusals.specs.declared.Hunt.TheVariants as HR
 use Rattle.gathering.specs.Gathering.{Ending, whole, too_many, Gathering, ended, prepend, step, last, gathering, aligned, image_of, answered_by, answered, LaidBy, Laid}
-use Rattle.gathering.specs.Laws.{length_aligned, image_more}
+use Rattle.gathering.proofs.Laws.{length_aligned, image_more}
 use Rattle.gathering.specs.declared.Gathered.TheVariants as G
 
 -- ---- the recursion, by what the hunt answers

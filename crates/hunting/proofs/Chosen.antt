@@ -18,7 +18,7 @@ use Rattle.cutting.proofs.Laws.{every_length}
 use Rattle.bits.specs.Bits.{bits}
 use Rattle.hunt.specs.Hunt.{in_range}
 use Rattle.gathering.specs.Gathering.{Ending, whole, too_many, Gathering, gathering, outside_of, image_of}
-use Rattle.gathering.specs.Laws.{at_most}
+use Rattle.gathering.proofs.Laws.{at_most}
 use Rattle.reader.proofs.Chosen.{two_alike, one_refused, default_two}
 use Rattle.reader.specs.Reading as R
 use Rattle.refusals.specs.declared.Reading.TheVariants.{Unsettled}

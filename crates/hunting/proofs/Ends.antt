@@ -16,7 +16,7 @@ use Rattle.reader.specs.Reading as R
 use Rattle.reader.specs.declared.Answer.{Answer as OctetAnswer}
 use Rattle.refusals.specs.declared.Reading.{Reading as OctetRefusal}
 use Rattle.gathering.specs.Gathering.{Ending, whole, too_many, Gathering, gathering, outside_of, image_of, answered_by, answered, LaidBy, Laid}
-use Rattle.gathering.specs.Laws.{room_for, at_most, apart}
+use Rattle.gathering.proofs.Laws.{room_for, at_most, apart}
 use Rattle.gathering.specs.declared.Gathered.TheVariants as G
 use Rattle.hunting.specs.Hunting.{Outcome, outcome, with_counts, counted, reading_by, reading_found, hunting_reading}
 use Rattle.refusals.specs.declared.Hunting.TheVariants.{Octets, MatchRange, Nowhere, TooMany}

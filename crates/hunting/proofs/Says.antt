@@ -30,8 +30,10 @@ use Rattle.reader.specs.declared.Summary.{Summary}
 use Rattle.reader.specs.declared.Answer.{Answer as OctetAnswer}
 use Rattle.reader.specs.declared.Answer.TheVariants as Ra
 use Rattle.gathering.specs.Gathering.{Ending, whole, too_many, Gathering, gathering, outside_of, aligned, image_of}
-use Rattle.gathering.specs.Laws.{Ends, taken, apart, at_most, room_for, length_aligned, length_image}
-use Rattle.gathering.specs.Says.{NonePasses, Tested, tested_says, none_found, nothing_found, many_says}
+use Rattle.gathering.specs.Laws.{Ends}
+use Rattle.gathering.proofs.Laws.{taken, apart, at_most, room_for, length_aligned, length_image}
+use Rattle.gathering.specs.Says.{NonePasses, Tested}
+use Rattle.gathering.proofs.SaysLaws.{tested_says, none_found, nothing_found, many_says}
 use Rattle.hunting.specs.Hunting.{with_counts, counted, Outcome, outcome, reading_by, reading_found, hunting_reading}
 use Rattle.refusals.specs.Refusals.{reading_number, hunting_number, hunting_place}
 use Rattle.refusals.specs.Laws.{hunting_tested, hunting_of}

@@ -23,7 +23,7 @@ use Rattle.header.proofs.Laws.{flips_of}
 use Rattle.hunt.specs.Hunt.{sync_bits, header_bits, multiframe_bits, fewest_matches, sync, matches, passes, searched}
 use Rattle.hunt.proofs.Laws.{searched_all}
 use Rattle.image.specs.Made.{packet_in, made_packet}
-use Rattle.image.specs.Laws.{image_word, image_packet}
+use Rattle.image.proofs.Laws.{image_word, image_packet}
 use Rattle.writer.proofs.Laws.{few_multiframes}
 use Rattle.writer.specs.Utterance.{Utterance, multiframes_of, pairs_of, image_of}
 use Rattle.writer.proofs.Utterance.{is_accepted}

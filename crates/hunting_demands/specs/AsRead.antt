@@ -22,7 +22,7 @@ use Rattle.hunting.specs.Hunting.{counted, hunting_reading}
 use Rattle.hunting.specs.declared.Counted.{Counted}
 use Rattle.hunting.specs.declared.Answer.TheVariants.{Read}
 use Rattle.image.specs.Made.{Small, sync_in, word_in, stream_in, framed, made_again}
-use Rattle.image.specs.Laws.{length_image, image_sync}
+use Rattle.image.proofs.Laws.{length_image, image_sync}
 use Rattle.writer.proofs.Laws.{few_multiframes}
 use Rattle.writer.specs.Utterance.{Utterance, multiframes_of, image_of}
 use Rattle.writer.proofs.Utterance.{is_accepted}

@@ -27,10 +27,10 @@ use Rattle.hunting.specs.declared.Answer.TheVariants.{Read, Refused}
 use Rattle.refusals.specs.declared.Reading.TheVariants.{Unsettled}
 use Rattle.refusals.specs.declared.Hunting.TheVariants.{Octets}
 use Rattle.image.specs.Made.{word_in, stream_in, packet_in}
-use Rattle.image.specs.Laws.{length_image}
+use Rattle.image.proofs.Laws.{length_image}
 use Rattle.settling.specs.Laws.{Enough}
 use Rattle.writer.proofs.Laws.{few_multiframes}
-use Rattle.image.specs.Laws as I
+use Rattle.image.proofs.Laws as I
 use Rattle.writer.specs.Utterance.{Utterance, multiframes_of, pairs_of, image_of}
 use Rattle.writer.proofs.Utterance.{is_accepted}
 use Rattle.demands.specs.Headers.{CanSettle, can_settle}

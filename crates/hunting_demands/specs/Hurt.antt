@@ -25,7 +25,7 @@ use Rattle.header.specs.declared.Header.TheVariants.{Codeword, Lost}
 use Rattle.hunt.specs.Hunt.{sync_bits, header_bits, multiframe_bits, sync, matches, passes, searched}
 use Rattle.hunt.proofs.Laws.{searched_all}
 use Rattle.image.specs.Made.{stream_in}
-use Rattle.image.specs.Laws.{image_word, image_stream}
+use Rattle.image.proofs.Laws.{image_word, image_stream}
 use Rattle.writer.proofs.Laws.{few_multiframes}
 use Rattle.writer.specs.Utterance.{Utterance, multiframes_of, image_of}
 use Rattle.writer.proofs.Utterance.{is_accepted}

@@ -23,7 +23,7 @@ use Rattle.hunt.proofs.Laws.{searched_all}
 use Rattle.gathering.specs.Gathering.{outside_of}
 use Rattle.hunting.specs.Hunting.{Outcome, outcome, hunting_reading}
 use Rattle.hunting.specs.declared.Answer.TheVariants.{Read}
-use Rattle.image.specs.Laws.{length_image, image_sync}
+use Rattle.image.proofs.Laws.{length_image, image_sync}
 use Rattle.writer.proofs.Laws.{few_multiframes}
 use Rattle.writer.specs.Utterance.{Utterance, multiframes_of, image_of}
 use Rattle.writer.proofs.Utterance.{is_accepted}

@@ -54,7 +54,7 @@ use Rattle.hunting.specs.declared.Answer.TheVariants.{Refused}
 use Rattle.refusals.specs.declared.Hunting.{Hunting as Refusal}
 use Rattle.refusals.specs.declared.Hunting.TheVariants.{Octets, MatchRange, Nowhere}
 use Rattle.image.specs.Made.{sync_in, word_in, packet_in, made_packet}
-use Rattle.image.specs.Laws.{image_packet}
+use Rattle.image.proofs.Laws.{image_packet}
 use Rattle.writer.proofs.Laws.{few_multiframes}
 use Rattle.writer.specs.Utterance.{Utterance, multiframes_of, image_of}
 use Rattle.writer.proofs.Utterance.{is_accepted, rate_not_2}

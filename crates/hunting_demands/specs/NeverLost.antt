@@ -27,7 +27,8 @@ use Rattle.reader.specs.Reading as R
 use Rattle.hunt.specs.Hunt.{sync_bits, header_bits, multiframe_bits, sync, matches, readable, passes}
 use Rattle.hunt.proofs.Laws.{searched_le}
 use Rattle.gathering.specs.Gathering.{aligned, image_of}
-use Rattle.gathering.specs.Laws.{Apart, length_aligned}
+use Rattle.gathering.specs.Laws.{Apart}
+use Rattle.gathering.proofs.Laws.{length_aligned}
 use Rattle.hunting.specs.Hunting as G
 use Rattle.hunting.specs.Hunting.{hunting_reading}
 use Rattle.hunting.proofs.Says.{image_cut, success}

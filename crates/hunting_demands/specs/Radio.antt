@@ -16,9 +16,9 @@ use Rattle.hunt.specs.Hunt.{fewest_matches, multiframe_bits, sync, matches, pass
 use Rattle.header.specs.Reading.{reading}
 use Rattle.gathering.specs.Gathering.{Gathering, gathering, image_of as foundImage}
 use Rattle.image.specs.Made.{sync_in, word_in, packet_in}
-use Rattle.image.specs.Laws.{length_image}
+use Rattle.image.proofs.Laws.{length_image}
 use Rattle.writer.proofs.Laws.{few_multiframes}
-use Rattle.image.specs.Laws as I
+use Rattle.image.proofs.Laws as I
 use Rattle.writer.specs.Utterance.{Utterance, multiframes_of, pairs_of, image_of}
 use Rattle.writer.proofs.Utterance.{is_accepted}
 use Rattle.demands.specs.Headers.{CanSettle}

@@ -26,8 +26,8 @@ use Rattle.hunt.specs.declared.Hunted.{Hunted}
 use Rattle.hunt.specs.declared.Hunted.TheVariants as H
 use Rattle.reader.specs.Reading as R
 use Rattle.gathering.specs.Gathering.{Ending, whole, ended, prepend, step, last, gathering, outside_of, aligned, image_of}
-use Rattle.gathering.specs.Laws.{image_more}
-use Rattle.gathering.specs.Says.{nothing_found}
+use Rattle.gathering.proofs.Laws.{image_more}
+use Rattle.gathering.proofs.SaysLaws.{nothing_found}
 use Rattle.hunting.specs.Hunting.{counted, reading_by, reading_found, hunting_reading}
 use Rattle.image.specs.Made.{Small, sync_in, word_in, stream_in, framed, made, length_made, small_made, made_sync, made_word, made_stream}
 

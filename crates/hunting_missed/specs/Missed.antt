@@ -50,7 +50,7 @@ use Rattle.refusals.specs.declared.Hunting.TheVariants.{Octets}
 use Rattle.damage.specs.Damages.{unharmed}
 use Rattle.demands_met.specs.Needed.{default_unsettled}
 use Rattle.image.specs.Made.{Small, sync_in, word_in, stream_in, packet_in, made, length_made, small_made, made_sync, made_word, made_stream}
-use Rattle.image.specs.Laws.{length_image, image_small, image_sync, image_word, image_stream}
+use Rattle.image.proofs.Laws.{length_image, image_small, image_sync, image_word, image_stream}
 use Rattle.settling.proofs.Laws.{two_or_more}
 use Rattle.wrong_frames.specs.WrongFrames.{frame_count}
 use Rattle.writer.specs.Writing.{verdict, room_answer, needed}

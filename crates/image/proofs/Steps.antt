@@ -15,7 +15,7 @@ use Rattle.packet.specs.Packet.{stream}
 use Rattle.header_code.specs.Code.{codeword}
 use Rattle.message.specs.Message.{message}
 use Rattle.image.specs.Image.{multiframe, image}
-use Rattle.image.specs.Laws.{length_image}
+use Rattle.image.proofs.Laws.{length_image}
 
 -- ---- a multiframe laid down in three stores: sync, header, stream
 sync_octets_lem : octets sync_octets (field (8 * sync_octets) sync_word) ≡ sync

@@ -1,6 +1,6 @@
 -- The image of an utterance: its multiframes, one behind the other (01, "Multiframe", "Writing"). Multiframes count from 0.
 -- Assumes nothing.
-use Rattle.std.specs.Prelude.{ℕ, zero, suc, ◌+◌, List, [], ◌++◌}
+use Rattle.std.specs.Prelude.{ℕ, zero, suc, ◌+◌, Bool, List, [], ◌++◌}
 use Rattle.settings.specs.declared.Settings.{Settings}
 use Rattle.layout.specs.Layout.{multiframe_pairs, header_octets, stream_octets, first_pair, sync}
 use Rattle.bits.specs.Bits.{field, octets}
@@ -19,3 +19,11 @@ multiframe settings idx k =
 unfoldable pub image : Settings → List ℕ → ℕ → List ℕ
 image settings idx zero = []
 image settings idx (suc m) = image settings idx m ++ multiframe settings idx m
+
+-- the header words and the streams of its multiframes
+module _ (settings : Settings) (idx : List ℕ) where
+  abbrev pub words : ℕ → ℕ
+  words k = codeword (message settings (k + 1) 0)
+
+  abbrev pub streams : ℕ → List Bool
+  streams k = stream idx (first_pair k) multiframe_pairs

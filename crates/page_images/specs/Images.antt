@@ -29,7 +29,7 @@ use Rattle.message.specs.Message.{message}
 use Rattle.message.specs.Message.Laws.{message_lt, message_nothing, message_rate_1, count_mod}
 use Rattle.image.specs.Image.{image}
 use Rattle.image.specs.Made.{Small, header_in}
-use Rattle.image.specs.Laws.{image_header}
+use Rattle.image.proofs.Laws.{image_header}
 use Rattle.writer.specs.Writing.{room_answer, verdict, outcome, writing}
 use Rattle.writer.specs.declared.Answer.TheVariants.{Written}
 use Rattle.writer.specs.Utterance.{Utterance}

@@ -28,7 +28,7 @@ use Rattle.header_code.specs.Code.Distance.{codeword_lt}
 use Rattle.message.specs.Message.Laws.{message_lt}
 use Rattle.header.proofs.Laws.{flips_of}
 use Rattle.image.specs.Made.{packet_in, made_word, made_packet}
-use Rattle.image.specs.Laws.{image_packet}
+use Rattle.image.proofs.Laws.{image_packet}
 use Rattle.wrong_frames.specs.WrongFrames.{frame_count, is_wide, must_speak, ends_early}
 use Rattle.writer.specs.Writing.{needed, verdict, Outcome, writing}
 use Rattle.writer.specs.Laws.{Sized}

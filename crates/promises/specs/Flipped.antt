@@ -53,7 +53,7 @@ use Rattle.report.specs.Report.{report_part}
 use Rattle.reader.specs.Reading.{index_part, summary, Outcome, outcome, reading}
 use Rattle.reader.specs.declared.Answer.TheVariants.{Read}
 use Rattle.image.specs.Made.{sync_in, word_in, packet_in, made, framed, length_made, made_sync, made_word, made_packet}
-use Rattle.image.specs.Laws.{length_image, image_sync, image_packet}
+use Rattle.image.proofs.Laws.{length_image, image_sync, image_packet}
 use Rattle.writer.specs.Writing.{verdict, needed}
 use Rattle.writer.specs.declared.Answer.TheVariants.{Written}
 use Rattle.writer.proofs.Laws.{few_multiframes, accepts}

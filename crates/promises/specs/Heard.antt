@@ -18,7 +18,7 @@ use Rattle.reader.specs.Reading.{index_part, summary, Outcome, outcome, reading}
 use Rattle.reader.specs.declared.Summary.{Summary}
 use Rattle.reader.specs.declared.Answer.TheVariants.{Read}
 use Rattle.image.specs.Made.{packet_in}
-use Rattle.image.specs.Laws.{image_packet}
+use Rattle.image.proofs.Laws.{image_packet}
 use Rattle.wrong_frames.specs.WrongFrames.{frame_count}
 use Rattle.writer.specs.Utterance.{Utterance, multiframes_of, pairs_of, image_of}
 use Rattle.damage.specs.Damage.{Fate, whole, hit, fate}

@@ -50,7 +50,7 @@ use Rattle.reader.specs.declared.Summary.{Summary}
 use Rattle.refusals.specs.declared.Reading.TheVariants.{Unsettled}
 use Rattle.reader.specs.declared.Answer.TheVariants.{Read, Refused}
 use Rattle.image.specs.Made.{sync_in, word_in, packet_in}
-use Rattle.image.specs.Laws.{length_image, image_sync, image_word, image_packet, image_small}
+use Rattle.image.proofs.Laws.{length_image, image_sync, image_word, image_packet, image_small}
 use Rattle.wrong_frames.specs.WrongFrames.{frame_count}
 use Rattle.writer.specs.Writing.{needed}
 use Rattle.writer.proofs.Laws.{few_multiframes}

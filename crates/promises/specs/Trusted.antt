@@ -33,7 +33,7 @@ use Rattle.reader.specs.Reading.{Outcome, outcome, reading}
 use Rattle.reader.specs.declared.Summary.{Summary}
 use Rattle.reader.specs.declared.Answer.TheVariants.{Read}
 use Rattle.image.specs.Made.{sync_in, word_in, packet_in}
-use Rattle.image.specs.Laws.{length_image, image_sync}
+use Rattle.image.proofs.Laws.{length_image, image_sync}
 use Rattle.header_readings.specs.Laws.{length_readings}
 use Rattle.settling.specs.Laws.{Enough}
 use Rattle.settling.proofs.Laws.{settled_enough}

@@ -51,7 +51,7 @@ use Rattle.reader.specs.ReadingLaws.{Accepted}
 use Rattle.reader.specs.declared.Summary.{Summary}
 use Rattle.reader.specs.declared.Answer.TheVariants.{Read, Refused}
 use Rattle.image.specs.Made.{word_in, packet_in}
-use Rattle.image.specs.Laws.{length_image, image_packet}
+use Rattle.image.proofs.Laws.{length_image, image_packet}
 use Rattle.writer.specs.Utterance.{Utterance, multiframes_of, image_of}
 use Rattle.writer.proofs.Utterance.{whole_frames}
 use Rattle.damage.specs.Damage.{Damage, header_flips, header_near}

@@ -19,7 +19,7 @@ use Rattle.header_code.specs.Code.{codeword, flips_to}
 use Rattle.header_code.specs.Code.Distance.{codeword_lt}
 use Rattle.message.specs.Message.Laws.{message_lt}
 use Rattle.image.specs.Made.{packet_in, made, made_word, made_packet}
-use Rattle.image.specs.Laws.{image_packet}
+use Rattle.image.proofs.Laws.{image_packet}
 use Rattle.writer.specs.Utterance.{Utterance, multiframes_of, pairs_of, image_of}
 use Rattle.damage.specs.Damage.{Damage, Touched, header_flips, sent_message, header_near, differs}
 use Rattle.damage.specs.Damages.{damage_made}

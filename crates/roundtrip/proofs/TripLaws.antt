@@ -17,7 +17,7 @@ use Rattle.settings.specs.Settings.{settings}
 use Rattle.writer.specs.Writing as W
 use Rattle.image.specs.Image.{image}
 use Rattle.image.specs.Made.{Small}
-use Rattle.image.specs.Laws.{length_image}
+use Rattle.image.proofs.Laws.{length_image}
 use Rattle.wrong_frames.specs.WrongFrames.{frame_count}
 use Rattle.writer.specs.Writing.{needed, multiframes_for, verdict, writing}
 use Rattle.writer.proofs.Laws.{accepted, accepts}

@@ -25,7 +25,7 @@ use Rattle.settling.specs.declared.Settlement.{Settlement}
 use Rattle.settling.specs.declared.Settlement.TheVariants as S
 use Rattle.image.specs.Made.{sync_in, word_in}
 use Rattle.refusals.specs.declared.Reading.TheVariants.{Unsettled}
-use Rattle.image.specs.Laws.{length_image, image_sync}
+use Rattle.image.proofs.Laws.{length_image, image_sync}
 use Rattle.writer.specs.Utterance.{Utterance, multiframes_of, image_of}
 use Rattle.writer.proofs.Utterance.{rate_not_2, is_accepted}
 use Rattle.writer.proofs.Laws.{few_multiframes}

@@ -16,7 +16,7 @@ use Rattle.message.specs.Message.{message, settings_of}
 use Rattle.message.specs.Message.Laws.{message_lt, settings_back}
 use Rattle.image.specs.Image.{image}
 use Rattle.image.specs.Made.{word_in, packet_in, Small}
-use Rattle.image.specs.Laws.{length_image, image_word, image_packet}
+use Rattle.image.proofs.Laws.{length_image, image_word, image_packet}
 use Rattle.wrong_frames.specs.WrongFrames.{frame_count}
 use Rattle.writer.specs.Writing.{multiframes_for, needed, verdict, outcome, finished, writing}
 use Rattle.writer.specs.Laws.{Accepted}

@@ -6,7 +6,7 @@ use lib.ListN.{length}
 use Rattle.lists.specs.Parts.{over, length_over}
 use Rattle.layout.specs.Layout.{multiframe_octets}
 use Rattle.image.specs.Image.{multiframe, image}
-use Rattle.image.specs.Laws.{length_multiframe}
+use Rattle.image.proofs.Laws.{length_multiframe}
 use Rattle.image.proofs.Steps.{image_none, image_more}
 use Rattle.image.proofs.put_image.Goals as goal
 
