@@ -14,7 +14,7 @@ use Rattle.polynomials.specs.Light.{ones_in_lem}
 use Rattle.lists.specs.Tests.{true_false}
 use Rattle.lists.specs.Parts.{part, over}
 use Rattle.lists.specs.Search.{first_from}
-use Rattle.layout.specs.Layout.{frame_indices, packet_bits, multiframe_pairs, stream_octets, index_octets, report_octets, codebook_numbers, threshold_numbers, first_pair}
+use Rattle.layout.specs.Layout.{frame_indices, packet_bits, multiframe_pairs, stream_octets, index_octets, report_octets, threshold_numbers, first_pair}
 use Rattle.choices.specs.declared.Choices.{Choices}
 use Rattle.tables.specs.Tables.{at, zero_tables}
 use Rattle.tables.proofs.AdmittedLaws.{zero_right}

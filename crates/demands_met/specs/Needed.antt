@@ -24,7 +24,7 @@ use Rattle.demands.specs.WritesAgain as A
 use Rattle.polynomials.specs.Light.{ones_in_lem}
 use Rattle.polynomials.specs.Xor.{xor_swap}
 use Rattle.lists.specs.Tests.{true_false}
-use Rattle.lists.specs.Rows.{each, joined, length_joined, joined_part}
+use Rattle.lists.specs.Rows.{joined, length_joined, joined_part}
 use Rattle.lists.specs.Search.{first_from}
 use Rattle.layout.specs.Layout.{frame_indices, multiframe_frames, index_octets, packet_bits, multiframe_pairs, multiframe_octets, most_multiframes, stream_octets, first_pair, multiframe_of, sync}
 use Rattle.choices.specs.Choices.{one_settles, by_default, by_one_header}
@@ -41,7 +41,7 @@ use Rattle.packet.proofs.Laws.{length_packet_of, length_stream}
 use Rattle.header_code.specs.Code.{codeword, flips_to}
 use Rattle.header_code.specs.Code.Distance.{codeword_lt}
 use Rattle.header_code.specs.Code.Syndrome.{codeword_xor}
-use Rattle.header_code.specs.Code.Examples.{three_from_rate_1}
+use Rattle.header_code.proofs.Examples.{three_from_rate_1}
 use Rattle.message.specs.Message.{message, settings_of}
 use Rattle.message.specs.Message.Laws.{message_lt, message_back, message_counts, rate_masked, type_masked, count_masked, exp_shifted}
 use Rattle.header.proofs.Laws.{flips_of}

@@ -1,1 +1,4 @@
 pub mod ParityLaws
+pub mod Shifts
+pub mod Examples
+pub mod Syndrome

@@ -6,12 +6,13 @@ use Rattle.std.proofs.Common.{ap, ◌∙◌, lit<}
 use Rattle.std.proofs.Math.Bool.{xor}
 use Rattle.std.specs.Int.Count.{ones}
 use Rattle.header_code.specs.Code.{codeword, flips_to}
-use Rattle.header_code.specs.Code.Examples.{octets, count_1, count_2, count_3, rate_1, exp_9, six_ones, three_from_zero, three_from_rate_1}
+use Rattle.header_code.specs.Code.Examples.{octets, count_1, count_2, count_3, rate_1, exp_9, three_from_zero}
+use Rattle.header_code.proofs.Examples.{six_ones, three_from_rate_1}
 use Rattle.message.specs.Message.{message}
 use Rattle.message.specs.Message.Laws.{message_counts, message_nothing, message_rate_1, message_exp_9}
-use Rattle.header.specs.Reading.{decoded_as, reading}
+use Rattle.header.specs.Reading.{reading}
 use Rattle.header.proofs.Laws.{lost_at_three}
-use Rattle.header.specs.declared.Header.TheVariants.{Codeword, Lost}
+use Rattle.header.specs.declared.Header.TheVariants.{Lost}
 use Rattle.layout.specs.Layout.{widths, data_bits, packet_bits}
 use Rattle.settings.specs.Settings.{settings}
 use Rattle.bits.specs.Bits.{field, laid}

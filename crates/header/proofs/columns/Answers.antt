@@ -4,7 +4,8 @@ use Prim.Native.Nat.{ℕ, ◌<◌}
 use lib.Bits.{bit_or}
 use lib.ListN.{length-set}
 use native.Mathlib.Omega.{arith}
-use Rattle.header_code.specs.Code.Syndrome.{filled_more, filled_all, column_low, column_high}
+use Rattle.header_code.specs.Code.Syndrome.{filled_more, filled_all}
+use Rattle.header_code.proofs.Syndrome.{column_low, column_high}
 use Rattle.header_code.specs.Code.Parity.{words}
 use Rattle.header.proofs.columns.Goals as goal
 

@@ -50,7 +50,7 @@ pub exp_9 : octets (codeword 32768) ≡ 0x00 ∷ 0x80 ∷ 0x80 ∷ 0xE8 ∷ []
 unfolding fast front parity remainder ones_in
 exp_9 = ap octets (fast_is 32768 (lit< tt))
 
--- the codeword of nothing is zero, and SampRate 1 alone has six ones: two codewords that differ in six bits
+-- the codeword of nothing is zero, and that of SampRate 1 alone
 pub codeword_0 : codeword 0 ≡ 0
 unfolding fast front parity remainder ones_in
 codeword_0 = fast_is 0 (lit< tt)
@@ -59,18 +59,7 @@ pub codeword_1 : codeword 1 ≡ 0xD1010001
 unfolding fast front parity remainder ones_in
 codeword_1 = fast_is 1 (lit< tt)
 
-pub six_ones : ones (codeword 1) ≡ 6
-unfolding ones_in
-six_ones = ap ones codeword_1 ∙ sym (ones_in_lem 32 0xD1010001 (lit< tt))
-
-pub six_differ : ones (bit_xor (codeword 0) (codeword 1)) ≡ 6
-six_differ = ap (λ (x : ℕ). ones (bit_xor x (codeword 1))) codeword_0 ∙ six_ones
-
--- 01 00 01 01 is three from SampRate 1 alone and three from zero
+-- 01 00 01 01 is three from zero
 pub three_from_zero : flips_to 0x01010001 0 ≡ 3
 unfolding flips_to ones_in
 three_from_zero = ap (λ (x : ℕ). ones (bit_xor 0x01010001 x)) codeword_0 ∙ sym (ones_in_lem 32 0x01010001 (lit< tt))
-
-pub three_from_rate_1 : flips_to 0x01010001 1 ≡ 3
-unfolding flips_to ones_in
-three_from_rate_1 = ap (λ (x : ℕ). ones (bit_xor 0x01010001 x)) codeword_1 ∙ sym (ones_in_lem 32 0xD0000000 (lit< tt))

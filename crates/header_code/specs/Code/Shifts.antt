@@ -1,14 +1,13 @@
 -- Parity by shifts and exclusive ors alone: how often g goes into the message times X^15, and that many times g. Both are linear, so
--- sixteen computed cases are all. Assumes nothing.
-use Rattle.std.specs.Prelude.{◌≡◌, refl, Bool, ℕ, ◌-◌, ◌*◌, ◌/◌, ◌%◌, ◌^◌, ◌<◌, eqb}
+-- sixteen computed cases are all (proofs/Shifts). Assumes nothing.
+use Rattle.std.specs.Prelude.{◌≡◌, refl, Bool, ℕ, ◌*◌, ◌/◌, ◌%◌, ◌^◌, ◌<◌, eqb}
 use Rattle.std.proofs.Common.{ap, ap₂, ◌∙◌, eqb→eq}
-use Rattle.std.specs.Int.Bits.{bit_xor, bit_and}
-use Rattle.std.proofs.lemmas.Nat.{xor_shr, xor_mod, and_mask}
+use Rattle.std.specs.Int.Bits.{bit_xor}
+use Rattle.std.proofs.lemmas.Nat.{xor_shr, xor_mod}
 use Rattle.lists.specs.Tests.{all_holds}
 use Rattle.polynomials.specs.Polynomials.{remainder}
-use Rattle.polynomials.specs.Xor.{Linear, xor_shl, xor_swap, agree_below}
+use Rattle.polynomials.specs.Xor.{Linear, xor_shl, xor_swap}
 use Rattle.header_code.specs.Code.{parity}
-use Rattle.header_code.specs.Code.Parity.{parity_xor}
 
 -- 1 over g is X^-15 + X^-16 + X^-17 + X^-19 + X^-23, and what begins with X^-31: sixteen bits do not reach it
 abbrev pub quotient : ℕ → ℕ
@@ -18,7 +17,7 @@ quotient m = bit_xor (bit_xor (bit_xor (bit_xor m (m / 2 ^ 1)) (m / 2 ^ 2)) (m /
 abbrev pub times_low_g : ℕ → ℕ
 times_low_g q = bit_xor (bit_xor (bit_xor q (q * 2 ^ 8 % 2 ^ 32)) (q * 2 ^ 12 % 2 ^ 32)) (q * 2 ^ 14 % 2 ^ 32)
 
-shifts : ℕ → ℕ
+unfoldable pub shifts : ℕ → ℕ
 shifts m = times_low_g (quotient m) % 2 ^ 15
 
 sum_linear : (f g : ℕ → ℕ) → Linear f → Linear g → Linear (λ (m : ℕ). bit_xor (f m) (g m))
@@ -44,7 +43,7 @@ times_low_g_linear =
     (sum_linear (λ (q : ℕ). bit_xor q (q * 2 ^ 8 % 2 ^ 32)) (λ (q : ℕ). q * 2 ^ 12 % 2 ^ 32)
     (sum_linear (λ (q : ℕ). q) (λ (q : ℕ). q * 2 ^ 8 % 2 ^ 32) (λ a b. refl) (shl_linear 8)) (shl_linear 12)) (shl_linear 14)
 
-shifts_linear : Linear shifts
+pub shifts_linear : Linear shifts
 unfolding shifts
 shifts_linear a b =
     ap (λ (x : ℕ). x % 2 ^ 15) (ap times_low_g (quotient_linear a b) ∙ times_low_g_linear (quotient a) (quotient b))
@@ -53,11 +52,6 @@ shifts_linear a b =
 right : ℕ → Bool
 right i = eqb (shifts (2 ^ i)) (parity (2 ^ i))
 
-bits_right : (i : ℕ) → i < 16 → shifts (2 ^ i) ≡ parity (2 ^ i)
+pub bits_right : (i : ℕ) → i < 16 → shifts (2 ^ i) ≡ parity (2 ^ i)
 unfolding right shifts parity remainder
 bits_right i h = eqb→eq (shifts (2 ^ i)) (parity (2 ^ i)) (all_holds right 16 tt i h)
-
--- the parity, as a word of 32 bits has it
-pub parity_by_shifts : (m : ℕ) → m < 2 ^ 16 → bit_and (times_low_g (quotient m)) (2 ^ 15 - 1) ≡ parity m
-unfolding shifts
-parity_by_shifts m h = and_mask (times_low_g (quotient m)) 15 ∙ agree_below shifts parity shifts_linear parity_xor 16 bits_right m h

@@ -2,13 +2,12 @@
 -- and the syndrome of two flips is the sum of two of the 32 columns, which come from the sixteen words.
 -- Assumes nothing.
 use Rattle.std.specs.Prelude.{◌≡◌, refl, Bool, List, ℕ, ◌+◌, ◌-◌, ◌*◌, ◌/◌, ◌%◌, ◌^◌, ◌<◌, T, eqb, get_or, set, length}
-use Rattle.std.proofs.Common.{sym, ap, ap₂, ◌∙◌, subst, mod-lt, div-add-mod', arith, eqb→eq, length-set, get_or-set_same, get_or-set_other, pow_pos, shl_exact}
+use Rattle.std.proofs.Common.{sym, ap, ap₂, ◌∙◌, subst, mod-lt, div-add-mod', arith, length-set, get_or-set_same, get_or-set_other, pow_pos, shl_exact}
 use Rattle.std.proofs.Math.Decide.{ℕ_discrete, dec_lt}
 use Rattle.std.specs.Int.Bits.{bit_xor, bit_or, bit_and, xor_self}
 use Rattle.std.proofs.lemmas.Nat.{xor_block, xor_shr, xor_mod, xor_lt, and_mask, or_shifted, ones_cat, mod-pow-add}
 use Rattle.std.specs.Int.Count.{ones, ones_in}
-use Rattle.std.proofs.Math.Pow.{pow-lt}
-use Rattle.lists.specs.Tests.{both, both_left, both_right, all_holds}
+use Rattle.lists.specs.Tests.{both, all_holds}
 use Rattle.polynomials.specs.Polynomials.{remainder}
 use Rattle.polynomials.specs.Xor.{digit, low, xor_swap, xor_twice, ones_xor}
 use Rattle.polynomials.specs.Light.{ones_in_lem}
@@ -99,32 +98,20 @@ codeword_xor a b ha hb =
 
 -- ---- the columns: the syndromes of the 32 single flips
 -- a message bit flips the parity of its word and the evenness; P1 to P15 flip themselves and the evenness; P16 the evenness alone
-fast : ℕ → ℕ
+pub fast : ℕ → ℕ
 fast w = ones_in 32 w % 2 * 2 ^ 15 + off w
 
-fast_is : (w : ℕ) → w < 2 ^ 32 → syndrome w ≡ fast w
+pub fast_is : (w : ℕ) → w < 2 ^ 32 → syndrome w ≡ fast w
 unfolding fast
 fast_is w h = syndrome_is w ∙ ap (λ (x : ℕ). x % 2 * 2 ^ 15 + off w) (sym (ones_in_lem 32 w h))
 
-right : ℕ → Bool
+unfoldable pub right : ℕ → Bool
 right i = both (eqb (bit_or (get_or words i 0) 32768) (fast (2 ^ i))) (eqb (bit_or (2 ^ i) 32768) (fast (2 ^ (16 + i))))
 
 -- the columns agree with the definition: one computed test over the sixteen words
-tested : (i : ℕ) → i < 16 → T (right i)
+pub tested : (i : ℕ) → i < 16 → T (right i)
 unfolding right fast off words parity remainder ones_in
 tested i h = all_holds right 16 tt i h
-
-pub column_low : (i : ℕ) → i < 16 → bit_or (get_or words i 0) 32768 ≡ syndrome (2 ^ i)
-unfolding right
-column_low i h =
-    let t = both_left (eqb (bit_or (get_or words i 0) 32768) (fast (2 ^ i))) (eqb (bit_or (2 ^ i) 32768) (fast (2 ^ (16 + i)))) (tested i h) in
-    eqb→eq (bit_or (get_or words i 0) 32768) (fast (2 ^ i)) t ∙ sym (fast_is (2 ^ i) (pow-lt {j = 32} (omega arith)))
-
-pub column_high : (i : ℕ) → i < 16 → bit_or (2 ^ i) 32768 ≡ syndrome (2 ^ (16 + i))
-unfolding right
-column_high i h =
-    let t = both_right (eqb (bit_or (get_or words i 0) 32768) (fast (2 ^ i))) (eqb (bit_or (2 ^ i) 32768) (fast (2 ^ (16 + i)))) (tested i h) in
-    eqb→eq (bit_or (2 ^ i) 32768) (fast (2 ^ (16 + i))) t ∙ sym (fast_is (2 ^ (16 + i)) (pow-lt {j = 32} (omega arith)))
 
 -- a table that holds the columns of the first i words and of P1 to P16 as far
 abbrev pub Filled : List ℕ → ℕ → Type 0
