@@ -2,6 +2,8 @@
 use Prim.Native.Nat.{◌*◌}
 use mathlib.Core.Path.{◌≡◌, sym, ◌∙◌}
 use mathlib.Core.Bool.{false}
+use Rattle.std.proofs.Common.{arith}
+use Rattle.std.proofs.lemmas.Bool.Decides.{nat_tests}
 use borrow.Author.Tests.{lt-ltb, le-ltb}
 use Rattle.unfit.specs.Unfit.{unfit}
 use Rattle.deciding.specs.Steps.{early_verdict}
@@ -21,7 +23,7 @@ pub returns-then-report-m : goal.returns-then-report-m
 unfolding early_verdict
 returns-then-report-m c =
     let fit : unfit c.args.common ≡ false = sym c.is_unfit.ensures ∙ c.if-is_unfit.false in
-    rw (fit, le-ltb c.args.index (168 * c.args.m) c.if-index-m.false, lt-ltb c.args.report (13 * c.args.m) c.if-report-m.true)
+    rw fit (grind (arith, nat_tests))
 
 pub returns : goal.returns
 unfolding early_verdict
