@@ -1,7 +1,7 @@
 -- DEMAND 2 AT THE ENTRIES: what dsr_write wrote, dsr_read reads back, and what dsr_read read without a note, dsr_write writes again octet for
 -- octet. Said in the numbers, octets and buffers that a caller in C has, of any octets that dsr_write answers with 0.
 -- Assumes nothing.
-use Rattle.std.specs.Prelude.{◌≡◌, List, ◌∷◌, [], ℕ, ◌-◌, ◌*◌, ◌≤◌, ◌<◌, length, take, drop, get_or, replicate}
+use Rattle.std.specs.Prelude.{◌≡◌, List, ◌∷◌, [], ℕ, ◌*◌, ◌≤◌, ◌<◌, length, take, drop, get_or, replicate}
 use Rattle.std.proofs.Common.{sym, ap₂, ◌∙◌, subst, arith}
 use Rattle.std.proofs.Math.Path.{ap}
 use Rattle.std.proofs.lemmas.List.{length-replicate}
@@ -14,7 +14,6 @@ use Rattle.tables.specs.Tables.{Tables}
 use Rattle.image.specs.Made.{Small}
 use Rattle.wrong_frames.specs.WrongFrames.{frame_count}
 use Rattle.writer.specs.Writing.{multiframes_for}
-use Rattle.writer.proofs.Laws.{accepts}
 use Rattle.writer.specs.Utterance.{Utterance}
 use Rattle.writer.proofs.Utterance.{whole_frames}
 use Rattle.reader.specs.Reading.{Outcome, reading}

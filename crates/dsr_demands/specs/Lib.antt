@@ -5,10 +5,8 @@ pub mod Named
 pub mod OnAir
 pub mod Apart
 pub mod Met
-pub mod Cut
 pub mod Hunted
 pub mod Linked
-pub mod Told
 pub mod Answers
 pub mod Chosen
 pub mod Edges

@@ -1,7 +1,7 @@
 -- Calls that answer 0, for never misled, trusted, if it is read, heard whole, cut off, call to call and on air; the other sentences have their
 -- examples below the entries, in promises and hunting_demands.
 -- Assumes nothing.
-use Rattle.std.specs.Prelude.{◌≡◌, Bool, List, [], ◌∷◌, ℕ, ◌+◌, ◌*◌, ◌-◌, ◌/◌, ◌%◌, ◌≤◌, ◌<◌, length, take, get_or}
+use Rattle.std.specs.Prelude.{◌≡◌, Bool, List, [], ◌∷◌, ℕ, ◌+◌, ◌*◌, ◌/◌, ◌%◌, ◌≤◌, ◌<◌, length, take, get_or}
 use Rattle.std.proofs.Common.{sym, ap, ◌∙◌, subst, arith, lit<, lit≤}
 use Rattle.std.specs.Int.Count.{ones}
 use Rattle.lists.specs.Parts.{over}
@@ -30,13 +30,16 @@ use Rattle.hunting_demands.specs.Met as HM
 use Rattle.hunting_demands.specs.Met.{two_ones}
 use Rattle.hunting_demands.specs.HuntsBack.{shifted_hold}
 use Rattle.hunting_demands.specs.Aired.{aired, aired_on_air, names_aired_24}
-use Rattle.dsr_demands.specs.Linked.{c_link_names}
+use Rattle.dsr_demands.proofs.Linked.{c_link_names}
 use Rattle.dsr_demands.specs.Called.{octets_of, count_of, called, octets_are}
 use Rattle.dsr_demands.specs.Calls.{read_success}
-use Rattle.dsr_demands.specs.Named.{header_note_at, got_is, HearsAll, c_never_misled, c_trusted, c_heard_whole, Tells, c_names_if_read}
+use Rattle.dsr_demands.specs.Named.{header_note_at, HearsAll, Tells}
+use Rattle.dsr_demands.proofs.Named.{got_is, c_never_misled, c_trusted, c_heard_whole, c_names_if_read}
 use Rattle.dsr_demands.specs.OnAir as O
-use Rattle.dsr_demands.specs.Cut.{c_cut_off}
-use Rattle.dsr_demands.specs.Met.{six, eight, room_for, call_met}
+use Rattle.dsr_demands.proofs.OnAir as OL
+use Rattle.dsr_demands.proofs.Cut.{c_cut_off}
+use Rattle.dsr_demands.specs.Met.{six, eight, room_for}
+use Rattle.dsr_demands.proofs.MetLaws.{call_met}
 use Rattle.tables.specs.Tables.{zero_tables}
 
 -- a reading with tables of zeros and just enough room that succeeds is answered with 0
@@ -109,14 +112,14 @@ pub air_told : (ch : Choices) → ((dsr_read_bits (aired says24) 0 fewest_matche
 air_told ch =
     let i = index_for (multiframes_of says24) in
     let r = report_for (multiframes_of says24) in
-    let n = (O.c_names_on_air says24 (aired says24) 0 3 fewest_matches zero_tables i r eight 0 ch (aired_on_air says24) (names_aired_24 ch) (lit≤ tt)).0 in
-    (n.success, (O.c_never_misled_on_air says24 (aired says24) 0 3 fewest_matches zero_tables i r eight 0 ch (aired_on_air says24).caught n.success).0)
+    let n = (OL.c_names_on_air says24 (aired says24) 0 3 fewest_matches zero_tables i r eight 0 ch (aired_on_air says24) (names_aired_24 ch) (lit≤ tt)).0 in
+    (n.success, (OL.c_never_misled_on_air says24 (aired says24) 0 3 fewest_matches zero_tables i r eight 0 ch (aired_on_air says24).caught n.success).0)
 
 -- and every image of two multiframes or more, and every image if the old rule is asked for, shifted by three bits, is read back
 pub air_back : (ch : Choices) (u : Utterance) → Enough ch (multiframes_of u) → O.HearsAll u (HM.shifted_octets u) 0 3 fewest_matches zero_tables (index_for (multiframes_of u)) (report_for (multiframes_of u)) eight 0 ch
 air_back ch u enough =
     let m = multiframes_of u in
-    (O.c_hunts_back u (HM.shifted_octets u) 0 3 fewest_matches zero_tables (index_for m) (report_for m) eight 0 ch
+    (OL.c_hunts_back u (HM.shifted_octets u) 0 3 fewest_matches zero_tables (index_for m) (report_for m) eight 0 ch
     (shifted_hold ch u (HM.shifted_octets u) 0 fewest_matches HM.three_zeros HM.five_zeros (HM.shifted_met u ch fewest_matches (lit≤ tt)) enough zero_tables (index_for m) (report_for m) (lit≤ tt) (lit≤ tt) (lent_zeros m)) (lit≤ tt)).0
 
 -- IF IT IS READ: three multiframes, the second header lost, two packets damaged: the notes are told

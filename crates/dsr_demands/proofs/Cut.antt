@@ -20,7 +20,8 @@ use Rattle.recordings.specs.Inverse.{found, one_inverse, spaced, spaced_image}
 use Rattle.recordings.specs.CutOff.{cut_off_answer, cut_inside_damaged}
 use Rattle.recordings.specs.CutDamaged.{cut_off_told_damaged}
 use Rattle.dsr_demands.specs.Calls.{told_refused, read_zero}
-use Rattle.dsr_demands.specs.Named.{pair_note_at, got_is, at}
+use Rattle.dsr_demands.specs.Named.{pair_note_at}
+use Rattle.dsr_demands.proofs.Named.{got_is, at}
 
 -- a refusal, with room for six numbers, is its number and its place, and all else as it came
 refused_is : (a : List ℕ) (q : ℕ) (i r : List ℕ) (o : Outcome) (n p : ℕ) → answer_numbers ≤ length a → Refuses o i r n p

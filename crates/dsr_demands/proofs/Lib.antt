@@ -1,0 +1,9 @@
+pub mod Named
+pub mod OnAir
+pub mod Linked
+pub mod MetLaws
+pub mod Told
+pub mod Cut
+pub mod Chosen
+pub mod Edges
+pub mod Tabled
