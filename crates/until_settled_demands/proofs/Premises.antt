@@ -10,7 +10,7 @@ use Rattle.writer.specs.Utterance.{multiframes_of, image_of}
 use Rattle.demands_met.specs.Met.{says24, two_multiframes, settings_24, hurt_image, names_says24}
 use Rattle.until_settled.specs.declared.Answer.TheVariants.{Read}
 use Rattle.until_settled.specs.UntilSettled.{until_settled}
-use Rattle.until_settled_demands.specs.Written.{damaged_settles, growing_settles}
+use Rattle.until_settled_demands.proofs.WrittenLaws.{damaged_settles, growing_settles}
 
 -- 24 frames of 8 kHz, type 0, are two multiframes
 two : 2 ≤ multiframes_of says24

@@ -23,9 +23,11 @@ use Rattle.until_settled.specs.declared.Answer.TheVariants.{Read, Refused}
 use Rattle.until_settled.specs.UntilSettled.{until_settled}
 use Rattle.until_settled.specs.Laws.{headers, multiframes_read}
 use Rattle.until_settled.specs.Lasting.{default_two}
-use Rattle.until_settled_demands.specs.Full.{CutSays, FullSays, full}
-use Rattle.until_settled_demands.specs.Entry.{settle_zero, c_settled, c_settle_stays, c_as_read}
-use Rattle.until_settled_demands.specs.Literally.{literally}
+use Rattle.until_settled_demands.specs.Full.{CutSays, FullSays}
+use Rattle.until_settled_demands.proofs.FullLaws.{full}
+use Rattle.until_settled_demands.proofs.Numbers.{settle_zero, c_settled}
+use Rattle.until_settled_demands.proofs.EntryLaws.{c_settle_stays, c_as_read}
+use Rattle.until_settled_demands.proofs.LiterallyLaws.{literally}
 
 -- ---- "WHERE THE FULL READING REFUSES FURTHER ON, THIS CALL STILL GIVES THE SETTINGS, OR 17": 12, 13 and 15 in full, and two headers that agree
 module _ (ch : Choices) (s : List ℕ) (agree : first_agreeing [] (headers s) ≡ S.Unsettled → ⊥) where

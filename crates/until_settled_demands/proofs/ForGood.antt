@@ -1,10 +1,9 @@
 -- What is refused for good: 12 and 15 that are given of a beginning are what the full reading gives, with the same place, of all octets that begin so. A
 -- caller who is given one of them need not wait for the rest, nor read it.
 -- Assumes nothing.
-use Rattle.std.specs.Prelude.{ℕ, ◌≤◌, ◌≡◌, refl, List, [], ◌∷◌, ◌++◌, Bool, true, false, length}
+use Rattle.std.specs.Prelude.{ℕ, ◌≡◌, refl, List, [], ◌++◌, Bool, true, false}
 use Rattle.std.proofs.Common.{sym, ◌∙◌, arith}
 use Rattle.choices.specs.declared.Choices.{Choices}
-use Rattle.choices.specs.declared.Asked.TheVariants.{For}
 use Rattle.tables.specs.Tables.{Tables, RightTables}
 use Rattle.refusals.specs.declared.Reading.{Reading as Refusal}
 use Rattle.refusals.specs.declared.Reading.TheVariants.{Unknown, TooMany, Unfit}
@@ -15,15 +14,11 @@ use Rattle.settling.specs.declared.Settlement.{Settlement}
 use Rattle.settling.specs.declared.Settlement.TheVariants as S
 use Rattle.reader.specs.Reading.{reading}
 use Rattle.reader.specs.declared.Answer.TheVariants as R
-use Rattle.until_settled.specs.declared.Answer.TheVariants.{Read, Refused}
+use Rattle.until_settled.specs.declared.Answer.TheVariants.{Refused}
 use Rattle.until_settled.specs.UntilSettled.{until_settled}
 use Rattle.until_settled.specs.Laws.{headers, Agreed, settled_read, settled_unfit}
 use Rattle.until_settled.specs.Lasting.{unknown_stays, too_many_stays}
-use Rattle.entries.specs.Entries.{answer_numbers, returned, dsr_read}
-use Rattle.page_received.specs.Received.{headed, lost, one, again}
-use Rattle.page_received.specs.Settled.{table}
-use Rattle.dsr_demands.specs.Calls.{read_refused}
-use Rattle.until_settled_demands.specs.Full.{refuses_as_full}
+use Rattle.until_settled_demands.proofs.FullLaws.{refuses_as_full}
 
 -- where two headers agree, nothing is refused but with 17
 module _ (ch : Choices) (s : List ℕ) (r : Refusal) (not-17 : Refused Unfit ≡ Refused r → ⊥) (e : until_settled ch s ≡ Refused r) where
@@ -51,22 +46,3 @@ module _ (ch : Choices) (s more : List ℕ) (tables : Tables) (right : RightTabl
       let l = too_many_stays ch s more p e in
       refuses_as_full ch (s ++ more) tables index report right
       (none_agree ch (s ++ more) (TooMany p) (λ z. (let y : ◌≡◌ {A = ℕ} 0 1 = cc in omega arith)) l) (TooMany p) l
-
-  -- and in the numbers that a caller of dsr_read has: 12 or 15 with that place, and all that was lent as it came
-  module _ (answer : List ℕ) (place : ℕ) (room : answer_numbers ≤ length answer) where
-    pub c_unknown_for_good : until_settled ch s ≡ Refused (Unknown p) → dsr_read (s ++ more) (For ch) tables index report answer place ≡ returned 12 index report answer p
-    c_unknown_for_good e = read_refused ch (s ++ more) tables index report answer place (Unknown p) room (unknown_for_good e)
-
-    pub c_too_many_for_good : until_settled ch s ≡ Refused (TooMany p) → dsr_read (s ++ more) (For ch) tables index report answer place ≡ returned 15 index report answer p
-    c_too_many_for_good e = read_refused ch (s ++ more) tables index report answer place (TooMany p) room (too_many_for_good e)
-
--- ---- met, by either choice: a multiframe and an octet that begins nothing; a sync behind 255 multiframes whose headers are lost
-module _ (ch : Choices) (more : List ℕ) (tables : Tables) (right : RightTables tables) (index report : List ℕ) where
-  pub one_and_nothing_known : dsr_read ((one ++ (0x00 ∷ [])) ++ more) (For ch) tables index report (9 ∷ 9 ∷ 9 ∷ 9 ∷ 9 ∷ 9 ∷ []) 7 ≡ returned 12 index report (9 ∷ 9 ∷ 9 ∷ 9 ∷ 9 ∷ 9 ∷ []) 144
-  one_and_nothing_known =
-      c_unknown_for_good ch (one ++ (0x00 ∷ [])) more tables right index report 144 (9 ∷ 9 ∷ 9 ∷ 9 ∷ 9 ∷ 9 ∷ []) 7 (omega arith) (table ch).unknown_behind
-
-  pub a_sync_too_many : dsr_read ((again 255 (headed lost) ++ (0x87 ∷ 0xB2 ∷ [])) ++ more) (For ch) tables index report (9 ∷ 9 ∷ 9 ∷ 9 ∷ 9 ∷ 9 ∷ []) 7
-      ≡ returned 15 index report (9 ∷ 9 ∷ 9 ∷ 9 ∷ 9 ∷ 9 ∷ []) 36720
-  a_sync_too_many =
-      c_too_many_for_good ch (again 255 (headed lost) ++ (0x87 ∷ 0xB2 ∷ [])) more tables right index report 36720 (9 ∷ 9 ∷ 9 ∷ 9 ∷ 9 ∷ 9 ∷ []) 7 (omega arith) (table ch).sync_256

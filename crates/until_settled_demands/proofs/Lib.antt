@@ -1,0 +1,13 @@
+pub mod FullLaws
+pub mod WrittenLaws
+pub mod Sent
+pub mod NotMisled
+pub mod NotMisledSoFar
+pub mod Premises
+pub mod Numbers
+pub mod EntryLaws
+pub mod LiterallyLaws
+pub mod Edges
+pub mod ForGood
+pub mod ForGoodCalls
+pub mod ForGoodMet
