@@ -59,7 +59,8 @@ use Rattle.demands.specs.ReadsBack.{reads_image}
 use Rattle.damage.specs.Instances.{lone, small_lone}
 use Rattle.page_images.specs.Headers.{header, word_of, ReadsAs, clean, flips}
 use Rattle.page_images.specs.Headers as Headers
-use Rattle.page_images.specs.Images.{Right, spoken_behind, spoken_image}
+use Rattle.page_images.specs.Images.{Right, spoken_behind}
+use Rattle.page_images.proofs.ImagesLaws.{spoken_image}
 
 -- ---- what a line of the table says
 -- the reading is refused with this number and this place, which `reading_number` and `reading_place` give of its refusal, and both buffers are as they came

@@ -19,7 +19,7 @@ use Rattle.settling.specs.Settling.{first_agreeing}
 use Rattle.unfit.specs.Laws.{Usable, fit_is}
 use Rattle.settling.specs.declared.Settlement.TheVariants as S
 use Rattle.image.specs.Made.{word_in}
-use Rattle.image.specs.Laws.{length_image, image_sync}
+use Rattle.image.proofs.Laws.{length_image, image_sync}
 use Rattle.writer.specs.Utterance.{Utterance, multiframes_of, image_of}
 use Rattle.writer.proofs.Utterance.{rate_not_2}
 use Rattle.damage.specs.Damage.{Damage, sent_message, header_read_lem}
