@@ -32,8 +32,10 @@ use Rattle.demands.specs.NamesTheDamage as N
 use Rattle.demands.specs.ReadsBack.{spoken, padded, mended_report, length_padded, padded_at, no_more}
 use Rattle.demands.specs.WritesAgain as A
 use Rattle.promises.specs.Misled as M
+use Rattle.promises.proofs.Misled.{never_misled}
 use Rattle.promises.specs.Trusted as T
-use Rattle.promises.specs.IfRead as I
+use Rattle.promises.proofs.Trusted.{trusted_by_one}
+use Rattle.promises.proofs.IfRead as I
 use Rattle.dsr_demands.specs.Calls.{beyond, read_success, read_zero}
 use Rattle.dsr_demands.specs.Named.{header_note_at, pair_note_at, frame_note_at, Tells}
 use Rattle.dsr_demands.specs.Named as Stated
@@ -150,7 +152,7 @@ module _ (ch : Choices) (u : Utterance) (s : List ℕ) (tables : Tables) (index 
   c_never_misled p zero =
       let z = read_zero answer place index report (reading ch s tables index report) zero in
       let f = at ch s tables index report answer place z.0 z.1.0 z.1.1 in
-      let m = M.never_misled ch u s p tables index report z.1.0 z.1.1 in
+      let m = never_misled ch u s p tables index report z.1.0 z.1.1 in
       (f 0 ∙ ap (λ (x : Settings). x.rate) m.settings, (f 1 ∙ ap (λ (x : Settings). x.kind) m.settings, f 2 ∙ m.multiframes))
 
   hears : (r : List ℕ) → answer_numbers ≤ length answer → reading ch s tables index report ≡ outcome (Read (spoken u)) (over index 0 (index_octets * multiframes_of u) (padded u)) r → HearsAll
@@ -172,7 +174,7 @@ module _ (ch : Choices) (u : Utterance) (s : List ℕ) (tables : Tables) (index 
       let z = read_zero answer place index report (reading ch s tables index report) zero in
       let g = z.1.0 in
       let q = got_is ch s tables index report answer place z.0 g z.1.1 in
-      let w = T.trusted_by_one ch u s p tables index report g
+      let w = trusted_by_one ch u s p tables index report g
       (record {
         succeeds = z.1.1;
         notes_0 = λ i h.

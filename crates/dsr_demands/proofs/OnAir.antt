@@ -34,7 +34,8 @@ use Rattle.demands.specs.Whole.{front_at}
 use Rattle.demands.specs.NamesTheDamage as N
 use Rattle.demands.specs.ReadsBack.{spoken, padded, length_padded, padded_at, no_more}
 use Rattle.promises.specs.Misled as M
-use Rattle.promises.specs.Trusted as T
+use Rattle.promises.proofs.Misled.{never_misled}
+use Rattle.promises.proofs.Trusted.{trusted}
 use Rattle.hunting_demands.specs.Standing.{tested_in_row}
 use Rattle.hunting_demands.specs.HuntsBack as B
 use Rattle.hunting_demands.specs.Radio.{together, Caught, OnAir, on_air, found_on_air, flips_few, together_size, together_syncs, received_packet, packet_there, flips_there}
@@ -147,7 +148,7 @@ module _ (u : Utterance) (s : List ℕ) (from at least : ℕ) (tables : Tables) 
       let y : R.reading ch (together u s at) tables index report ≡ R.outcome (Ra.Read g.summary) (o ch).index (o ch).report =
       ap (λ (ps : List ℕ). R.reading ch (foundImage s ps) tables index report) (sym (found_on_air u s from at least a.caught))
       ∙ (F.success ch s from least tables index report g z.1.1).as_01_says in
-      let w = T.trusted ch u (together u s at) (on_air ch u s from at least a) tables index report g.summary
+      let w = trusted ch u (together u s at) (on_air ch u s from at least a) tables index report g.summary
       (record {
         succeeds = ap (λ (x : R.Outcome). x.answer) y;
         notes_0 = λ i h.
@@ -167,7 +168,7 @@ module _ (u : Utterance) (s : List ℕ) (from at least : ℕ) (tables : Tables) 
       let y : R.reading ch (together u s at) tables index report ≡ R.outcome (Ra.Read g.summary) (o ch).index (o ch).report =
       ap (λ (ps : List ℕ). R.reading ch (foundImage s ps) tables index report) (sym (found_on_air u s from at least a))
       ∙ (F.success ch s from least tables index report g z.1.1).as_01_says in
-      let w = M.never_misled ch u (together u s at) premises tables index report g.summary (ap (λ (x : R.Outcome). x.answer) y) in
+      let w = never_misled ch u (together u s at) premises tables index report g.summary (ap (λ (x : R.Outcome). x.answer) y) in
       let f : (k : ℕ) → get_or (c ch).answer k 0 ≡ get_or (over answer 0 counted_numbers (numbers_of g)) k 0 = λ k. ap (λ (x : Returned). get_or x.answer k 0) e in
       (f 0 ∙ ap (λ (x : Settings). x.rate) w.settings, (f 1 ∙ ap (λ (x : Settings). x.kind) w.settings, f 2 ∙ w.multiframes))
     where

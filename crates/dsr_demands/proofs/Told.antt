@@ -24,6 +24,7 @@ use Rattle.demands.specs.NamesTheDamage as N
 use Rattle.demands.specs.ReadsBack.{spoken}
 use Rattle.promises.specs.Flipped.{flipped, but_one, rate_bits}
 use Rattle.promises.specs.Met as P
+use Rattle.promises.proofs.MetLaws as PM
 use Rattle.recordings.specs.Said.{ones24}
 use Rattle.recordings.specs.CutOff.{first_of_24}
 use Rattle.hunting_demands.specs.Met as HM
@@ -58,12 +59,12 @@ pub incident_told : (ch : Choices) (p : List Bool) → length p ≡ packet_bits
     → ((dsr_read (flipped P.says48 (P.in_second rate_bits 3) (but_one P.says48 0 p)) (For ch) zero_tables index48 report48 six 0).number ≡ 0)
     × (get_or (dsr_read (flipped P.says48 (P.in_second rate_bits 3) (but_one P.says48 0 p)) (For ch) zero_tables index48 report48 six 0).answer 0 0 ≡ 0)
 incident_told ch p size =
-    let h = P.incident_48 ch p size in
+    let h = PM.incident_48 ch p size in
     let s = flipped P.says48 (P.in_second rate_bits 3) (but_one P.says48 0 p) in
     let three : multiframes_of P.says48 ≡ 3 = P.three_multiframes in
     let zero = answers_0 ch s (multiframes_of P.says48) h.given h.succeeds in (
       zero,
-      (c_never_misled ch P.says48 s zero_tables index48 report48 six 0 (P.misled_met P.says48 rate_bits 3 (lit< tt) (lit< tt) (but_one P.says48 0 p) le_of_two (omega arith)) zero).0
+      (c_never_misled ch P.says48 s zero_tables index48 report48 six 0 (PM.misled_met P.says48 rate_bits 3 (lit< tt) (lit< tt) (but_one P.says48 0 p) le_of_two (omega arith)) zero).0
           ∙ P.rate_48,
     )
   where
@@ -75,7 +76,7 @@ pub trusted_told : (ch : Choices) (u : Utterance) → Enough ch (multiframes_of 
     → (image_of u ≡ image_of u) × HearsAll ch u (image_of u) zero_tables (index_for (multiframes_of u)) (report_for (multiframes_of u)) six 0
 trusted_told ch u enough =
     let m = multiframes_of u in
-    let w = P.without_warning ch u enough zero_tables (index_for m) (report_for m) (lent_zeros m) in
+    let w = PM.without_warning ch u enough zero_tables (index_for m) (report_for m) (lent_zeros m) in
     let e = got_is ch (image_of u) zero_tables (index_for m) (report_for m) six 0 (lit≤ tt) (spoken u) w.succeeds in
     c_trusted ch u (image_of u) zero_tables (index_for m) (report_for m) six 0
     (record {
@@ -93,12 +94,12 @@ pub heard_told : (ch : Choices) → HearsAll ch P.says48 (P.lost_one P.says48) z
 heard_told ch =
     let s = P.lost_one P.says48 in
     let three : multiframes_of P.says48 ≡ 3 = P.three_multiframes in
-    let w = P.heard_met ch P.says48 (omega arith) zero_tables index48 report48 (lent_zeros (multiframes_of P.says48)) in
-    let e = got_is ch s zero_tables index48 report48 six 0 (lit≤ tt) (spoken P.says48) (P.heard_48 ch).succeeds in
+    let w = PM.heard_met ch P.says48 (omega arith) zero_tables index48 report48 (lent_zeros (multiframes_of P.says48)) in
+    let e = got_is ch s zero_tables index48 report48 six 0 (lit≤ tt) (spoken P.says48) (PM.heard_48 ch).succeeds in
     c_heard_whole ch P.says48 s zero_tables index48 report48 six 0 w.damage (ap (λ (x : Returned). x.number) e) (λ k j h l.
     let z : report_octets * ((multiframe_pairs * k + j) / multiframe_pairs) + 1 + (multiframe_pairs * k + j) % multiframe_pairs ≡ report_octets * k + 1 + j = omega arith in
     ap (λ (x : Returned). get_or x.report (report_octets * k + 1 + j) 0) e ∙ ap (λ (i : ℕ). get_or (reading ch s zero_tables index48 report48).report i 0) (sym z)
-    ∙ P.none_named ch P.says48 (omega arith) zero_tables index48 report48 (lent_zeros (multiframes_of P.says48)) (multiframe_pairs * k + j) (omega arith))
+    ∙ PM.none_named ch P.says48 (omega arith) zero_tables index48 report48 (lent_zeros (multiframes_of P.says48)) (multiframe_pairs * k + j) (omega arith))
 
 -- CUT OFF: the first of two multiframes alone, if the old rule is asked for, is answered with 0 and end 0
 pub cut_told : (dsr_read (take (multiframe_octets * 1) (image_of ones24)) (For by_one_header) zero_tables (index_for 1) (report_for 1) six 0).answer ≡ over six 0 answer_numbers (0 ∷ 0 ∷ 1 ∷ 24 ∷ 0 ∷ 0 ∷ [])
@@ -128,7 +129,7 @@ pub read_told : (ch : Choices) → Tells P.says48 (P.all_hurt P.says48) zero_tab
     (dsr_read (P.all_hurt P.says48) (For ch) zero_tables index48 report48 six 0).index (dsr_read (P.all_hurt P.says48) (For ch) zero_tables index48 report48 six 0).report
 read_told ch =
     let three : multiframes_of P.says48 ≡ 3 = P.three_multiframes in
-    let w = P.wider_met ch P.says48 (omega arith) in
+    let w = PM.wider_met ch P.says48 (omega arith) in
     let n = N.names_wider ch P.says48 (P.all_hurt P.says48) zero_tables index48 report48 w in
     c_names_if_read ch P.says48 (P.all_hurt P.says48) zero_tables index48 report48 six 0 w.damage (answers_0 ch (P.all_hurt P.says48) (multiframes_of P.says48) n.given n.succeeds)
 
@@ -144,7 +145,7 @@ module _ (ch : Choices) (u : Utterance) (enough : Enough ch (multiframes_of u)) 
   zero : (dsr_read sent (For ch) zero_tables (index_for (multiframes_of u)) (report_for (multiframes_of u)) six 0).number ≡ 0
   zero =
       ap (λ (l : List ℕ). (dsr_read l (For ch) zero_tables (index_for (multiframes_of u)) (report_for (multiframes_of u)) six 0).number) sent_is
-      ∙ answers_0 ch (image_of u) (multiframes_of u) (spoken u) (P.without_warning ch u enough zero_tables (index_for (multiframes_of u)) (report_for (multiframes_of u)) (lent_zeros (multiframes_of u))).succeeds
+      ∙ answers_0 ch (image_of u) (multiframes_of u) (spoken u) (PM.without_warning ch u enough zero_tables (index_for (multiframes_of u)) (report_for (multiframes_of u)) (lent_zeros (multiframes_of u))).succeeds
 
   pub link_told : Tells (called u.settings.rate u.settings.kind u.indices (room_for u) (call_met u)) sent zero_tables
       (dsr_read sent (For ch) zero_tables (index_for (multiframes_of u)) (report_for (multiframes_of u)) six 0).number

@@ -1,7 +1,6 @@
 pub mod Misled
 pub mod Trusted
 pub mod Heard
-pub mod IfRead
 pub mod Ruled
 pub mod Flipped
 pub mod Met

@@ -36,6 +36,7 @@ use Rattle.demands.specs.NamesTheDamage as N
 use Rattle.demands.specs.ReadsBack.{spoken, padded, mended_report}
 use Rattle.demands.specs.WritesAgain as A
 use Rattle.promises.specs.Heard as H
+use Rattle.promises.proofs.Heard.{heard_whole, last_heard}
 
 module _ (ch : Choices) (u : Utterance) (s : List ℕ) (d : DamageUpTo 3 (multiframes_of u) (image_of u) s) (tables : Tables) (index report : List ℕ) (given : Summary)
     (e : (reading ch s tables index report).answer ≡ Read given) where
@@ -125,8 +126,8 @@ module _ (ch : Choices) (u : Utterance) (s : List ℕ) (d : DamageUpTo 3 (multif
   pub heard_if_read : ((q : ℕ) → q < pairs_of u → pair_note_in (reading ch s tables index report).report q ≡ 0)
       → reading ch s tables index report
       ≡ outcome (Read (spoken u)) (over index 0 (index_octets * multiframes_of u) (padded u)) (over report 0 (report_octets * multiframes_of u) (mended_report u s))
-  heard_if_read = H.heard_whole ch u s tables index report wider_if_read
+  heard_if_read = heard_whole ch u s tables index report wider_if_read
 
   -- LAST HEARD, IF IT IS READ: no pair of the last multiframe named
   pub last_if_read : H.LastUnnamed ch u s tables index report wider_if_read → (given.speech ≡ frame_count u.indices) × (given.end ≡ 1)
-  last_if_read none = H.last_heard ch u s tables index report wider_if_read none given e
+  last_if_read none = last_heard ch u s tables index report wider_if_read none given e
