@@ -31,9 +31,9 @@ use Rattle.settling.specs.declared.Settlement.TheVariants as S
 use Rattle.until_settled.specs.declared.Answer.{Answer}
 use Rattle.until_settled.specs.declared.Answer.TheVariants.{Refused}
 use Rattle.until_settled.specs.UntilSettled.{read_until, settled_answer, end_answer, unsettled_answer, until_settled}
-use Rattle.until_settled.specs.Agreeing.{one_more, one_more_read}
+use Rattle.until_settled.proofs.Agreeing.{one_more, one_more_read}
 use Rattle.until_settled.specs.Front.{Front, start, met, stepped, readings_more}
-use Rattle.until_settled.specs.Laws.{settles_here, ends_here}
+use Rattle.until_settled.proofs.Laws.{settles_here, ends_here}
 
 -- ---- the stored readings, opened, with one more
 open_more : (l : List ℕ) (x : ℕ) → open_all (l ++ (x ∷ [])) ≡ open_all l ++ (opened x ∷ [])

@@ -50,7 +50,7 @@ use Rattle.writer.specs.Utterance.{Utterance, multiframes_of, pairs_of, image_of
 use Rattle.writer.proofs.Utterance.{is_accepted, whole_frames, writes}
 use Rattle.writer.proofs.Accepted.{last_speaks}
 use Rattle.damage.specs.Damage.{DamageUpTo, Damage, loosened, header_flips}
-use Rattle.damage.specs.Damages.{unharmed}
+use Rattle.damage.proofs.Damages.{unharmed}
 use Rattle.demands.specs.Whole.{row_of, Lent, nothing_replaced}
 use Rattle.demands.specs.Headers.{Settling, CanSettle, can_settle, enough, sent_common, note_of_header, settings_sent}
 use Rattle.demands.specs.Received.{BadBefore, BadPair, Tells, is_so, not_so, tells_bad}

@@ -41,7 +41,7 @@ use Rattle.writer.specs.Utterance.{Utterance, multiframes_of, image_of}
 use Rattle.writer.proofs.Utterance.{whole_frames, writes}
 use Rattle.writer.specs.declared.Answer.TheVariants.{Written}
 use Rattle.damage.specs.Damage.{Damage, sent_message}
-use Rattle.damage.specs.Damages.{damage_made}
+use Rattle.damage.proofs.Damages.{damage_made}
 use Rattle.demands.specs.Whole.{Lent, front_at}
 use Rattle.demands.specs.Received.{BadPair}
 use Rattle.demands.specs.ReadsBack.{spoken, padded, no_more, reads_image}

@@ -58,8 +58,9 @@ use Rattle.writer.specs.Utterance.{Utterance, multiframes_of, pairs_of, image_of
 use Rattle.writer.proofs.Utterance.{is_accepted, rate_not_2}
 use Rattle.writer.specs.declared.Answer.TheVariants.{Written}
 use Rattle.damage.specs.Damage.{Damage, loosened, header_flips, sent_message, header_near, differs}
-use Rattle.damage.specs.Damages.{damage_made, unharmed}
-use Rattle.damage.specs.Instances.{lone, small_lone, says1, past_packet}
+use Rattle.damage.proofs.Damages.{damage_made, unharmed}
+use Rattle.damage.specs.Instances.{lone, small_lone, says1}
+use Rattle.damage.proofs.Instances.{past_packet}
 use Rattle.demands_met.specs.Met.{index_for, report_for, lent_zeros, hurt_word, hurt_stream, hurt_image, hurts}
 use Rattle.demands.specs.Whole.{row_of, Lent, refuses_16, refuses_20}
 use Rattle.demands.specs.Headers.{CanSettle, enough, settles, touched_unsettles, default_unsettles, sent_common, rate_sent, exp_sent}

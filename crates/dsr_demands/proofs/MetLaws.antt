@@ -19,7 +19,8 @@ use Rattle.settling.specs.Laws.{Enough}
 use Rattle.entries.specs.Entries.{answer_numbers, summary_numbers, Returned, returned, dsr_write, dsr_read}
 use Rattle.entries.specs.Bits.{dsr_read_bits}
 use Rattle.damage.specs.Damage.{DamageUpTo, header_bits, loosened, header_flips}
-use Rattle.damage.specs.Instances.{says1, says2, hurt1, equal_images}
+use Rattle.damage.specs.Instances.{says1, says2, hurt1}
+use Rattle.damage.proofs.Instances.{equal_images}
 use Rattle.demands_met.specs.Met.{index_for, report_for, lent_zeros, writes_again_met, says24, hurt_image, names_says24}
 use Rattle.demands.specs.ReadsBack.{spoken}
 use Rattle.hunting_demands.specs.Aired.{aired, aired_on_air, names_aired_24}

@@ -18,7 +18,7 @@ use Rattle.settling.specs.Laws.{Enough}
 use Rattle.entries.specs.Entries.{answer_numbers, Returned, dsr_read}
 use Rattle.entries.specs.Bits.{dsr_read_bits}
 use Rattle.damage.specs.Damage.{loosened, header_flips, DamageUpTo}
-use Rattle.damage.specs.Damages.{unharmed}
+use Rattle.damage.proofs.Damages.{unharmed}
 use Rattle.demands_met.specs.Met.{index_for, report_for, lent_zeros, says24}
 use Rattle.demands.specs.NamesTheDamage as N
 use Rattle.demands.specs.ReadsBack.{spoken}

@@ -10,7 +10,8 @@ use Rattle.packet.proofs.Laws.{get_or_row}
 use Rattle.writer.specs.Utterance.{image_of}
 use Rattle.entries.specs.Entries.{dsr_write}
 use Rattle.damage.specs.Damage.{DamageUpTo, header_bits, header_flips, Touched}
-use Rattle.damage.specs.ToldApart.{Alike, told_by_one}
+use Rattle.damage.specs.ToldApart.{Alike}
+use Rattle.damage.proofs.ToldApart.{told_by_one}
 use Rattle.dsr_demands.specs.Called.{Call, octets_of, count_of, called, place_is, octets_are}
 
 -- two calls, and octets that both outputs can be damaged into

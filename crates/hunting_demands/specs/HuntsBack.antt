@@ -35,7 +35,7 @@ use Rattle.writer.specs.Utterance.{Utterance, multiframes_of, pairs_of, image_of
 use Rattle.writer.proofs.Utterance.{is_accepted}
 use Rattle.demands.specs.Headers.{CanSettle, can_settle}
 use Rattle.damage.specs.Damage.{Damage, header_flips, header_read_lem}
-use Rattle.damage.specs.Damages.{unharmed}
+use Rattle.damage.proofs.Damages.{unharmed}
 use Rattle.demands_met.specs.Needed.{default_unsettled}
 use Rattle.demands.specs.Whole.{Lent}
 use Rattle.demands.specs.ReadsBack.{spoken, padded, reads_mended}

@@ -47,7 +47,7 @@ use Rattle.gathering.specs.Gathering.{outside_of}
 use Rattle.hunting.specs.Hunting.{counted, outcome, hunting_reading}
 use Rattle.hunting.specs.declared.Answer.TheVariants.{Read, Refused}
 use Rattle.refusals.specs.declared.Hunting.TheVariants.{Octets}
-use Rattle.damage.specs.Damages.{unharmed}
+use Rattle.damage.proofs.Damages.{unharmed}
 use Rattle.demands_met.specs.Needed.{default_unsettled}
 use Rattle.image.specs.Made.{Small, sync_in, word_in, stream_in, packet_in, made, length_made, small_made, made_sync, made_word, made_stream}
 use Rattle.image.proofs.Laws.{length_image, image_small, image_sync, image_word, image_stream}

@@ -33,7 +33,8 @@ use Rattle.until_settled.specs.declared.Answer.{Answer}
 use Rattle.until_settled.specs.declared.Answer.TheVariants.{Read, Refused}
 use Rattle.until_settled.specs.UntilSettled.{read_until, settled_answer, end_answer, answer_by, until_settled}
 use Rattle.until_settled.specs.Front.{Front, start, met}
-use Rattle.until_settled.specs.Laws.{headers, settling_end, only_the_front, longer, ends_here}
+use Rattle.until_settled.specs.Laws.{headers, settling_end}
+use Rattle.until_settled.proofs.Laws.{only_the_front, longer, ends_here}
 use Rattle.page_images.specs.Headers.{ReadsAs, clean, word_of}
 use Rattle.page_images.specs.Headers as Headers
 use Rattle.page_received.specs.Received.{headed, count1, count2, flipped, lost, exp9, rate2, one, two, again, length_again, part_again, octet_again, all_lost, read_1, read_2, read_exp, read_flipped, read_rate_2, read_lost, usable_8, common_16, cut_one, head_one, cut_two, heads_two, cut_twice, heads_twice, cut_exp_twice, heads_exp_twice, read_flipped_2}

@@ -40,7 +40,7 @@ use Rattle.image.proofs.Laws.{image_packet}
 use Rattle.writer.specs.Utterance.{Utterance, multiframes_of, pairs_of, image_of}
 use Rattle.recordings.specs.CutOff as C
 use Rattle.damage.specs.Damage.{DamageUpTo, Damage, header_bits, Touched, differs, header_flips, sent_message, header_near, header_read_lem}
-use Rattle.damage.specs.Damages.{unharmed}
+use Rattle.damage.proofs.Damages.{unharmed}
 use Rattle.demands.specs.Headers.{sent_common, others_sent, TwoReadable}
 use Rattle.demands.specs.Received.{BadPair}
 use Rattle.demands.specs.ReadsBack.{spoken, no_more, never_bad, reads_image}

@@ -65,7 +65,7 @@ use Rattle.demands.specs.NamesTheDamage as N
 use Rattle.demands.specs.ReadsBack.{spoken, reads_image, reads_mended}
 use Rattle.damage.specs.Instances.{lone, says1}
 use Rattle.demands_met.specs.Met.{index_for, report_for, lent_zeros, says24, two_multiframes, settings_24, frames_24}
-use Rattle.damage.specs.Damages.{unharmed}
+use Rattle.damage.proofs.Damages.{unharmed}
 use Rattle.recordings.specs.First as F
 use Rattle.recordings.specs.CutOff as C
 use Rattle.recordings.specs.Inverse.{inverses, inverses_length, inverses_behind}

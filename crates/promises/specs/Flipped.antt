@@ -60,7 +60,7 @@ use Rattle.writer.proofs.Laws.{few_multiframes, accepts}
 use Rattle.writer.specs.Utterance.{Utterance, multiframes_of, pairs_of, image_of}
 use Rattle.writer.proofs.Utterance.{is_accepted, kind_small, rate_not_2}
 use Rattle.damage.specs.Damage.{DamageUpTo, Touched, differs, header_flips, sent_message, header_near, header_read_lem}
-use Rattle.damage.specs.Damages.{damage_up_to}
+use Rattle.damage.proofs.Damages.{damage_up_to}
 use Rattle.demands.specs.Whole.{row_of, Lent, pair_note_in, packet_at_lem, readings_are, reads_as}
 use Rattle.demands.specs.Headers.{sent_common, common_sent, rate_sent, exp_sent}
 use Rattle.demands.specs.Received.{ByRule, BadPair}

@@ -55,7 +55,7 @@ use Rattle.image.proofs.Laws.{length_image, image_packet}
 use Rattle.writer.specs.Utterance.{Utterance, multiframes_of, image_of}
 use Rattle.writer.proofs.Utterance.{whole_frames}
 use Rattle.damage.specs.Damage.{Damage, header_flips, header_near}
-use Rattle.damage.specs.Damages.{unharmed}
+use Rattle.damage.proofs.Damages.{unharmed}
 use Rattle.demands.specs.Whole.{row_of, Lent, nothing_replaced}
 use Rattle.demands.specs.Headers.{can_settle, sent_common, common_sent, settings_sent}
 use Rattle.demands_met.specs.Met.{index_for, report_for, lent_zeros}

@@ -22,7 +22,7 @@ use Rattle.image.specs.Made.{packet_in, made, made_word, made_packet}
 use Rattle.image.proofs.Laws.{image_packet}
 use Rattle.writer.specs.Utterance.{Utterance, multiframes_of, pairs_of, image_of}
 use Rattle.damage.specs.Damage.{Damage, Touched, header_flips, sent_message, header_near, differs}
-use Rattle.damage.specs.Damages.{damage_made}
+use Rattle.damage.proofs.Damages.{damage_made}
 
 module _ (u : Utterance) (p : ℕ) where
   -- the packet of pair q, its first bit flipped if it is pair p

@@ -22,7 +22,7 @@ use Rattle.page_received.specs.Settled.{sixteen1}
 use Rattle.until_settled.specs.declared.Answer.TheVariants.{Read, Refused}
 use Rattle.until_settled.specs.UntilSettled.{until_settled}
 use Rattle.until_settled.specs.Laws.{headers, multiframes_read}
-use Rattle.until_settled.specs.Lasting.{default_two}
+use Rattle.until_settled.proofs.Lasting.{default_two}
 use Rattle.until_settled_demands.specs.Full.{CutSays, FullSays}
 use Rattle.until_settled_demands.proofs.FullLaws.{full}
 use Rattle.until_settled_demands.proofs.Numbers.{settle_zero, c_settled}

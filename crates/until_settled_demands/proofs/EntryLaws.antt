@@ -28,8 +28,10 @@ use Rattle.until_settled.specs.declared.Beginning.{Beginning}
 use Rattle.until_settled.specs.declared.Answer.{Answer}
 use Rattle.until_settled.specs.declared.Answer.TheVariants.{Read, Refused}
 use Rattle.until_settled.specs.UntilSettled.{until_settled}
-use Rattle.until_settled.specs.Laws.{headers, Agreed, settling_end, only_the_front, Comes, comes}
-use Rattle.until_settled.specs.Lasting.{OfTwo, stays_longer, unknown_stays, too_many_stays}
+use Rattle.until_settled.specs.Laws.{headers, Agreed, settling_end, Comes}
+use Rattle.until_settled.proofs.Laws.{only_the_front, comes}
+use Rattle.until_settled.specs.Lasting.{OfTwo}
+use Rattle.until_settled.proofs.Lasting.{stays_longer, unknown_stays, too_many_stays}
 use Rattle.dsr_demands.specs.Calls.{told_no_room, told_keeps, read_zero, read_success, read_refused}
 use Rattle.dsr_demands.specs.Called.{Call, called, octets_of, count_of, octets_are}
 use Rattle.until_settled_demands.specs.Entry.{AsRead}

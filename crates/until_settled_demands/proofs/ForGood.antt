@@ -16,8 +16,9 @@ use Rattle.reader.specs.Reading.{reading}
 use Rattle.reader.specs.declared.Answer.TheVariants as R
 use Rattle.until_settled.specs.declared.Answer.TheVariants.{Refused}
 use Rattle.until_settled.specs.UntilSettled.{until_settled}
-use Rattle.until_settled.specs.Laws.{headers, Agreed, settled_read, settled_unfit}
-use Rattle.until_settled.specs.Lasting.{unknown_stays, too_many_stays}
+use Rattle.until_settled.specs.Laws.{headers, Agreed}
+use Rattle.until_settled.proofs.Laws.{settled_read, settled_unfit}
+use Rattle.until_settled.proofs.Lasting.{unknown_stays, too_many_stays}
 use Rattle.until_settled_demands.proofs.FullLaws.{refuses_as_full}
 
 -- where two headers agree, nothing is refused but with 17

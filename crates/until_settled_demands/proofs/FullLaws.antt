@@ -32,8 +32,9 @@ use Rattle.reader.specs.declared.Answer.TheVariants as R
 use Rattle.until_settled.specs.declared.Beginning.{Beginning}
 use Rattle.until_settled.specs.declared.Answer.TheVariants.{Read, Refused}
 use Rattle.until_settled.specs.UntilSettled.{until_settled}
-use Rattle.until_settled.specs.Agreeing.{front_enough}
-use Rattle.until_settled.specs.Laws.{headers, Agreed, multiframes_read, settled_read, settled_unfit, refuses_cut, refuses_empty, whole_settles}
+use Rattle.until_settled.proofs.Agreeing.{front_enough}
+use Rattle.until_settled.specs.Laws.{headers, Agreed, multiframes_read}
+use Rattle.until_settled.proofs.Laws.{settled_read, settled_unfit, refuses_cut, refuses_empty, whole_settles}
 use Rattle.until_settled_demands.specs.Full.{Answers, CutSays, FullSays, GivesSettled}
 
 module _ (ch : Choices) (s : List ℕ) where

@@ -19,7 +19,8 @@ use Rattle.demands.specs.Headers.{settings_sent}
 use Rattle.until_settled.specs.declared.Beginning.{Beginning}
 use Rattle.until_settled.specs.declared.Answer.TheVariants.{Read, Refused}
 use Rattle.until_settled.specs.UntilSettled.{until_settled}
-use Rattle.until_settled.specs.Laws.{headers, multiframes_read, settled_read, whole_settles}
+use Rattle.until_settled.specs.Laws.{headers, multiframes_read}
+use Rattle.until_settled.proofs.Laws.{settled_read, whole_settles}
 use Rattle.until_settled_demands.proofs.WrittenLaws.{usable}
 use Rattle.until_settled_demands.proofs.Sent.{cut_so, count, settled_so, agreed_sent}
 

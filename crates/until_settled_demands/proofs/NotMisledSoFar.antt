@@ -11,7 +11,8 @@ use Rattle.damage.specs.Damage.{header_flips}
 use Rattle.until_settled.specs.declared.Beginning.{Beginning}
 use Rattle.until_settled.specs.declared.Answer.TheVariants.{Read}
 use Rattle.until_settled.specs.UntilSettled.{until_settled}
-use Rattle.until_settled.specs.Lasting.{OfTwo, stays_longer}
+use Rattle.until_settled.specs.Lasting.{OfTwo}
+use Rattle.until_settled.proofs.Lasting.{stays_longer}
 use Rattle.until_settled_demands.proofs.NotMisled.{not_misled}
 
 module _ (ch : Choices) (u : Utterance) (s : List ℕ) (two : 2 ≤ multiframes_of u) (size : length s ≡ multiframe_octets * multiframes_of u)

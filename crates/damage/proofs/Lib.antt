@@ -1,0 +1,3 @@
+pub mod Damages
+pub mod ToldApart
+pub mod Instances
