@@ -37,7 +37,8 @@ use Rattle.demands_met.specs.Met.{index_for, report_for, lent_zeros}
 use Rattle.demands_met.specs.Needed.{default_1}
 use Rattle.demands.specs.ReadsBack.{spoken, reads_image}
 use Rattle.hunting_demands.specs.Met as H
-use Rattle.hunting_demands.specs.HuntsBack.{one_shifted_refused}
+use Rattle.hunting_demands.proofs.MetLaws as HL
+use Rattle.hunting_demands.proofs.HuntsBack.{one_shifted_refused}
 use Rattle.dsr_demands.specs.Calls.{read_keeps, read_refused, read_success, read_zero, bits_kept, bits_refused, bits_success, bits_zero}
 use Rattle.dsr_demands.specs.Met.{six, eight}
 use Rattle.dsr_demands.specs.Chosen.{Numbers, OneMultiframe}
@@ -195,7 +196,7 @@ one_multiframe =
     (ap (λ (o : R.Outcome). o.answer) (reads_image by_one_header says1 (inr refl) zero_tables i r (lent_zeros 1))) in
     let o = G.hunting_reading by_one_header (H.shifted_octets says1) 0 16 zero_tables i r in
     let f = bits_success eight 0 i r o (lit≤ tt) (record { summary = spoken says1; outside = 8; tested = 4 })
-    (ap (λ (x : G.Outcome). x.answer) (H.one_shifted says1 by_one_header refl refl 16 (lit≤ tt) (lit≤ tt) zero_tables i r (lent_zeros 1))) in
+    (ap (λ (x : G.Outcome). x.answer) (HL.one_shifted says1 by_one_header refl refl 16 (lit≤ tt) (lit≤ tt) zero_tables i r (lent_zeros 1))) in
     record {
       by_default_lem = read_refused by_default (image_of says1) zero_tables i r six 0 Unsettled (lit≤ tt) (ap (λ (o : R.Outcome). o.answer) default_1);
       asked_for_number = ap (λ (x : Returned). x.number) e;
@@ -203,7 +204,7 @@ one_multiframe =
       asked_for_index = ap (λ (x : Returned). x.index) e ∙ ap (λ (o : R.Outcome). o.index) (reads_image by_one_header says1 (inr refl) zero_tables i r (lent_zeros 1));
       bits_by_default = bits_refused by_default (H.shifted_octets says1) 0 16 zero_tables i r eight 0 (Octets Unsettled) (lit≤ tt)
           (ap (λ (x : G.Outcome). x.answer)
-          (one_shifted_refused by_one_header says1 (H.shifted_octets says1) 0 16 H.three_zeros H.five_zeros (H.shifted_met says1 by_one_header 16 (lit≤ tt)) (inr refl) zero_tables i r (lit≤ tt) (lit≤ tt)
+          (one_shifted_refused by_one_header says1 (H.shifted_octets says1) 0 16 H.three_zeros H.five_zeros (HL.shifted_met says1 by_one_header 16 (lit≤ tt)) (inr refl) zero_tables i r (lit≤ tt) (lit≤ tt)
           (lent_zeros 1) by_default refl refl));
       bits_asked_for = ap (λ (x : Returned). x.answer) f;
     }

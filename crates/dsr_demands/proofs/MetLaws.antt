@@ -23,7 +23,8 @@ use Rattle.damage.specs.Instances.{says1, says2, hurt1}
 use Rattle.damage.proofs.Instances.{equal_images}
 use Rattle.demands_met.specs.Met.{index_for, report_for, lent_zeros, writes_again_met, says24, hurt_image, names_says24}
 use Rattle.demands.specs.ReadsBack.{spoken}
-use Rattle.hunting_demands.specs.Aired.{aired, aired_on_air, names_aired_24}
+use Rattle.hunting_demands.specs.Aired.{aired}
+use Rattle.hunting_demands.proofs.Aired.{aired_on_air, names_aired_24}
 use Rattle.hunting_demands.specs.Radio.{together}
 use Rattle.dsr_demands.specs.Calls.{read_success}
 use Rattle.dsr_demands.specs.Back.{BackPremises, AgainPremises}

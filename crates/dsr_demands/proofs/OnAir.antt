@@ -38,8 +38,11 @@ use Rattle.promises.proofs.Misled.{never_misled}
 use Rattle.promises.proofs.Trusted.{trusted}
 use Rattle.hunting_demands.specs.Standing.{tested_in_row}
 use Rattle.hunting_demands.specs.HuntsBack as B
-use Rattle.hunting_demands.specs.Radio.{together, Caught, OnAir, on_air, found_on_air, flips_few, together_size, together_syncs, received_packet, packet_there, flips_there}
+use Rattle.hunting_demands.proofs.HuntsBack as BL
+use Rattle.hunting_demands.specs.Radio.{together, Caught, OnAir, received_packet}
+use Rattle.hunting_demands.proofs.Radio.{on_air, found_on_air, flips_few, together_size, together_syncs, packet_there, flips_there}
 use Rattle.hunting_demands.specs.Radio as Radio
+use Rattle.hunting_demands.proofs.Radio as RadioLaws
 use Rattle.dsr_demands.specs.Calls.{bits_success, bits_zero, beyond}
 use Rattle.dsr_demands.specs.Named.{Tells, header_note_at, pair_note_at}
 use Rattle.dsr_demands.proofs.Named.{tells, beyond_both}
@@ -69,7 +72,7 @@ module _ (u : Utterance) (s : List ℕ) (from at least : ℕ) (tables : Tables) 
   pub c_names_on_air : (ch : Choices) (a : OnAir u s from at least) → Radio.Premises ch u s from at least a tables index report → counted_numbers ≤ length answer
       → Tells u (together u s at) tables (c ch).number (c ch).answer (c ch).index (c ch).report × (Stood × Counts ch)
   c_names_on_air ch a p room =
-      let n = Radio.names_on_air ch u s from at least a tables index report p in
+      let n = RadioLaws.names_on_air ch u s from at least a tables index report p in
       let e = bits_success answer place index report (o ch) room n.given n.succeeds in
       let f : (k : ℕ) → get_or (c ch).answer k 0 ≡ get_or (over answer 0 counted_numbers (numbers_of n.given)) k 0 = λ k. ap (λ (x : Returned). get_or x.answer k 0) e in (
         tells u (together u s at) tables n.given.summary (c ch).answer (c ch).index (c ch).report
@@ -102,7 +105,7 @@ module _ (u : Utterance) (s : List ℕ) (from at least : ℕ) (tables : Tables) 
       → HearsAll ch × (((k : ℕ) → k < multiframes_of u → header_note_at (c ch).report k ≡ received_flips u s at k)
       × (((k j : ℕ) → k < multiframes_of u → j < multiframe_pairs → pair_note_at (c ch).report k j ≡ 0) × Counts ch))
   c_hunts_back ch p room =
-      let q = B.hunts_back ch u s from at least tables index report p in
+      let q = BL.hunts_back ch u s from at least tables index report p in
       let g : Counted = record { summary = spoken u; outside = outside_of (bits s) from (multiframes_of u); tested = tested_in_row (bits s) from at (multiframes_of u) } in
       let r : (o ch).answer ≡ Read g = ap (λ (x : G.Outcome). x.answer) q in
       let e = bits_success answer place index report (o ch) room g r in (

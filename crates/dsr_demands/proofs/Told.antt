@@ -28,9 +28,11 @@ use Rattle.promises.proofs.MetLaws as PM
 use Rattle.recordings.specs.Said.{ones24}
 use Rattle.recordings.specs.CutOff.{first_of_24}
 use Rattle.hunting_demands.specs.Met as HM
-use Rattle.hunting_demands.specs.Met.{two_ones}
-use Rattle.hunting_demands.specs.HuntsBack.{shifted_hold}
-use Rattle.hunting_demands.specs.Aired.{aired, aired_on_air, names_aired_24}
+use Rattle.hunting_demands.proofs.MetLaws as HML
+use Rattle.hunting_demands.proofs.MetLaws.{two_ones}
+use Rattle.hunting_demands.proofs.HuntsBack.{shifted_hold}
+use Rattle.hunting_demands.specs.Aired.{aired}
+use Rattle.hunting_demands.proofs.Aired.{aired_on_air, names_aired_24}
 use Rattle.dsr_demands.proofs.Linked.{c_link_names}
 use Rattle.dsr_demands.specs.Called.{octets_of, count_of, called, octets_are}
 use Rattle.dsr_demands.specs.Calls.{read_success}
@@ -121,7 +123,7 @@ pub air_back : (ch : Choices) (u : Utterance) → Enough ch (multiframes_of u) �
 air_back ch u enough =
     let m = multiframes_of u in
     (OL.c_hunts_back u (HM.shifted_octets u) 0 3 fewest_matches zero_tables (index_for m) (report_for m) eight 0 ch
-    (shifted_hold ch u (HM.shifted_octets u) 0 fewest_matches HM.three_zeros HM.five_zeros (HM.shifted_met u ch fewest_matches (lit≤ tt)) enough zero_tables (index_for m) (report_for m) (lit≤ tt) (lit≤ tt) (lent_zeros m)) (lit≤ tt)).0
+    (shifted_hold ch u (HM.shifted_octets u) 0 fewest_matches HM.three_zeros HM.five_zeros (HML.shifted_met u ch fewest_matches (lit≤ tt)) enough zero_tables (index_for m) (report_for m) (lit≤ tt) (lit≤ tt) (lent_zeros m)) (lit≤ tt)).0
 
 -- IF IT IS READ: three multiframes, the second header lost, two packets damaged: the notes are told
 pub read_told : (ch : Choices) → Tells P.says48 (P.all_hurt P.says48) zero_tables

@@ -1,0 +1,5 @@
+pub mod HuntsBack
+pub mod MetLaws
+pub mod Needed
+pub mod Radio
+pub mod Aired
