@@ -16,7 +16,9 @@ use Rattle.entries.specs.Entries.{answer_numbers, Returned, returned, returning,
 use Rattle.damage.specs.Damage.{Damage}
 use Rattle.demands.specs.Whole.{pair_note_in}
 use Rattle.recordings.specs.Chunks.{Refuses}
-use Rattle.recordings.specs.Inverse.{found, one_inverse, spaced, spaced_image}
+use Rattle.recordings.specs.Inverse.{found, spaced}
+use Rattle.recordings.proofs.Spaced.{spaced_image}
+use Rattle.recordings.proofs.Inverse.{one_inverse}
 use Rattle.recordings.specs.CutOff.{cut_off_answer, cut_inside_damaged}
 use Rattle.recordings.specs.CutDamaged.{cut_off_told_damaged}
 use Rattle.dsr_demands.specs.Calls.{told_refused, read_zero}

@@ -26,7 +26,7 @@ use Rattle.promises.specs.Flipped.{flipped, but_one, rate_bits}
 use Rattle.promises.specs.Met as P
 use Rattle.promises.proofs.MetLaws as PM
 use Rattle.recordings.specs.Said.{ones24}
-use Rattle.recordings.specs.CutOff.{first_of_24}
+use Rattle.recordings.proofs.CutOff.{first_of_24}
 use Rattle.hunting_demands.specs.Met as HM
 use Rattle.hunting_demands.proofs.MetLaws as HML
 use Rattle.hunting_demands.proofs.MetLaws.{two_ones}

@@ -68,7 +68,8 @@ use Rattle.demands_met.specs.Met.{index_for, report_for, lent_zeros, says24, two
 use Rattle.damage.proofs.Damages.{unharmed}
 use Rattle.recordings.specs.First as F
 use Rattle.recordings.specs.CutOff as C
-use Rattle.recordings.specs.Inverse.{inverses, inverses_length, inverses_behind}
+use Rattle.recordings.specs.Inverse.{inverses}
+use Rattle.recordings.proofs.Spaced.{inverses_length, inverses_behind}
 use Rattle.demands_met.specs.Needed.{default_unsettled, eighth, says_eighth, Passes15, passes_15, halfway}
 use Rattle.promises.specs.Misled as M
 use Rattle.promises.proofs.Misled.{never_misled}

@@ -2,7 +2,7 @@
 -- is of no image that was cut off anywhere and is otherwise whole. CutDamaged says what `end` tells with damage besides.
 -- Assumes nothing.
 use Rattle.std.specs.Prelude.{◌≡◌, refl, Bool, false, ℕ, ◌+◌, ◌-◌, ◌*◌, ◌/◌, ◌%◌, ◌≤◌, ◌<◌, length, take, drop, get_or}
-use Rattle.std.proofs.Common.{sym, ◌∙◌, subst, inr, arith, lit<, ne_eqb, lt-ltb, length-drop, length-take-le, take_all, take-add, ext_get_or, get_or-take, get_or-drop}
+use Rattle.std.proofs.Common.{sym, ◌∙◌, subst, arith, lit<, ne_eqb, lt-ltb, length-drop, length-take-le, take_all, take-add, ext_get_or, get_or-take, get_or-drop}
 use Rattle.std.proofs.Math.Path.{ap, ap₂}
 use Rattle.std.proofs.Math.Bool.{not}
 use mathlib.Core.List.{List, [], ◌∷◌, ◌++◌}
@@ -14,11 +14,9 @@ use Rattle.std.proofs.Math.ListN.{replicate}
 use Rattle.lists.specs.Parts.{part, over, length_part}
 use Rattle.lists.specs.Rows.{each_at, same_joined}
 use Rattle.layout.specs.Layout.{frame_indices, data_bits, multiframe_frames, multiframe_pairs, multiframe_octets, most_multiframes, index_octets, report_octets, first_pair, sync, sync_first, sync_second}
-use Rattle.choices.specs.Choices.{by_one_header}
 use Rattle.choices.specs.declared.Choices.{Choices}
-use Rattle.tables.specs.Tables.{Tables, RightTables, zero_tables}
+use Rattle.tables.specs.Tables.{Tables, RightTables}
 use Rattle.settings.specs.declared.Settings.{Settings}
-use Rattle.settings.specs.Settings.{settings}
 use Rattle.frames.specs.Frames.{zero_frame}
 use Rattle.crc.specs.Crc.{right}
 use Rattle.packet.specs.Packet.{packet_of}
@@ -49,7 +47,7 @@ use Rattle.report.specs.Report.{report_part}
 use Rattle.reader.specs.Reading.{index_part, summary, Outcome, outcome, reading, received_frames}
 use Rattle.reader.specs.ReadingLaws.{Accepted}
 use Rattle.reader.specs.declared.Summary.{Summary}
-use Rattle.reader.specs.declared.Answer.TheVariants.{Read, Refused}
+use Rattle.reader.specs.declared.Answer.TheVariants.{Read}
 use Rattle.image.specs.Made.{word_in, packet_in}
 use Rattle.image.proofs.Laws.{length_image, image_packet}
 use Rattle.writer.specs.Utterance.{Utterance, multiframes_of, image_of}
@@ -58,13 +56,10 @@ use Rattle.damage.specs.Damage.{Damage, header_flips, header_near}
 use Rattle.damage.proofs.Damages.{unharmed}
 use Rattle.demands.specs.Whole.{row_of, Lent, nothing_replaced}
 use Rattle.demands.specs.Headers.{can_settle, sent_common, common_sent, settings_sent}
-use Rattle.demands_met.specs.Met.{index_for, report_for, lent_zeros}
 use Rattle.demands.specs.ReadsBack.{spoken, reads_image, zeros, zero_rows, none_bad}
 use Rattle.demands.specs.WritesAgain as A
 use Rattle.recordings.specs.Chunks.{multiframe_count, refused_behind, Chunked, chunked, Refuses, cut_refuses}
-use Rattle.recordings.specs.Inverse.{nothing_14}
 use Rattle.recordings.specs.First as F
-use Rattle.recordings.specs.Said.{ones24}
 
 -- ---- THE FIRST k MULTIFRAMES ALONE, fewer than all
 -- the success answer: the settings sent, k, all of its frames speech, no bad pair, and no end
@@ -286,56 +281,3 @@ cut_inside_damaged ch u s d k j less some short tables index report sized =
     bad =
         cut_sync (length r) (get_or r 0 0) (get_or r 1 0) (multiframe_count c.chunks) (omega (arith, size)) (omega (arith, size)) (omega (arith, count, F.few u s d k (omega arith)))
         (octet 0 some (omega arith)) (λ h. octet 1 (omega (arith, size)) (omega arith))
-
--- and of the image as it was written
-pub cut_inside : (ch : Choices) (u : Utterance) (k j : ℕ) → k < multiframes_of u → 0 < j → j < multiframe_octets → (tables : Tables) (index report : List ℕ) → RightTables tables
-    → Refuses (reading ch (take (multiframe_octets * k + j) (image_of u)) tables index report) index report 13 (multiframe_octets * k)
-cut_inside ch u = cut_inside_damaged ch u (image_of u) (unharmed u)
-
--- and nothing at all is 14, at place 0
-pub nothing_refused : (ch : Choices) (u : Utterance) (tables : Tables) (index report : List ℕ) → RightTables tables
-    → Refuses (reading ch (take 0 (image_of u)) tables index report) index report 14 0
-nothing_refused ch u tables index report sized = nothing_14 ch tables index report sized
-
--- ---- CUT OFF ANYWHERE: whatever is read of fewer octets than the image's is whole multiframes, with end 0
-pub cut_anywhere : (ch : Choices) (u : Utterance) (n : ℕ) → n < length (image_of u) → (tables : Tables) (index report : List ℕ) (given : Summary)
-    → (reading ch (take n (image_of u)) tables index report).answer ≡ Read given → (n ≡ multiframe_octets * given.multiframes) × (given.end ≡ 0)
-cut_anywhere ch u n short tables index report given e =
-    elim (ℕ_discrete (n % multiframe_octets) 0) [
-      | yes z ↦
-          let w : n ≡ multiframe_octets * (n / multiframe_octets) = omega arith in
-          let g = cut_off_answer ch u (n / multiframe_octets) less tables index report given
-          (ap (λ (i : ℕ). (reading ch (take i (image_of u)) tables index report).answer) (sym w) ∙ e) in
-          (w ∙ ap (λ (g : Summary). multiframe_octets * g.multiframes) (sym g), ap (λ (g : Summary). g.end) g)
-      | no z ↦
-          let w : multiframe_octets * (n / multiframe_octets) + n % multiframe_octets ≡ n = omega arith in
-          let r = cut_inside ch u (n / multiframe_octets) (n % multiframe_octets) less (omega arith) (omega arith) tables index report sized in
-          let x : Refused r.refusal ≡ Read given =
-          sym (ap (λ (o : Outcome). o.answer) r.is_refused) ∙ ap (λ (i : ℕ). (reading ch (take i (image_of u)) tables index report).answer) w ∙ e in
-          let y : ◌≡◌ {A = ℕ} 0 1 = cc in
-          absurd (omega arith)
-    ]
-  where
-    less : n / multiframe_octets < multiframes_of u
-    less = omega (arith, length_image u.settings u.indices (multiframes_of u))
-
-    sized : RightTables tables
-    sized =
-        let a = (A.was_read ch (take n (image_of u)) tables index report [] given e).reader_accepts in
-        a.right_tables
-
--- ---- the premises are met
--- of 24 frames of ones the first multiframe alone is read where the caller asks for the old rule: rate 0, one multiframe, 24 frames of speech, end 0
-pub first_of_24 : (reading by_one_header (take multiframe_octets (image_of ones24)) zero_tables (index_for 1) (report_for 1)).answer
-    ≡ Read (record { settings = settings 0 0; multiframes = 1; speech = 24; bad = 0; end = 0 })
-first_of_24 = ap (λ (o : Outcome). o.answer) (cut_off_reads by_one_header ones24 1 (omega arith) (omega arith) (inr refl) zero_tables (index_for 1) (report_for 1) (lent_zeros 1))
-
--- 01's example: 143 octets that open with a sync are 13
-pub received_143 : (ch : Choices) (u : Utterance) (tables : Tables) (index report : List ℕ) → RightTables tables
-    → Refuses (reading ch (take 143 (image_of u)) tables index report) index report 13 0
-received_143 ch u = cut_inside ch u 0 143 (omega arith) (omega arith) (omega arith)
-
--- one octet more than the first multiframe is 13 at the second
-pub received_145 : (ch : Choices) (tables : Tables) (index report : List ℕ) → RightTables tables
-    → Refuses (reading ch (take 145 (image_of ones24)) tables index report) index report 13 144
-received_145 ch = cut_inside ch ones24 1 1 (omega arith) (omega arith) (omega arith)

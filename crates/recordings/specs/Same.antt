@@ -6,7 +6,6 @@ use Rattle.std.proofs.Common.{sym, ◌∙◌, arith}
 use Rattle.std.proofs.Math.Bool.{not}
 use mathlib.Core.List.{List, ◌∷◌}
 use borrow.Author.Tests.{ne_eqb}
-use Rattle.lists.specs.Tests.{when}
 use Rattle.lists.specs.Parts.{part, over}
 use Rattle.lists.specs.Rows.{each, joined, same_each, same_joined}
 use Rattle.layout.specs.Layout.{widths, frame_indices, data_bits, multiframe_pairs, stream_octets, multiframe_octets, index_octets, report_octets, first_pair}

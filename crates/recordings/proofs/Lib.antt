@@ -1,0 +1,4 @@
+pub mod Inverse
+pub mod Spaced
+pub mod CutOff
+pub mod Rests
