@@ -363,7 +363,7 @@ stack: $(BUILD)/library/stack ## octets of stack that a writing, a reading, a se
 
 # docs/DEVELOPING.md has a row for every crate.
 crates-named:
-	@sed -n 's/^\([a-z][a-z0-9_]*\):.*/\1/p' crates.txt | while read -r c; do \
+	@sed -n 's/^\([a-z][a-z0-9_]*\)\( staticlib\)\{0,1\}:.*/\1/p' crates.txt | while read -r c; do \
 	    grep -q "^| $$c |" docs/DEVELOPING.md || { echo "docs/DEVELOPING.md has no row for the crate $$c"; exit 1; }; done
 
 fuzz: $(BUILD)/$(LIB)/fuzz ## random calls of the library for FUZZ_SECONDS, its promises checked after each
@@ -381,7 +381,7 @@ crctable: $(ARCHIVE)
 	$(TOOLS)objdump -h $< | grep -E '\.crctable[^ ]* +0*100 '
 	$(TOOLS)objdump -r $< | grep -m 1 -E 'R_(X86_64_PC32|AARCH64_ADR_PREL_PG_HI21) .*\.crctable'
 
-# What tools/compile made for x86-64 is what rt makes, octet for octet: by the same steps it named aarch64, and left -march out.
+# What tools/compile made for x86-64 is what rt makes, octet for octet: by the same words, but for the target, it made that for aarch64.
 twin: target/staticlib/libdsr.a target/compiled/aarch64/libdsr.a
 	cmp target/compiled/x86_64/libdsr.a $<
 
