@@ -181,7 +181,7 @@ by_one_met u = record {
   damage = flipped_damage u five_else (hit u (λ q. true)) five_lt (length_hit u (λ q. true)) header_bits (λ k h. five_bits_lem k) (λ q h. hit_fates u (λ q. true) q);
   header = 0;
   within = omega arith;
-  five = le_of_eq (flips_are u five_else (hit u (λ q. true)) five_lt 0 (omega arith) ∙ five_flipped);
+  five = omega (arith, flips_are u five_else (hit u (λ q. true)) five_lt 0 (omega arith), five_flipped);
 }
 
 lost_lt : (k : ℕ) → lost_second k < 2 ^ 32
