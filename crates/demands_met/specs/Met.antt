@@ -42,9 +42,11 @@ use Rattle.writer.proofs.Utterance.{whole_frames, writes}
 use Rattle.writer.specs.declared.Answer.TheVariants.{Written}
 use Rattle.damage.specs.Damage.{Damage, sent_message}
 use Rattle.damage.proofs.Damages.{damage_made}
-use Rattle.demands.specs.Whole.{Lent, front_at}
+use Rattle.demands.specs.Whole.{Lent}
+use Rattle.demands.proofs.WholeLaws.{front_at}
 use Rattle.demands.specs.Received.{BadPair}
-use Rattle.demands.specs.ReadsBack.{spoken, padded, no_more, reads_image}
+use Rattle.demands.specs.ReadsBack.{spoken, padded}
+use Rattle.demands.proofs.ReadsBackLaws.{no_more, reads_image}
 use Rattle.demands.specs.ReadsBack as R
 use Rattle.demands.specs.WritesAgain as A
 use Rattle.demands.specs.NamesTheDamage as N

@@ -21,6 +21,7 @@ use Rattle.image.proofs.Laws.{length_image, image_made, image_sync, image_word, 
 use Rattle.writer.proofs.Utterance.{success}
 use Rattle.demands.specs.Noteless.{spoken, count_spoken, speech_lt, speech_le, speech_full}
 use Rattle.demands.specs.WritesAgain as A
+use Rattle.demands.proofs.WritesAgainLaws as AL
 use Rattle.polynomials.specs.Light.{ones_in_lem}
 use Rattle.polynomials.specs.Xor.{xor_swap}
 use Rattle.lists.specs.Tests.{true_false}
@@ -62,9 +63,12 @@ use Rattle.damage.proofs.Damages.{damage_made, unharmed}
 use Rattle.damage.specs.Instances.{lone, small_lone, says1}
 use Rattle.damage.proofs.Instances.{past_packet}
 use Rattle.demands_met.specs.Met.{index_for, report_for, lent_zeros, hurt_word, hurt_stream, hurt_image, hurts}
-use Rattle.demands.specs.Whole.{row_of, Lent, refuses_16, refuses_20}
-use Rattle.demands.specs.Headers.{CanSettle, enough, settles, touched_unsettles, default_unsettles, sent_common, rate_sent, exp_sent}
-use Rattle.demands.specs.Received.{BadPair, Tells, is_so, not_so, tells_bad}
+use Rattle.demands.specs.Whole.{row_of, Lent}
+use Rattle.demands.proofs.WholeLaws.{refuses_16, refuses_20}
+use Rattle.demands.specs.Headers.{CanSettle, sent_common}
+use Rattle.demands.proofs.HeadersLaws.{enough, settles, touched_unsettles, default_unsettles, rate_sent, exp_sent}
+use Rattle.demands.specs.Received.{BadPair, Tells, is_so, not_so}
+use Rattle.demands.proofs.ReceivedLaws.{tells_bad}
 
 -- ---- A SINGLE MENDED HEADER UNSETTLES: of one multiframe, a header that is touched at all is refusal 16, and both buffers stay
 module _ (ch : Choices) (u : Utterance) (s : List ℕ) (d : Damage (multiframes_of u) (image_of u) s) (tables : Tables) (index report : List ℕ)
@@ -315,7 +319,7 @@ module _ (ch : Choices) (s : List ℕ) (tables : Tables) (index report output : 
     (succeeds : (A.result ch s tables index report output given).answer ≡ Read given) (octets : ℕ)
     (accepts : (A.again ch s tables index report output given).answer ≡ Written octets) where
   w : A.WasRead ch s tables index report output given
-  w = A.was_read ch s tables index report output given succeeds
+  w = AL.was_read ch s tables index report output given succeeds
 
   abbrev places : List ℕ
   places = (cutting s).places

@@ -35,7 +35,8 @@ use Rattle.writer.specs.Utterance.{image_of}
 use Rattle.damage.specs.Instances.{says1}
 use Rattle.demands_met.specs.Met.{index_for, report_for, lent_zeros}
 use Rattle.demands_met.specs.Needed.{default_1}
-use Rattle.demands.specs.ReadsBack.{spoken, reads_image}
+use Rattle.demands.specs.ReadsBack.{spoken}
+use Rattle.demands.proofs.ReadsBackLaws.{reads_image}
 use Rattle.hunting_demands.specs.Met as H
 use Rattle.hunting_demands.proofs.MetLaws as HL
 use Rattle.hunting_demands.proofs.HuntsBack.{one_shifted_refused}

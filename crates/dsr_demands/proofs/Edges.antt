@@ -12,7 +12,8 @@ use Rattle.writer.proofs.Laws.{few_multiframes}
 use Rattle.writer.specs.Utterance.{Utterance, multiframes_of, image_of}
 use Rattle.writer.proofs.Utterance.{is_accepted}
 use Rattle.reader.specs.RefusalLaws.{CutUp}
-use Rattle.demands.specs.Whole.{row_of, cut_is}
+use Rattle.demands.specs.Whole.{row_of}
+use Rattle.demands.proofs.WholeLaws.{cut_is}
 use Rattle.damage.specs.Instances.{says1}
 use Rattle.demands_met.specs.Met.{says24, two_multiframes, lent_zeros}
 use Rattle.dsr_demands.specs.Met.{six, eight}

@@ -26,11 +26,14 @@ use Rattle.writer.specs.Utterance.{Utterance, multiframes_of, pairs_of, image_of
 use Rattle.writer.proofs.Utterance.{whole_frames}
 use Rattle.entries.specs.Entries.{answer_numbers, summary_numbers, Returned, returned, dsr_read}
 use Rattle.damage.specs.Damage.{DamageUpTo, header_flips}
-use Rattle.demands.specs.Whole.{front_at, pair_note_in}
+use Rattle.demands.specs.Whole.{pair_note_in}
+use Rattle.demands.proofs.WholeLaws.{front_at}
 use Rattle.demands.specs.Received.{BadPair, Count}
 use Rattle.demands.specs.NamesTheDamage as N
-use Rattle.demands.specs.ReadsBack.{spoken, padded, mended_report, length_padded, padded_at, no_more}
-use Rattle.demands.specs.WritesAgain as A
+use Rattle.demands.proofs.NamesTheDamageLaws as NL
+use Rattle.demands.specs.ReadsBack.{spoken, padded, mended_report}
+use Rattle.demands.proofs.ReadsBackLaws.{length_padded, padded_at, no_more}
+use Rattle.demands.proofs.WritesAgainLaws as A
 use Rattle.promises.specs.Misled as M
 use Rattle.promises.proofs.Misled.{never_misled}
 use Rattle.promises.specs.Trusted as T
@@ -141,11 +144,11 @@ module _ (ch : Choices) (u : Utterance) (s : List ℕ) (tables : Tables) (index 
 
   pub c_names_wider : N.Wider ch u s tables index report → answer_numbers ≤ length answer
       → Tells u s tables c.number c.answer c.index c.report × Stays ch s tables index report answer place
-  c_names_wider p = named (N.names_wider ch u s tables index report p)
+  c_names_wider p = named (NL.names_wider ch u s tables index report p)
 
   pub c_names_the_damage : N.Premises ch u s tables index report → answer_numbers ≤ length answer
       → Tells u s tables c.number c.answer c.index c.report × Stays ch s tables index report answer place
-  c_names_the_damage p = named (N.names_the_damage ch u s tables index report p)
+  c_names_the_damage p = named (NL.names_the_damage ch u s tables index report p)
 
   -- NEVER MISLED at dsr_read: if it answers 0, rate, type and multiframes are those sent
   pub c_never_misled : M.Premises u s → c.number ≡ 0 → (get_or c.answer 0 0 ≡ u.settings.rate) × ((get_or c.answer 1 0 ≡ u.settings.kind) × (get_or c.answer 2 0 ≡ multiframes_of u))

@@ -30,9 +30,10 @@ use Rattle.writer.proofs.Utterance.{whole_frames}
 use Rattle.entries.specs.Entries.{Returned}
 use Rattle.entries.specs.Bits.{counted_numbers, numbers_of, dsr_read_bits}
 use Rattle.damage.specs.Damage.{header_flips}
-use Rattle.demands.specs.Whole.{front_at}
+use Rattle.demands.proofs.WholeLaws.{front_at}
 use Rattle.demands.specs.NamesTheDamage as N
-use Rattle.demands.specs.ReadsBack.{spoken, padded, length_padded, padded_at, no_more}
+use Rattle.demands.specs.ReadsBack.{spoken, padded}
+use Rattle.demands.proofs.ReadsBackLaws.{length_padded, padded_at, no_more}
 use Rattle.promises.specs.Misled as M
 use Rattle.promises.proofs.Misled.{never_misled}
 use Rattle.promises.proofs.Trusted.{trusted}

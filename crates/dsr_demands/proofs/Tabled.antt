@@ -32,7 +32,7 @@ use Rattle.hunting.specs.declared.Counted.{Counted}
 use Rattle.hunting.specs.declared.Answer as GA
 use Rattle.hunting.specs.declared.Answer.TheVariants as GW
 use Rattle.writer.specs.Utterance.{Utterance, image_of}
-use Rattle.demands.specs.WritesAgain as A
+use Rattle.demands.proofs.WritesAgainLaws as A
 use Rattle.entries.specs.Entries.{answer_numbers, Told, numbers, refusal, Given, Returned, returned, answered, returning, told_of, given_of, dsr_read}
 use Rattle.entries.specs.Bits.{counted_numbers, bits_told, bits_given, dsr_read_bits}
 use Rattle.dsr_demands.specs.Calls.{read_zero, read_refused, bits_zero, bits_refused}

@@ -21,10 +21,14 @@ use Rattle.reader.specs.declared.Summary.{Summary}
 use Rattle.reader.specs.declared.Answer.TheVariants.{Read}
 use Rattle.settling.specs.Laws.{Enough}
 use Rattle.entries.specs.Entries.{answer_numbers, summary_numbers, Returned, returned, WriteReturned, dsr_write, dsr_read}
-use Rattle.demands.specs.Whole.{Lent, front_at}
-use Rattle.demands.specs.ReadsBack.{spoken, padded, no_more, length_padded, padded_at}
+use Rattle.demands.specs.Whole.{Lent}
+use Rattle.demands.proofs.WholeLaws.{front_at}
+use Rattle.demands.specs.ReadsBack.{spoken, padded}
+use Rattle.demands.proofs.ReadsBackLaws.{no_more, length_padded, padded_at}
 use Rattle.demands.specs.ReadsBack as R
+use Rattle.demands.proofs.ReadsBackLaws as RL
 use Rattle.demands.specs.WritesAgain as A
+use Rattle.demands.proofs.WritesAgainLaws as AL
 use Rattle.dsr_demands.specs.Called.{Call, called, took, place_is, output_beyond_is}
 use Rattle.dsr_demands.specs.Calls.{beyond, write_zero, read_success, read_zero}
 
@@ -76,7 +80,7 @@ module _ (ch : Choices) (rate kind : ℕ) (indices out : List ℕ) (tables : Tab
     m = multiframes_for (frame_count indices)
 
     b : R.Back ch u tables out index report
-    b = R.reads_back ch u tables out index report (record { headers = p.headers; output_room = (took rate kind indices out call).room; lent = p.lent })
+    b = RL.reads_back ch u tables out index report (record { headers = p.headers; output_room = (took rate kind indices out call).room; lent = p.lent })
 
     -- reading the octets written
     abbrev o : Outcome
@@ -175,7 +179,7 @@ module _ (ch : Choices) (s : List ℕ) (tables : Tables) (index report answer : 
     }
 
     a : A.Again ch s tables index report output g premises
-    a = A.writes_again ch s tables index report output g premises
+    a = AL.writes_again ch s tables index report output g premises
 
     written_again : WrittenAgain
     unfolding premises

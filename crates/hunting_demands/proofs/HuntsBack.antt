@@ -33,12 +33,14 @@ use Rattle.writer.proofs.Laws.{few_multiframes}
 use Rattle.image.proofs.Laws as I
 use Rattle.writer.specs.Utterance.{Utterance, multiframes_of, pairs_of, image_of}
 use Rattle.writer.proofs.Utterance.{is_accepted}
-use Rattle.demands.specs.Headers.{CanSettle, can_settle}
+use Rattle.demands.specs.Headers.{CanSettle}
+use Rattle.demands.proofs.HeadersLaws.{can_settle}
 use Rattle.damage.specs.Damage.{Damage, header_flips, header_read_lem}
 use Rattle.damage.proofs.Damages.{unharmed}
 use Rattle.demands_met.specs.Needed.{default_unsettled}
 use Rattle.demands.specs.Whole.{Lent}
-use Rattle.demands.specs.ReadsBack.{padded, reads_mended}
+use Rattle.demands.specs.ReadsBack.{padded}
+use Rattle.demands.proofs.ReadsBackLaws.{reads_mended}
 use Rattle.hunting_demands.specs.Standing.{place_in_row, row, all_match, at_most_all, passes_there, InARow, tested_in_row, reads_in_a_row, sync_at, image_size, image_small, image_sync, image_word, image_stream}
 use Rattle.hunting_demands.specs.AsRead.{Multiframes, Stands, shifted_syncs, shifted_stands, damaged_cut}
 use Rattle.hunting_demands.specs.HuntsBack.{received_flips, Premise, Begins, Inside, Syncs, Headers, Streams, NoneBefore, NoneBehind, Low, Settled, TablesAndRoom}

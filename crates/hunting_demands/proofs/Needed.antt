@@ -58,8 +58,10 @@ use Rattle.writer.proofs.Laws.{few_multiframes}
 use Rattle.writer.specs.Utterance.{Utterance, multiframes_of, image_of}
 use Rattle.writer.proofs.Utterance.{is_accepted, rate_not_2}
 use Rattle.damage.specs.Damage.{Touched, sent_message, differs}
-use Rattle.demands.specs.Whole.{Lent, row_of, readings_are, cut_is, pair_note_in, front_at, refuses_16}
-use Rattle.demands.specs.Headers.{CanSettle, sent_common, common_sent, rate_sent, exp_sent}
+use Rattle.demands.specs.Whole.{Lent, row_of, pair_note_in}
+use Rattle.demands.proofs.WholeLaws.{readings_are, cut_is, front_at, refuses_16}
+use Rattle.demands.specs.Headers.{CanSettle, sent_common}
+use Rattle.demands.proofs.HeadersLaws.{common_sent, rate_sent, exp_sent}
 use Rattle.damage.specs.Instances.{lone, says1}
 use Rattle.demands_met.specs.Met.{index_for, report_for, lent_zeros, distance, burst_at, double_at, hurt_word, hurt_stream, hurt_image, hurts, names_met, says24, two_multiframes}
 use Rattle.demands_met.specs.Needed.{says1_at11}

@@ -28,6 +28,7 @@ use Rattle.writer.specs.Utterance.{Utterance, multiframes_of, image_of}
 use Rattle.writer.proofs.Utterance.{is_accepted}
 use Rattle.damage.specs.Damage.{Damage, header_read_lem}
 use Rattle.demands.specs.NamesTheDamage as N
+use Rattle.demands.proofs.NamesTheDamageLaws as NL
 use Rattle.hunting_demands.specs.Standing.{place_in_row, row, sync_at, word_at, stream_at, at_most_all, passes_there, InARow, tested_in_row, reads_in_a_row, image_made}
 
 -- octets of m multiframes and nothing else, with any headers and any streams
@@ -138,7 +139,7 @@ module _ (ch : Choices) (u : Utterance) (img s : List ℕ) (from at least : ℕ)
 
     pub names_at_any_bit : Named
     names_at_any_bit =
-        let n = N.names_the_damage ch u img tables index report p.of_image in
+        let n = NL.names_the_damage ch u img tables index report p.of_image in
         record {
           given = record { summary = n.given; outside = outside_of (bits s) from (multiframes_of u); tested = tested_in_row (bits s) from at (multiframes_of u) };
           succeeds = ap (λ (o : G.Outcome). o.answer) read_there

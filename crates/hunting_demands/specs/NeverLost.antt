@@ -35,8 +35,9 @@ use Rattle.hunting.proofs.Says.{image_cut, success}
 use Rattle.hunting.specs.declared.Counted.{Counted}
 use Rattle.hunting.specs.declared.Answer.TheVariants.{Read}
 use Rattle.image.specs.Made.{word_in, framed, length_framed, framed_header}
-use Rattle.demands.specs.Whole.{row_of, readings_are, header_note_in, header_note_is}
-use Rattle.demands.specs.WritesAgain as A
+use Rattle.demands.specs.Whole.{row_of, header_note_in}
+use Rattle.demands.proofs.WholeLaws.{readings_are, header_note_is}
+use Rattle.demands.proofs.WritesAgainLaws as A
 use Rattle.hunting_demands.specs.Standing.{word_at, stream_at, aligned_framed}
 
 -- the header word of a multiframe at the front of octets

@@ -51,8 +51,10 @@ use Rattle.image.proofs.Laws.{length_image, image_small, image_sync, image_word,
 use Rattle.settling.proofs.Laws.{two_or_more}
 use Rattle.writer.specs.Utterance.{multiframes_of, pairs_of, image_of}
 use Rattle.damage.specs.Damage.{any_header, header_flips, header_lost}
-use Rattle.demands.specs.Whole.{Lent, row_of, readings_are, refuses_16}
-use Rattle.demands.specs.ReadsBack.{spoken, padded, reads_image}
+use Rattle.demands.specs.Whole.{Lent, row_of}
+use Rattle.demands.proofs.WholeLaws.{readings_are, refuses_16}
+use Rattle.demands.specs.ReadsBack.{spoken, padded}
+use Rattle.demands.proofs.ReadsBackLaws.{reads_image}
 use Rattle.hunting_demands.specs.Standing.{place_in_row, sync_at, word_at, stream_at, all_match, passes_there, unlike_fails, lost_fails, InARow, tested_in_row}
 use Rattle.hunting_demands.specs.AsRead.{Multiframes, Stands, as_read, shifted_syncs, shifted_stands}
 use Rattle.hunting_demands.specs.HuntsBack.{Premise, Begins, Inside, Syncs, Headers, Streams, NoneBefore, NoneBehind, Low, Settled, TablesAndRoom, Holds}

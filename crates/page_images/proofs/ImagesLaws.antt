@@ -36,7 +36,7 @@ use Rattle.reader.specs.Reading.{reading}
 use Rattle.worked_examples.specs.Examples.{header8}
 use Rattle.worked_examples.specs.Examples as E
 use Rattle.damage.specs.Instances.{says1}
-use Rattle.demands.specs.ReadsBack.{reads_image}
+use Rattle.demands.proofs.ReadsBackLaws.{reads_image}
 use Rattle.page_images.specs.Headers.{same_octets, multiframe_is}
 use Rattle.page_images.specs.Headers as H
 use Rattle.page_images.specs.Images.{Table, dsrlist_input, lent, said, said_first, said_second, spoken_behind}

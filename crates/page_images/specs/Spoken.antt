@@ -37,11 +37,14 @@ use Rattle.writer.specs.Utterance.{Utterance, multiframes_of, pairs_of, image_of
 use Rattle.writer.proofs.Utterance.{writes}
 use Rattle.writer.specs.declared.Answer.TheVariants.{Written}
 use Rattle.damage.specs.Damage.{header_flips, Touched, sent_message, differs, header_near}
-use Rattle.demands.specs.Received.{BadPair, Count, count_once, count_one, count_none}
+use Rattle.demands.specs.Received.{BadPair, Count}
+use Rattle.demands.proofs.ReceivedLaws.{count_once, count_one, count_none}
 use Rattle.demands_met.specs.Met.{index_for, report_for, burst_at, double_at, distance, hurt_word, hurt_stream, hurt_image, length_hurt, part_0, part_1, part_on, zero_consistent, small_ones, reads_back_met, names_met}
 use Rattle.demands.specs.Whole.{header_note_in, pair_note_in}
 use Rattle.demands.specs.ReadsBack as R
+use Rattle.demands.proofs.ReadsBackLaws as RL
 use Rattle.demands.specs.NamesTheDamage as N
+use Rattle.demands.proofs.NamesTheDamageLaws as NL
 use Rattle.tables.specs.Tables.{zero_tables}
 
 -- n frames of ones
@@ -123,7 +126,7 @@ longest =
 -- READS BACK and NAMES THE DAMAGE speak of it
 pub back6119 : (ch : Choices) → R.Back ch says6119 zero_tables (replicate (needed says6119.indices) 0) (index_for (multiframes_of says6119)) (report_for (multiframes_of says6119))
 back6119 ch =
-    R.reads_back ch says6119 zero_tables (replicate (needed says6119.indices) 0) (index_for (multiframes_of says6119)) (report_for (multiframes_of says6119))
+    RL.reads_back ch says6119 zero_tables (replicate (needed says6119.indices) 0) (index_for (multiframes_of says6119)) (report_for (multiframes_of says6119))
     (reads_back_met ch says6119 (inl (omega (arith, longest.multiframes))))
 
 pub names_says6119 : (ch : Choices) → N.Premises ch says6119 (hurt_image says6119) zero_tables (index_for (multiframes_of says6119)) (report_for (multiframes_of says6119))
@@ -131,7 +134,7 @@ names_says6119 ch = names_met says6119 ch (omega (arith, longest.multiframes))
 
 pub named6119 : (ch : Choices) → N.Named ch says6119 (hurt_image says6119) zero_tables (index_for (multiframes_of says6119)) (report_for (multiframes_of says6119))
 named6119 ch =
-    N.names_the_damage ch says6119 (hurt_image says6119) zero_tables (index_for (multiframes_of says6119)) (report_for (multiframes_of says6119)) (names_says6119 ch)
+    NL.names_the_damage ch says6119 (hurt_image says6119) zero_tables (index_for (multiframes_of says6119)) (report_for (multiframes_of says6119)) (names_says6119 ch)
 
 -- ---- and that damage is in every one of its multiframes: two flips in the header, and its first two pairs
 module _ (u : Utterance) (k : ℕ) (h : k < multiframes_of u) where

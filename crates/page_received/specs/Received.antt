@@ -54,8 +54,9 @@ use Rattle.image.specs.Made.{word_in, part_within}
 use Rattle.writer.specs.Writing.{room_answer, verdict, needed}
 use Rattle.writer.specs.Utterance.{Utterance}
 use Rattle.writer.specs.declared.Answer.TheVariants.{Written}
-use Rattle.demands.specs.Whole.{row_of, cut_is, readings_are}
-use Rattle.demands.specs.ReadsBack.{reads_image}
+use Rattle.demands.specs.Whole.{row_of}
+use Rattle.demands.proofs.WholeLaws.{cut_is, readings_are}
+use Rattle.demands.proofs.ReadsBackLaws.{reads_image}
 use Rattle.damage.specs.Instances.{lone, small_lone}
 use Rattle.page_images.specs.Headers.{header, word_of, ReadsAs, clean, flips}
 use Rattle.page_images.specs.Headers as Headers

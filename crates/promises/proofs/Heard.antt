@@ -24,9 +24,11 @@ use Rattle.writer.specs.Utterance.{Utterance, multiframes_of, pairs_of, image_of
 use Rattle.damage.specs.Damage.{Fate, whole, hit, fate}
 use Rattle.demands.specs.Whole.{row_of, pair_note_in}
 use Rattle.demands.specs.Headers.{sent_common}
-use Rattle.demands.specs.Received.{touched_note}
+use Rattle.demands.proofs.ReceivedLaws.{touched_note}
 use Rattle.demands.specs.NamesTheDamage as N
-use Rattle.demands.specs.ReadsBack.{spoken, padded, mended_report, padded_frame, speech_is_n, end_is_1, reads_undamaged}
+use Rattle.demands.proofs.NamesTheDamageLaws as NL
+use Rattle.demands.specs.ReadsBack.{spoken, padded, mended_report}
+use Rattle.demands.proofs.ReadsBackLaws.{padded_frame, speech_is_n, end_is_1, reads_undamaged}
 use Rattle.promises.specs.Heard.{LastUnnamed}
 
 -- the last nonzero frame's place depends on which frames are zero, and on nothing else
@@ -47,7 +49,7 @@ module _ (ch : Choices) (u : Utterance) (s : List ℕ) (tables : Tables) (index 
       by : Fate u s p.damage q h → packet_in s q ≡ packet_in (image_of u) q
       by (whole e r) = e ∙ sym (image_packet u.settings u.indices (multiframes_of u) q h)
       by (hit t r) =
-          let y : ◌≡◌ {A = ℕ} 0 1 = sym z ∙ N.pair_note ch u s tables index report p q h ∙ touched_note u s p.damage tables q h t in
+          let y : ◌≡◌ {A = ℕ} 0 1 = sym z ∙ NL.pair_note ch u s tables index report p q h ∙ touched_note u s p.damage tables q h t in
           absurd (omega arith)
 
   -- HEARD WHOLE: "frames, then zeros, speech = n, end = 1"; the header notes are the flips, three for a lost one
@@ -70,8 +72,8 @@ module _ (ch : Choices) (u : Utterance) (s : List ℕ) (tables : Tables) (index 
   last_zero none k l h =
       let q : k / 2 < pairs_of u = omega arith in
       ap all_zero
-      (N.index_frame ch u s tables index report p k h
-      (sym (N.pair_note ch u s tables index report p (pair_of k) q) ∙ none (pair_of k) (omega arith) q)
+      (NL.index_frame ch u s tables index report p k h
+      (sym (NL.pair_note ch u s tables index report p (pair_of k) q) ∙ none (pair_of k) (omega arith) q)
       ∙ sym (padded_frame u k h))
 
   last_speech : LastUnnamed ch u s tables index report p → speech_of (length (row_of m)) all ≡ frame_count u.indices
@@ -91,6 +93,6 @@ module _ (ch : Choices) (u : Utterance) (s : List ℕ) (tables : Tables) (index 
       → (given.speech ≡ frame_count u.indices) × (given.end ≡ 1)
   last_heard none given e =
       let r : Read given ≡ Read (summary s (row_of m) (received_notes s (row_of m) tables) (sent_common u)) =
-      sym e ∙ ap (λ (o : Outcome). o.answer) (N.read_is ch u s tables index report p) in
+      sym e ∙ ap (λ (o : Outcome). o.answer) (NL.read_is ch u s tables index report p) in
       let g : given ≡ summary s (row_of m) (received_notes s (row_of m) tables) (sent_common u) = cc in
       (ap (λ (x : Summary). x.speech) g ∙ last_speech none, ap (λ (x : Summary). x.end) g ∙ last_end none)

@@ -29,12 +29,17 @@ use Rattle.writer.proofs.Laws.{few_multiframes}
 use Rattle.writer.specs.Utterance.{Utterance, multiframes_of, pairs_of, image_of}
 use Rattle.writer.proofs.Utterance.{is_accepted}
 use Rattle.damage.specs.Damage.{DamageUpTo, header_flips}
-use Rattle.demands.specs.Headers.{sent_enough, Settling, settled_readable, touched_unsettles}
-use Rattle.demands.specs.Received.{BadPair, Tells, is_so, not_so, tells_bad}
-use Rattle.demands.specs.Whole.{row_of, cut_is, pair_note_in}
+use Rattle.demands.specs.Headers.{Settling}
+use Rattle.demands.proofs.HeadersLaws.{sent_enough, settled_readable, touched_unsettles}
+use Rattle.demands.specs.Received.{BadPair, Tells, is_so, not_so}
+use Rattle.demands.proofs.ReceivedLaws.{tells_bad}
+use Rattle.demands.specs.Whole.{row_of, pair_note_in}
+use Rattle.demands.proofs.WholeLaws.{cut_is}
 use Rattle.demands.specs.NamesTheDamage as N
+use Rattle.demands.proofs.NamesTheDamageLaws as NL
 use Rattle.demands.specs.ReadsBack.{spoken, padded, mended_report}
 use Rattle.demands.specs.WritesAgain as A
+use Rattle.demands.proofs.WritesAgainLaws as AL
 use Rattle.promises.specs.Heard as H
 use Rattle.promises.proofs.Heard.{heard_whole, last_heard}
 
@@ -44,7 +49,7 @@ module _ (ch : Choices) (u : Utterance) (s : List ℕ) (d : DamageUpTo 3 (multif
   m = multiframes_of u
 
   w : A.WasRead ch s tables index report [] given
-  w = A.was_read ch s tables index report [] given e
+  w = AL.was_read ch s tables index report [] given e
 
   syncs : (k : ℕ) → k < m → sync_in s k ≡ sync
   syncs k h = d.syncs k h ∙ image_sync u.settings u.indices m k h
@@ -117,7 +122,7 @@ module _ (ch : Choices) (u : Utterance) (s : List ℕ) (d : DamageUpTo 3 (multif
   -- NAMES THE DAMAGE, IF IT IS READ
   pub names_if_read : N.Names u s tables given (reading ch s tables index report).index (reading ch s tables index report).report
   names_if_read =
-      let n = N.names_wider ch u s tables index report wider_if_read in
+      let n = NL.names_wider ch u s tables index report wider_if_read in
       let r : Read n.given ≡ Read given = sym n.succeeds ∙ e in
       let g : n.given ≡ given = cc in
       subst (λ (x : Summary). N.Names u s tables x result.index result.report) g n.names

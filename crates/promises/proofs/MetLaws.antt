@@ -41,11 +41,15 @@ use Rattle.writer.specs.Utterance.{Utterance, multiframes_of, pairs_of, image_of
 use Rattle.recordings.specs.CutOff as C
 use Rattle.damage.specs.Damage.{DamageUpTo, Damage, header_bits, Touched, differs, header_flips, sent_message, header_near, header_read_lem}
 use Rattle.damage.proofs.Damages.{unharmed}
-use Rattle.demands.specs.Headers.{sent_common, others_sent, TwoReadable}
+use Rattle.demands.specs.Headers.{sent_common, TwoReadable}
+use Rattle.demands.proofs.HeadersLaws.{others_sent}
 use Rattle.demands.specs.Received.{BadPair}
-use Rattle.demands.specs.ReadsBack.{spoken, no_more, never_bad, reads_image}
+use Rattle.demands.specs.ReadsBack.{spoken}
+use Rattle.demands.proofs.ReadsBackLaws.{no_more, never_bad, reads_image}
 use Rattle.demands.specs.NamesTheDamage as N
-use Rattle.demands.specs.Whole.{row_of, Lent, front_at, header_note_in, pair_note_in, header_note_is}
+use Rattle.demands.proofs.NamesTheDamageLaws as NL
+use Rattle.demands.specs.Whole.{row_of, Lent, header_note_in, pair_note_in}
+use Rattle.demands.proofs.WholeLaws.{front_at, header_note_is}
 use Rattle.damage.specs.ToldApart.{Near}
 use Rattle.damage.specs.Instances.{says1}
 use Rattle.demands_met.specs.Met.{index_for, report_for, lent_zeros, distance, says24, two_multiframes}
@@ -226,7 +230,7 @@ module _ (ch : Choices) (u : Utterance) (three : 3 ≤ multiframes_of u) (tables
   }
 
   named : N.Named ch u (lost_one u) tables index report
-  named = N.names_wider ch u (lost_one u) tables index report heard_met
+  named = NL.names_wider ch u (lost_one u) tables index report heard_met
 
   pub none_named : (q : ℕ) → q < pairs_of u → pair_note_in (reading ch (lost_one u) tables index report).report q ≡ 0
   none_named q h =
@@ -301,7 +305,7 @@ module _ (ch : Choices) (u : Utterance) (three : 3 ≤ multiframes_of u) where
 
   pub hurt : Hurt ch u
   hurt =
-      let names = (N.names_wider ch u (all_hurt u) zero_tables (index_for (multiframes_of u)) (report_for (multiframes_of u)) wider_met).names in
+      let names = (NL.names_wider ch u (all_hurt u) zero_tables (index_for (multiframes_of u)) (report_for (multiframes_of u)) wider_met).names in
       record {
         lost = names.flips 1 (omega arith) ∙ lost_flips u three (hurt_packet u) 1 (omega arith) ∙ three_flipped;
         first = (names.damaged 0 (omega arith)).1 (touched 0 (omega arith) (burst_hurts u 0));
@@ -342,7 +346,7 @@ module _ (ch : Choices) (u : Utterance) (two : 2 ≤ multiframes_of u) where
 
   pub last_is_heard : LastHeard ch u
   last_is_heard =
-      let x = N.names_wider ch u (earlier_hurt u) zero_tables (index_for (multiframes_of u)) (report_for (multiframes_of u)) last_met_lem in
+      let x = NL.names_wider ch u (earlier_hurt u) zero_tables (index_for (multiframes_of u)) (report_for (multiframes_of u)) last_met_lem in
       let s = last_heard ch u (earlier_hurt u) zero_tables (index_for (multiframes_of u)) (report_for (multiframes_of u)) last_met_lem last_unnamed x.given x.succeeds in
       record {
         named = λ q h.

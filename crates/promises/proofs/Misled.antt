@@ -32,9 +32,12 @@ use Rattle.writer.proofs.Laws.{few_multiframes}
 use Rattle.writer.specs.Utterance.{Utterance, multiframes_of, image_of}
 use Rattle.writer.proofs.Utterance.{is_accepted}
 use Rattle.damage.specs.Damage.{sent_message, header_near}
-use Rattle.demands.specs.Headers.{sent_common, common_sent, settings_sent, settles_nothing_else}
-use Rattle.demands.specs.Whole.{row_of, readings_are, cut_is}
+use Rattle.demands.specs.Headers.{sent_common}
+use Rattle.demands.proofs.HeadersLaws.{common_sent, settings_sent, settles_nothing_else}
+use Rattle.demands.specs.Whole.{row_of}
+use Rattle.demands.proofs.WholeLaws.{readings_are, cut_is}
 use Rattle.demands.specs.WritesAgain as A
+use Rattle.demands.proofs.WritesAgainLaws as AL
 use Rattle.promises.specs.Misled.{OnlyFive, Premises, AsSent}
 
 module _ (ch : Choices) (u : Utterance) (s : List ℕ) (p : Premises u s) where
@@ -75,7 +78,7 @@ module _ (ch : Choices) (u : Utterance) (s : List ℕ) (p : Premises u s) where
 
   module _ (tables : Tables) (index report : List ℕ) (given : Summary) (e : (reading ch s tables index report).answer ≡ Read given) where
     w : A.WasRead ch s tables index report [] given
-    w = A.was_read ch s tables index report [] given e
+    w = AL.was_read ch s tables index report [] given e
 
     common : w.common ≡ sent_common u
     common = settled_sent w.common (sym (ap (λ (ps : List ℕ). settling ch (readings s ps)) cut) ∙ w.reader_accepts.fitting.settles)
@@ -96,7 +99,7 @@ pub none_by_default : (ch : Choices) (u : Utterance) (s : List ℕ) → one_sett
     → (reading ch s tables index report).answer ≡ Read given → ⊥
 none_by_default ch u s default one size syncs tables index report given e =
     let m = multiframes_of u in
-    let w = A.was_read ch s tables index report [] given e in
+    let w = AL.was_read ch s tables index report [] given e in
     let c = cut_is s m (few_multiframes u.settings u.indices (is_accepted u).sizes) (size ∙ length_image u.settings u.indices m)
     (λ k h. syncs k h ∙ image_sync u.settings u.indices m k h) in
     let n : given.multiframes ≡ 1 =

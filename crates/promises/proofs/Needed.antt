@@ -58,11 +58,15 @@ use Rattle.writer.specs.Utterance.{Utterance, multiframes_of, pairs_of, image_of
 use Rattle.writer.proofs.Utterance.{is_accepted, whole_frames}
 use Rattle.writer.proofs.Accepted.{last_speaks}
 use Rattle.damage.specs.Damage.{DamageUpTo, header_bits, loosened, header_flips, sent_message, header_near}
-use Rattle.demands.specs.Whole.{row_of, Lent, refuses_16}
-use Rattle.demands.specs.Headers.{sent_common, heard_as, heard_read, heard_lost, headers_read}
-use Rattle.demands.specs.Received.{touched_note}
+use Rattle.demands.specs.Whole.{row_of, Lent}
+use Rattle.demands.proofs.WholeLaws.{refuses_16}
+use Rattle.demands.specs.Headers.{sent_common, heard_as}
+use Rattle.demands.proofs.HeadersLaws.{heard_read, heard_lost, headers_read}
+use Rattle.demands.proofs.ReceivedLaws.{touched_note}
 use Rattle.demands.specs.NamesTheDamage as N
-use Rattle.demands.specs.ReadsBack.{spoken, reads_image, reads_mended}
+use Rattle.demands.proofs.NamesTheDamageLaws as NL
+use Rattle.demands.specs.ReadsBack.{spoken}
+use Rattle.demands.proofs.ReadsBackLaws.{reads_image, reads_mended}
 use Rattle.damage.specs.Instances.{lone, says1}
 use Rattle.demands_met.specs.Met.{index_for, report_for, lent_zeros, says24, two_multiframes, settings_24, frames_24}
 use Rattle.damage.proofs.Damages.{unharmed}
@@ -225,7 +229,7 @@ headers_unlooked ch u three =
     let m = multiframes_of u in
     let wider = heard_met ch u three zero_tables (index_for m) (report_for m) (lent_zeros m) in
     let note = heard ch u three zero_tables (index_for m) (report_for m) (lent_zeros m) in
-    let flips = (N.names_wider ch u (lost_one u) zero_tables (index_for m) (report_for m) wider).names.flips 0 (omega arith) in
+    let flips = (NL.names_wider ch u (lost_one u) zero_tables (index_for m) (report_for m) wider).names.flips 0 (omega arith) in
     record {
       premises = record { damage = loosened (lit< tt) wider.damage; header = 0; within = omega arith; five = let l = wider.damage.headers 0 (omega arith) in omega arith };
       succeeds = note.succeeds;
@@ -454,7 +458,7 @@ module _ (ch : Choices) (u : Utterance) (two : 2 ≤ multiframes_of u) (full : f
       let z : frame_before r ≡ second_frame (r - 1) = omega arith in
       ap all_zero
       (frame_is i h ∙ ap (λ (k : ℕ). part (frame_indices * k) frame_indices (received_frames got (row_of ms))) (e ∙ z)
-      ∙ (N.frame_in_pair ch u got zero_tables (index_for ms) (report_for ms) wide (r - 1) (omega arith) (good_at (r - 1) (omega arith) (before (r - 1) (omega arith)))).1)
+      ∙ (NL.frame_in_pair ch u got zero_tables (index_for ms) (report_for ms) wide (r - 1) (omega arith) (good_at (r - 1) (omega arith) (before (r - 1) (omega arith)))).1)
       ∙ speaks u (second_frame (r - 1)) (omega arith)
 
   -- and zero where it is taken from behind, or is a good pair's
@@ -463,18 +467,18 @@ module _ (ch : Choices) (u : Utterance) (two : 2 ≤ multiframes_of u) (full : f
   from_behind i h e l =
       ap all_zero
       (frame_is i h ∙ ap (λ (k : ℕ). part (frame_indices * k) frame_indices (received_frames got (row_of ms))) e
-      ∙ (N.frame_in_pair ch u got zero_tables (index_for ms) (report_for ms) wide b l (good_at b l (behind b (omega arith) l))).0
+      ∙ (NL.frame_in_pair ch u got zero_tables (index_for ms) (report_for ms) wide b l (good_at b l (behind b (omega arith) l))).0
       ∙ row_past u.indices (frame_indices * first_frame b) frame_indices (omega (arith, whole_frames u)))
 
   good_silent : (i : ℕ) → first_frame b ≤ i → i < multiframe_frames * ms → zero_frame all i ≡ true
   unfolding zero_frame
   good_silent i l h =
       ap all_zero
-      (N.index_frame ch u got zero_tables (index_for ms) (report_for ms) wide i h (good_at (pair_of i) (omega arith) (behind (pair_of i) (omega arith) (omega arith)))
+      (NL.index_frame ch u got zero_tables (index_for ms) (report_for ms) wide i h (good_at (pair_of i) (omega arith) (behind (pair_of i) (omega arith) (omega arith)))
       ∙ row_past u.indices (frame_indices * i) frame_indices (omega (arith, whole_frames u)))
 
   given_is : (zero_read ch u got).answer ≡ Read (summary got (row_of ms) ns (sent_common u))
-  given_is = ap (λ (o : Outcome). o.answer) (N.read_is ch u got zero_tables (index_for ms) (report_for ms) wide)
+  given_is = ap (λ (o : Outcome). o.answer) (NL.read_is ch u got zero_tables (index_for ms) (report_for ms) wide)
 
   speech_is : (n : ℕ) → last_nonzero all (multiframe_frames * (ms - 1)) multiframe_frames ≡ n → (summary got (row_of ms) ns (sent_common u)).speech ≡ frame_count u.indices + n
   speech_is n e =
@@ -507,7 +511,7 @@ module _ (ch : Choices) (u : Utterance) (two : 2 ≤ multiframes_of u) (full : f
   pub one_more : OneMore ch u
   one_more = record {
     wider = w;
-    named = ((N.names_wider ch u (end_hurt u) zero_tables (index_for (multiframes_of u)) (report_for (multiframes_of u)) w).names.damaged (last_first u) (omega arith)).1
+    named = ((NL.names_wider ch u (end_hurt u) zero_tables (index_for (multiframes_of u)) (report_for (multiframes_of u)) w).names.damaged (last_first u) (omega arith)).1
         (told_touched u is (λ k. 0) (λ k. lit< tt) (last_first u) (omega arith) (eq-eqb (last_first u) (last_first u) refl));
     others = λ q h n. zero_unnamed u (end_hurt u) q (untold_whole u is (λ k. 0) (λ k. lit< tt) q h (ne_eqb q (last_first u) n)) ch h w;
     given = summary (end_hurt u) (row_of (multiframes_of u)) (zero_notes u (end_hurt u)) (sent_common u);

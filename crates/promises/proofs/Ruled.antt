@@ -16,13 +16,15 @@ use Rattle.refusals.specs.declared.Reading.TheVariants.{AllBad}
 use Rattle.reader.specs.declared.Answer.TheVariants.{Refused}
 use Rattle.settling.specs.Laws.{Enough}
 use Rattle.writer.specs.Utterance.{Utterance, multiframes_of, pairs_of, image_of}
-use Rattle.demands.specs.Headers.{can_settle}
+use Rattle.demands.proofs.HeadersLaws.{can_settle}
 use Rattle.damage.specs.Damage.{Touched}
 use Rattle.demands.specs.Whole.{Lent, pair_note_in}
-use Rattle.demands.specs.Received.{Inconsistent, BadBefore, ByRule, BadPair, Count, count_once, count_one, count_none}
+use Rattle.demands.specs.Received.{Inconsistent, BadBefore, ByRule, BadPair, Count}
+use Rattle.demands.proofs.ReceivedLaws.{count_once, count_one, count_none}
 use Rattle.demands_met.specs.Met.{index_for, report_for}
 use Rattle.demands_met.specs.Needed.{all_bad_refuses}
 use Rattle.demands.specs.NamesTheDamage as N
+use Rattle.demands.proofs.NamesTheDamageLaws as NL
 use Rattle.recordings.specs.Hit.{hit_image, hits, is_hit, not_hit, clean_header}
 use Rattle.recordings.specs.Said.{rises23, rises47, rises7, stairs, drops, lent_stairs, lent_drops, inconsistent_23, inconsistent_47, inconsistent_47_falls, inconsistent_7, consistent_7}
 use Rattle.promises.specs.Ruled.{Chain, Stops}
@@ -119,7 +121,7 @@ chain ch u sent p tables index report inconsistent two inside lent = record {
     premises = met u p inside tables ch sent index report lent 0 (omega arith) (good_before u p inside tables 0 (omega arith))
 
     named : N.Named ch u (hit_image u p) tables index report
-    named = N.names_the_damage ch u (hit_image u p) tables index report premises
+    named = NL.names_the_damage ch u (hit_image u p) tables index report premises
 
     note : ℕ → ℕ
     note q = pair_note_in (reading ch (hit_image u p) tables index report).report q

@@ -41,11 +41,14 @@ use Rattle.writer.proofs.Laws.{few_multiframes}
 use Rattle.writer.specs.Utterance.{Utterance, multiframes_of, image_of}
 use Rattle.writer.proofs.Utterance.{is_accepted, settings_right_lem}
 use Rattle.damage.specs.Damage.{DamageUpTo, Damage, header_bits, loosened, sent_message, header_near, Fate, whole, hit, fate}
-use Rattle.demands.specs.Whole.{row_of, Lent, readings_are, cut_is, header_note_in, pair_note_in, header_note_is, pair_note_is}
-use Rattle.demands.specs.Received.{touched_note}
+use Rattle.demands.specs.Whole.{row_of, Lent, header_note_in, pair_note_in}
+use Rattle.demands.proofs.WholeLaws.{readings_are, cut_is, header_note_is, pair_note_is}
+use Rattle.demands.proofs.ReceivedLaws.{touched_note}
 use Rattle.demands.specs.Noteless.{clean_header, is_image}
-use Rattle.demands.specs.ReadsBack.{spoken, padded, reads_image}
+use Rattle.demands.specs.ReadsBack.{spoken, padded}
+use Rattle.demands.proofs.ReadsBackLaws.{reads_image}
 use Rattle.demands.specs.WritesAgain as A
+use Rattle.demands.proofs.WritesAgainLaws as AL
 use Rattle.promises.specs.Trusted.{result, WithoutWarning, AsWritten, Premises}
 
 module _ (ch : Choices) (u : Utterance) (s : List ℕ) (p : Premises u s) (tables : Tables) (index report : List ℕ) (given : Summary)
@@ -66,7 +69,7 @@ module _ (ch : Choices) (u : Utterance) (s : List ℕ) (p : Premises u s) (table
   cut = ap (λ (w : Cutting). w.places) (cut_is s m (few_multiframes u.settings u.indices (is_accepted u).sizes) size syncs)
 
   w : A.WasRead ch s tables index report [] given
-  w = A.was_read ch s tables index report [] given x.succeeds
+  w = AL.was_read ch s tables index report [] given x.succeeds
 
   abbrev places : List ℕ
   places = (cutting s).places

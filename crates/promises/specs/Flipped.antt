@@ -61,10 +61,13 @@ use Rattle.writer.specs.Utterance.{Utterance, multiframes_of, pairs_of, image_of
 use Rattle.writer.proofs.Utterance.{is_accepted, kind_small, rate_not_2}
 use Rattle.damage.specs.Damage.{DamageUpTo, Touched, differs, header_flips, sent_message, header_near, header_read_lem}
 use Rattle.damage.proofs.Damages.{damage_up_to}
-use Rattle.demands.specs.Whole.{row_of, Lent, pair_note_in, packet_at_lem, readings_are, reads_as}
-use Rattle.demands.specs.Headers.{sent_common, common_sent, rate_sent, exp_sent}
+use Rattle.demands.specs.Whole.{row_of, Lent, pair_note_in}
+use Rattle.demands.proofs.WholeLaws.{packet_at_lem, readings_are, reads_as}
+use Rattle.demands.specs.Headers.{sent_common}
+use Rattle.demands.proofs.HeadersLaws.{common_sent, rate_sent, exp_sent}
 use Rattle.demands.specs.Received.{ByRule, BadPair}
 use Rattle.demands.specs.NamesTheDamage as N
+use Rattle.demands.proofs.NamesTheDamageLaws as NL
 use Rattle.demands_met.specs.Met.{index_for, report_for, zero_consistent}
 
 -- ---- how many bits these numbers flip
@@ -401,7 +404,7 @@ module _ (u : Utterance) (s : List ℕ) (q : ℕ) (whole : packet_in s q ≡ pac
 
   pub zero_unnamed : (ch : Choices) → q < pairs_of u → N.Wider ch u s zero_tables (index_for (multiframes_of u)) (report_for (multiframes_of u)) → pair_note_in (zero_read ch u s).report q ≡ 0
   zero_unnamed ch h p =
-      let x = N.names_wider ch u s zero_tables (index_for (multiframes_of u)) (report_for (multiframes_of u)) p in
+      let x = NL.names_wider ch u s zero_tables (index_for (multiframes_of u)) (report_for (multiframes_of u)) p in
       elim (ℕ_discrete (pair_note_in (zero_read ch u s).report q) 0) [
         | yes y ↦ y
         | no n ↦ absurd (never_ruled ((x.names.others q h (λ t. t whole)).0 n))

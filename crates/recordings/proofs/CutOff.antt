@@ -17,7 +17,7 @@ use Rattle.image.proofs.Laws.{length_image}
 use Rattle.writer.specs.Utterance.{Utterance, multiframes_of, image_of}
 use Rattle.damage.proofs.Damages.{unharmed}
 use Rattle.demands_met.specs.Met.{index_for, report_for, lent_zeros}
-use Rattle.demands.specs.WritesAgain as A
+use Rattle.demands.proofs.WritesAgainLaws as A
 use Rattle.recordings.specs.Chunks.{Refuses}
 use Rattle.recordings.proofs.Spaced.{nothing_14}
 use Rattle.recordings.specs.Said.{ones24}

@@ -28,7 +28,8 @@ use Rattle.reader.specs.declared.Answer.TheVariants.{Read}
 use Rattle.image.specs.Made.{packet_in}
 use Rattle.writer.specs.Utterance.{Utterance, multiframes_of, pairs_of}
 use Rattle.damage.specs.Damage.{Fate, whole, hit, fate, not_touched}
-use Rattle.demands.specs.Whole.{row_of, pair_note_in, pair_note_is}
+use Rattle.demands.specs.Whole.{row_of, pair_note_in}
+use Rattle.demands.proofs.WholeLaws.{pair_note_is}
 use Rattle.demands.specs.Headers.{sent_common}
 use Rattle.demands_met.specs.Met.{index_for, report_for, lent_zeros, zero_consistent}
 use Rattle.recordings.specs.First as F

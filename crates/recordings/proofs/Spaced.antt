@@ -27,9 +27,11 @@ use Rattle.writer.proofs.Laws.{few_multiframes}
 use Rattle.writer.specs.Utterance.{Utterance, multiframes_of, image_of}
 use Rattle.writer.proofs.Utterance.{is_accepted}
 use Rattle.damage.specs.Damage.{Damage}
-use Rattle.demands.specs.Whole.{row_of, cut_is}
+use Rattle.demands.specs.Whole.{row_of}
+use Rattle.demands.proofs.WholeLaws.{cut_is}
 use Rattle.demands_met.specs.Met.{index_for, report_for, lent_zeros, hurt_image, hurts, says24, two_multiframes, names_says24}
 use Rattle.demands.specs.NamesTheDamage as N
+use Rattle.demands.proofs.NamesTheDamageLaws as NL
 use Rattle.recordings.specs.First as F
 use Rattle.recordings.specs.Chunks.{multiframe_count, inverse_count, chunk_octets, refused_behind, Refuses, cut_refuses, none_refuses}
 use Rattle.recordings.specs.Inverse.{plain, inverses_change_nothing, found, inverses, spaced_from, spaced, apart24, Apart24, blanks}
@@ -201,7 +203,7 @@ apart_24 ch = record {
         ∙ spaced_image ch says24 (hurt_image says24) (hurts says24) suc zero_tables (index_for 2) (report_for 2)
 
     named : N.Named ch says24 (hurt_image says24) zero_tables (index_for 2) (report_for 2)
-    named = N.names_the_damage ch says24 (hurt_image says24) zero_tables (index_for 2) (report_for 2)
+    named = NL.names_the_damage ch says24 (hurt_image says24) zero_tables (index_for 2) (report_for 2)
         (subst (λ (n : ℕ). N.Premises ch says24 (hurt_image says24) zero_tables (index_for n) (report_for n)) two_multiframes (names_says24 ch))
 
 -- ---- the premises are needed

@@ -28,9 +28,11 @@ use Rattle.reader.specs.declared.Answer.TheVariants.{Read}
 use Rattle.image.specs.Made.{packet_in}
 use Rattle.writer.specs.Utterance.{Utterance, multiframes_of, pairs_of, image_of}
 use Rattle.damage.specs.Damage.{Damage, Fate, whole, hit, fate}
-use Rattle.demands.specs.Whole.{row_of, pair_note_in, pair_note_is}
+use Rattle.demands.specs.Whole.{row_of, pair_note_in}
+use Rattle.demands.proofs.WholeLaws.{pair_note_is}
 use Rattle.demands_met.specs.Met.{index_for, report_for}
 use Rattle.demands.specs.WritesAgain as A
+use Rattle.demands.proofs.WritesAgainLaws as AL
 use Rattle.recordings.specs.First as F
 use Rattle.recordings.specs.Hit.{hit_image}
 
@@ -45,7 +47,7 @@ module _ (ch : Choices) (u : Utterance) (s : List ℕ) (d : Damage (multiframes_
   came = take (multiframe_octets * k) s
 
   w : A.WasRead ch came tables index report [] given
-  w = A.was_read ch came tables index report [] given e
+  w = AL.was_read ch came tables index report [] given e
 
   cut : (cutting came).places ≡ row_of k
   cut = ap (λ (x : Cutting). x.places) (F.cut_first u s d k within)

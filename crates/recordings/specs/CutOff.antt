@@ -54,10 +54,14 @@ use Rattle.writer.specs.Utterance.{Utterance, multiframes_of, image_of}
 use Rattle.writer.proofs.Utterance.{whole_frames}
 use Rattle.damage.specs.Damage.{Damage, header_flips, header_near}
 use Rattle.damage.proofs.Damages.{unharmed}
-use Rattle.demands.specs.Whole.{row_of, Lent, nothing_replaced}
-use Rattle.demands.specs.Headers.{can_settle, sent_common, common_sent, settings_sent}
-use Rattle.demands.specs.ReadsBack.{spoken, reads_image, zeros, zero_rows, none_bad}
+use Rattle.demands.specs.Whole.{row_of, Lent}
+use Rattle.demands.proofs.WholeLaws.{nothing_replaced}
+use Rattle.demands.specs.Headers.{sent_common}
+use Rattle.demands.proofs.HeadersLaws.{can_settle, common_sent, settings_sent}
+use Rattle.demands.specs.ReadsBack.{spoken}
+use Rattle.demands.proofs.ReadsBackLaws.{reads_image, zeros, zero_rows, none_bad}
 use Rattle.demands.specs.WritesAgain as A
+use Rattle.demands.proofs.WritesAgainLaws as AL
 use Rattle.recordings.specs.Chunks.{multiframe_count, refused_behind, Chunked, chunked, Refuses, cut_refuses}
 use Rattle.recordings.specs.First as F
 
@@ -204,7 +208,7 @@ cut_off_answer ch u k less tables index report given e =
     ]
   where
     w : A.WasRead ch (take (multiframe_octets * k) (image_of u)) tables index report [] given
-    w = A.was_read ch (take (multiframe_octets * k) (image_of u)) tables index report [] given e
+    w = AL.was_read ch (take (multiframe_octets * k) (image_of u)) tables index report [] given e
 
     a : Accepted ch (take (multiframe_octets * k) (image_of u)) tables (length index) (length report) w.common
     a = w.reader_accepts

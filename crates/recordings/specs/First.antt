@@ -47,8 +47,10 @@ use Rattle.writer.specs.Utterance.{Utterance, multiframes_of, image_of}
 use Rattle.writer.proofs.Utterance.{is_accepted, rate_not_2, fits_each_frame}
 use Rattle.writer.proofs.Accepted.{boundary_speaks}
 use Rattle.damage.specs.Damage.{Damage, header_flips, sent_message, header_near, header_read_lem}
-use Rattle.demands.specs.Whole.{row_of, Lent, readings_are, packet_at_lem, cut_is, reads_as}
-use Rattle.demands.specs.Headers.{CanSettle, sent_common, common_sent, rate_sent, exp_sent}
+use Rattle.demands.specs.Whole.{row_of, Lent}
+use Rattle.demands.proofs.WholeLaws.{readings_are, packet_at_lem, cut_is, reads_as}
+use Rattle.demands.specs.Headers.{CanSettle, sent_common}
+use Rattle.demands.proofs.HeadersLaws.{common_sent, rate_sent, exp_sent}
 
 -- ---- headers that all have the same common bits
 have_one_more : (l : List Header) (d : Decoded) (c : ℕ) → AllHave l c → common_bits d.message ≡ c → AllHave (l ++ (Codeword d ∷ [])) c

@@ -34,7 +34,7 @@ use Rattle.reader.specs.declared.Answer as Ra
 use Rattle.reader.specs.declared.Answer.TheVariants as R
 use Rattle.refusals.specs.declared.Reading as RR
 use Rattle.refusals.specs.declared.Reading.TheVariants.{WrongTables, NegativeThreshold}
-use Rattle.demands.specs.ReadsBack.{reads_image}
+use Rattle.demands.proofs.ReadsBackLaws.{reads_image}
 use Rattle.damage.specs.Instances.{lone, written_1, says1}
 use Rattle.demands_met.specs.Met.{index_for, report_for, lent_zeros}
 use Rattle.roundtrip.specs.declared.Trip.{Trip}

@@ -16,7 +16,7 @@ use Rattle.reader.specs.Reading.{reading}
 use Rattle.reader.specs.declared.Answer.TheVariants as R
 use Rattle.entries.specs.Entries.{Returned, returned, dsr_read}
 use Rattle.entries.specs.Settle.{settle_numbers, beginning_numbers, dsr_settle}
-use Rattle.demands.specs.Whole.{front_at}
+use Rattle.demands.proofs.WholeLaws.{front_at}
 use Rattle.page_received.specs.Received.{headed}
 use Rattle.page_received.specs.Settled.{sixteen1}
 use Rattle.until_settled.specs.declared.Answer.TheVariants.{Read, Refused}

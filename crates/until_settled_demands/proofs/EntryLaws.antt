@@ -23,7 +23,7 @@ use Rattle.writer.specs.Utterance.{Utterance}
 use Rattle.reader.specs.Reading.{reading}
 use Rattle.entries.specs.Entries.{answer_numbers, summary_numbers, Returned, returned, returning, unchosen, answered, dsr_read}
 use Rattle.entries.specs.Settle.{settle_numbers, beginning_numbers, settle_told, settle_given, dsr_settle}
-use Rattle.demands.specs.Whole.{front_at}
+use Rattle.demands.proofs.WholeLaws.{front_at}
 use Rattle.until_settled.specs.declared.Beginning.{Beginning}
 use Rattle.until_settled.specs.declared.Answer.{Answer}
 use Rattle.until_settled.specs.declared.Answer.TheVariants.{Read, Refused}

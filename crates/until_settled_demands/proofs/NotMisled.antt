@@ -15,7 +15,7 @@ use Rattle.image.specs.Made.{sync_in}
 use Rattle.refusals.specs.declared.Reading.TheVariants.{Unsettled}
 use Rattle.writer.specs.Utterance.{Utterance, multiframes_of, image_of}
 use Rattle.damage.specs.Damage.{header_flips}
-use Rattle.demands.specs.Headers.{settings_sent}
+use Rattle.demands.proofs.HeadersLaws.{settings_sent}
 use Rattle.until_settled.specs.declared.Beginning.{Beginning}
 use Rattle.until_settled.specs.declared.Answer.TheVariants.{Read, Refused}
 use Rattle.until_settled.specs.UntilSettled.{until_settled}

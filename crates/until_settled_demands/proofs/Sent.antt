@@ -16,8 +16,10 @@ use Rattle.writer.specs.Utterance.{Utterance, multiframes_of, image_of}
 use Rattle.writer.proofs.Utterance.{is_accepted}
 use Rattle.writer.proofs.Laws.{few_multiframes}
 use Rattle.damage.specs.Damage.{header_flips}
-use Rattle.demands.specs.Headers.{sent_common, settles_nothing_else}
-use Rattle.demands.specs.Whole.{row_of, cut_is}
+use Rattle.demands.specs.Headers.{sent_common}
+use Rattle.demands.proofs.HeadersLaws.{settles_nothing_else}
+use Rattle.demands.specs.Whole.{row_of}
+use Rattle.demands.proofs.WholeLaws.{cut_is}
 use Rattle.until_settled.specs.Laws.{headers, Agreed}
 
 module _ (ch : Choices) (u : Utterance) (s : List ℕ) (two : 2 ≤ multiframes_of u) (size : length s ≡ multiframe_octets * multiframes_of u)

@@ -24,7 +24,8 @@ use Rattle.writer.specs.Utterance.{Utterance, multiframes_of, image_of}
 use Rattle.writer.proofs.Utterance.{rate_not_2}
 use Rattle.damage.specs.Damage.{Damage, sent_message, header_read_lem}
 use Rattle.damage.proofs.Damages.{unharmed}
-use Rattle.demands.specs.Headers.{sent_common, common_sent, settings_sent, rate_sent, exp_sent}
+use Rattle.demands.specs.Headers.{sent_common}
+use Rattle.demands.proofs.HeadersLaws.{common_sent, settings_sent, rate_sent, exp_sent}
 use Rattle.until_settled.specs.declared.Answer.TheVariants.{Read}
 use Rattle.until_settled.specs.UntilSettled.{read_until, settled_answer, until_settled}
 use Rattle.until_settled.specs.Front.{Front, start, met, same_front, same_readings}
