@@ -33,8 +33,9 @@ use Rattle.entries.specs.Entries as E
 use Rattle.entries.specs.Bits.{counted_numbers, bits_given, dsr_read_bits}
 use Rattle.writer.specs.Utterance.{image_of}
 use Rattle.damage.specs.Instances.{says1}
-use Rattle.demands_met.specs.Met.{index_for, report_for, lent_zeros}
-use Rattle.demands_met.specs.Needed.{default_1}
+use Rattle.demands_met.specs.Met.{index_for, report_for}
+use Rattle.demands_met.proofs.MetLaws.{lent_zeros}
+use Rattle.demands_met.proofs.NeededLaws.{default_1}
 use Rattle.demands.specs.ReadsBack.{spoken}
 use Rattle.demands.proofs.ReadsBackLaws.{reads_image}
 use Rattle.hunting_demands.specs.Met as H

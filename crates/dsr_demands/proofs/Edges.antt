@@ -15,7 +15,8 @@ use Rattle.reader.specs.RefusalLaws.{CutUp}
 use Rattle.demands.specs.Whole.{row_of}
 use Rattle.demands.proofs.WholeLaws.{cut_is}
 use Rattle.damage.specs.Instances.{says1}
-use Rattle.demands_met.specs.Met.{says24, two_multiframes, lent_zeros}
+use Rattle.demands_met.specs.Met.{says24, two_multiframes}
+use Rattle.demands_met.proofs.MetLaws.{lent_zeros}
 use Rattle.dsr_demands.specs.Met.{six, eight}
 use Rattle.dsr_demands.proofs.Chosen.{c_other_number, c_bits_other_number, c_one_refused, c_two_alike}
 use Rattle.dsr_demands.specs.Edges.{Edges}

@@ -21,7 +21,8 @@ use Rattle.entries.specs.Bits.{dsr_read_bits}
 use Rattle.damage.specs.Damage.{DamageUpTo, header_bits, loosened, header_flips}
 use Rattle.damage.specs.Instances.{says1, says2, hurt1}
 use Rattle.damage.proofs.Instances.{equal_images}
-use Rattle.demands_met.specs.Met.{index_for, report_for, lent_zeros, writes_again_met, says24, hurt_image, names_says24}
+use Rattle.demands_met.specs.Met.{index_for, report_for, says24, hurt_image}
+use Rattle.demands_met.proofs.MetLaws.{lent_zeros, writes_again_met, names_says24}
 use Rattle.demands.specs.ReadsBack.{spoken}
 use Rattle.hunting_demands.specs.Aired.{aired}
 use Rattle.hunting_demands.proofs.Aired.{aired_on_air, names_aired_24}

@@ -19,7 +19,8 @@ use Rattle.entries.specs.Entries.{answer_numbers, Returned, dsr_read}
 use Rattle.entries.specs.Bits.{dsr_read_bits}
 use Rattle.damage.specs.Damage.{loosened, header_flips, DamageUpTo}
 use Rattle.damage.proofs.Damages.{unharmed}
-use Rattle.demands_met.specs.Met.{index_for, report_for, lent_zeros, says24}
+use Rattle.demands_met.specs.Met.{index_for, report_for, says24}
+use Rattle.demands_met.proofs.MetLaws.{lent_zeros}
 use Rattle.demands.proofs.NamesTheDamageLaws as N
 use Rattle.demands.specs.ReadsBack.{spoken}
 use Rattle.promises.specs.Flipped.{flipped, but_one, rate_bits}

@@ -29,7 +29,8 @@ use Rattle.writer.specs.Utterance.{Utterance, multiframes_of, pairs_of, image_of
 use Rattle.writer.proofs.Utterance.{is_accepted}
 use Rattle.damage.specs.Damage.{sent_message}
 use Rattle.demands.specs.Received.{BadPair}
-use Rattle.demands_met.specs.Met.{zero_consistent, index_for, report_for, lent_zeros, hurt_word, hurt_stream, hurt_image, length_hurt, part_on, hurts, says24, two_multiframes}
+use Rattle.demands_met.specs.Met.{index_for, report_for, hurt_word, hurt_stream, hurt_image, says24, two_multiframes}
+use Rattle.demands_met.proofs.MetLaws.{zero_consistent, lent_zeros, length_hurt, part_on, hurts}
 use Rattle.hunting_demands.specs.Standing.{sync_at, unlike_fails}
 use Rattle.hunting_demands.specs.Laid.{laid_multiframe, Sizes, bits_laid, size_laid, laid_behind, laid_sync, laid_word, laid_stream}
 use Rattle.hunting_demands.specs.HuntsBack.{received_flips}

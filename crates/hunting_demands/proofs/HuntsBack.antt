@@ -37,7 +37,7 @@ use Rattle.demands.specs.Headers.{CanSettle}
 use Rattle.demands.proofs.HeadersLaws.{can_settle}
 use Rattle.damage.specs.Damage.{Damage, header_flips, header_read_lem}
 use Rattle.damage.proofs.Damages.{unharmed}
-use Rattle.demands_met.specs.Needed.{default_unsettled}
+use Rattle.demands_met.proofs.NeededLaws.{default_unsettled}
 use Rattle.demands.specs.Whole.{Lent}
 use Rattle.demands.specs.ReadsBack.{padded}
 use Rattle.demands.proofs.ReadsBackLaws.{reads_mended}

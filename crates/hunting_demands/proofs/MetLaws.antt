@@ -28,7 +28,8 @@ use Rattle.writer.specs.Utterance.{Utterance, multiframes_of, image_of}
 use Rattle.writer.proofs.Utterance.{is_accepted}
 use Rattle.demands.specs.Whole.{Lent}
 use Rattle.demands.specs.ReadsBack.{spoken, padded}
-use Rattle.demands_met.specs.Met.{lent_zeros, says24, two_multiframes}
+use Rattle.demands_met.specs.Met.{says24, two_multiframes}
+use Rattle.demands_met.proofs.MetLaws.{lent_zeros}
 use Rattle.hunting_demands.specs.Standing.{tested_in_row, sync_at, unlike_fails}
 use Rattle.hunting_demands.specs.HuntsBack.{received_flips, Begins, Inside, Syncs, Headers, Streams, NoneBefore, NoneBehind, Low, Settled, TablesAndRoom, Premises, Shifted}
 use Rattle.hunting_demands.proofs.HuntsBack.{same_notes, hunts_back, hunts_shifted}

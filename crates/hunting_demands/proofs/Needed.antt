@@ -63,7 +63,8 @@ use Rattle.demands.proofs.WholeLaws.{readings_are, cut_is, front_at, refuses_16}
 use Rattle.demands.specs.Headers.{CanSettle, sent_common}
 use Rattle.demands.proofs.HeadersLaws.{common_sent, rate_sent, exp_sent}
 use Rattle.damage.specs.Instances.{lone, says1}
-use Rattle.demands_met.specs.Met.{index_for, report_for, lent_zeros, distance, burst_at, double_at, hurt_word, hurt_stream, hurt_image, hurts, names_met, says24, two_multiframes}
+use Rattle.demands_met.specs.Met.{index_for, report_for, distance, burst_at, double_at, hurt_word, hurt_stream, hurt_image, says24, two_multiframes}
+use Rattle.demands_met.proofs.MetLaws.{lent_zeros, hurts, names_met}
 use Rattle.demands_met.specs.Needed.{says1_at11}
 use Rattle.hunting_demands.specs.Standing.{place_in_row, row, stream_bits, sync_at, word_at, all_match, passes_there, unlike_fails, lost_fails, InARow, tested_in_row, reads_in_a_row, image_size, image_sync, image_word}
 use Rattle.hunting_demands.specs.AsRead as A

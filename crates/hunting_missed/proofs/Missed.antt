@@ -45,7 +45,7 @@ use Rattle.hunting.specs.Hunting.{counted, outcome, hunting_reading}
 use Rattle.hunting.specs.declared.Answer.TheVariants.{Read, Refused}
 use Rattle.refusals.specs.declared.Hunting.TheVariants.{Octets}
 use Rattle.damage.proofs.Damages.{unharmed}
-use Rattle.demands_met.specs.Needed.{default_unsettled}
+use Rattle.demands_met.proofs.NeededLaws.{default_unsettled}
 use Rattle.image.specs.Made.{sync_in, word_in, stream_in, packet_in, length_made, small_made, made_sync, made_word, made_stream}
 use Rattle.image.proofs.Laws.{length_image, image_small, image_sync, image_word, image_stream}
 use Rattle.settling.proofs.Laws.{two_or_more}

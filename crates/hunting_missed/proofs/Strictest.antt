@@ -9,7 +9,8 @@ use Rattle.refusals.specs.declared.Reading.TheVariants.{Unsettled}
 use Rattle.hunting.specs.Hunting.{outcome, hunting_reading}
 use Rattle.hunting.specs.declared.Answer.TheVariants.{Refused}
 use Rattle.refusals.specs.declared.Hunting.TheVariants.{Octets}
-use Rattle.demands_met.specs.Met.{index_for, report_for, lent_zeros}
+use Rattle.demands_met.specs.Met.{index_for, report_for}
+use Rattle.demands_met.proofs.MetLaws.{lent_zeros}
 use Rattle.hunting_missed.specs.Missed.{garbled, Misses}
 use Rattle.hunting_missed.proofs.Missed.{missed, not_missed}
 

@@ -39,7 +39,8 @@ use Rattle.writer.specs.declared.Answer.TheVariants.{Written}
 use Rattle.damage.specs.Damage.{header_flips, Touched, sent_message, differs, header_near}
 use Rattle.demands.specs.Received.{BadPair, Count}
 use Rattle.demands.proofs.ReceivedLaws.{count_once, count_one, count_none}
-use Rattle.demands_met.specs.Met.{index_for, report_for, burst_at, double_at, distance, hurt_word, hurt_stream, hurt_image, length_hurt, part_0, part_1, part_on, zero_consistent, small_ones, reads_back_met, names_met}
+use Rattle.demands_met.specs.Met.{index_for, report_for, burst_at, double_at, distance, hurt_word, hurt_stream, hurt_image, small_ones}
+use Rattle.demands_met.proofs.MetLaws.{length_hurt, part_0, part_1, part_on, zero_consistent, reads_back_met, names_met}
 use Rattle.demands.specs.Whole.{header_note_in, pair_note_in}
 use Rattle.demands.specs.ReadsBack as R
 use Rattle.demands.proofs.ReadsBackLaws as RL

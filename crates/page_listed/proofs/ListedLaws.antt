@@ -54,7 +54,7 @@ use Rattle.reader.proofs.ReadingLaws.{accepting}
 use Rattle.deciding.specs.declared.Verdict.{Verdict}
 use Rattle.reader.specs.declared.Answer.TheVariants.{Read}
 use Rattle.worked_examples.specs.Examples as E
-use Rattle.demands_met.specs.Met.{zero_consistent}
+use Rattle.demands_met.proofs.MetLaws.{zero_consistent}
 use Rattle.demands.proofs.ReadsBackLaws.{zeros}
 use Rattle.page_images.specs.Headers.{word_of, ReadsAs, clean, flips}
 use Rattle.page_images.specs.Headers as Headers

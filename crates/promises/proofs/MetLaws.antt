@@ -52,7 +52,8 @@ use Rattle.demands.specs.Whole.{row_of, Lent, header_note_in, pair_note_in}
 use Rattle.demands.proofs.WholeLaws.{front_at, header_note_is}
 use Rattle.damage.specs.ToldApart.{Near}
 use Rattle.damage.specs.Instances.{says1}
-use Rattle.demands_met.specs.Met.{index_for, report_for, lent_zeros, distance, says24, two_multiframes}
+use Rattle.demands_met.specs.Met.{index_for, report_for, distance, says24, two_multiframes}
+use Rattle.demands_met.proofs.MetLaws.{lent_zeros}
 use Rattle.promises.specs.Misled as M
 use Rattle.promises.proofs.Misled.{never_misled}
 use Rattle.promises.specs.Trusted as T

@@ -68,13 +68,15 @@ use Rattle.demands.proofs.NamesTheDamageLaws as NL
 use Rattle.demands.specs.ReadsBack.{spoken}
 use Rattle.demands.proofs.ReadsBackLaws.{reads_image, reads_mended}
 use Rattle.damage.specs.Instances.{lone, says1}
-use Rattle.demands_met.specs.Met.{index_for, report_for, lent_zeros, says24, two_multiframes, settings_24, frames_24}
+use Rattle.demands_met.specs.Met.{index_for, report_for, says24, two_multiframes, settings_24, frames_24}
+use Rattle.demands_met.proofs.MetLaws.{lent_zeros}
 use Rattle.damage.proofs.Damages.{unharmed}
 use Rattle.recordings.specs.First as F
 use Rattle.recordings.specs.CutOff as C
 use Rattle.recordings.specs.Inverse.{inverses}
 use Rattle.recordings.proofs.Spaced.{inverses_length, inverses_behind}
-use Rattle.demands_met.specs.Needed.{default_unsettled, eighth, says_eighth, Passes15, passes_15, halfway}
+use Rattle.demands_met.specs.Needed.{eighth, says_eighth, Passes15, halfway}
+use Rattle.demands_met.proofs.NeededLaws.{default_unsettled, passes_15}
 use Rattle.promises.specs.Misled as M
 use Rattle.promises.proofs.Misled.{never_misled}
 use Rattle.promises.specs.Flipped.{flipped, flipped_size, flipped_syncs, flips_are, flipped_damage, sent_whole, sent_damage, at11, rate_bits, none_flipped}

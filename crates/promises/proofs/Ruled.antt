@@ -22,7 +22,7 @@ use Rattle.demands.specs.Whole.{Lent, pair_note_in}
 use Rattle.demands.specs.Received.{Inconsistent, BadBefore, ByRule, BadPair, Count}
 use Rattle.demands.proofs.ReceivedLaws.{count_once, count_one, count_none}
 use Rattle.demands_met.specs.Met.{index_for, report_for}
-use Rattle.demands_met.specs.Needed.{all_bad_refuses}
+use Rattle.demands_met.proofs.NeededLaws.{all_bad_refuses}
 use Rattle.demands.specs.NamesTheDamage as N
 use Rattle.demands.proofs.NamesTheDamageLaws as NL
 use Rattle.recordings.specs.Hit.{hit_image, hits, is_hit, not_hit, clean_header}

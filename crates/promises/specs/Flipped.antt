@@ -68,7 +68,8 @@ use Rattle.demands.proofs.HeadersLaws.{common_sent, rate_sent, exp_sent}
 use Rattle.demands.specs.Received.{ByRule, BadPair}
 use Rattle.demands.specs.NamesTheDamage as N
 use Rattle.demands.proofs.NamesTheDamageLaws as NL
-use Rattle.demands_met.specs.Met.{index_for, report_for, zero_consistent}
+use Rattle.demands_met.specs.Met.{index_for, report_for}
+use Rattle.demands_met.proofs.MetLaws.{zero_consistent}
 
 -- ---- how many bits these numbers flip
 pub none_flipped : ones 0 ≡ 0

@@ -16,7 +16,8 @@ use Rattle.reader.specs.declared.Answer.TheVariants.{Read, Refused}
 use Rattle.image.proofs.Laws.{length_image}
 use Rattle.writer.specs.Utterance.{Utterance, multiframes_of, image_of}
 use Rattle.damage.proofs.Damages.{unharmed}
-use Rattle.demands_met.specs.Met.{index_for, report_for, lent_zeros}
+use Rattle.demands_met.specs.Met.{index_for, report_for}
+use Rattle.demands_met.proofs.MetLaws.{lent_zeros}
 use Rattle.demands.proofs.WritesAgainLaws as A
 use Rattle.recordings.specs.Chunks.{Refuses}
 use Rattle.recordings.proofs.Spaced.{nothing_14}

@@ -31,7 +31,8 @@ use Rattle.damage.specs.Damage.{Fate, whole, hit, fate, not_touched}
 use Rattle.demands.specs.Whole.{row_of, pair_note_in}
 use Rattle.demands.proofs.WholeLaws.{pair_note_is}
 use Rattle.demands.specs.Headers.{sent_common}
-use Rattle.demands_met.specs.Met.{index_for, report_for, lent_zeros, zero_consistent}
+use Rattle.demands_met.specs.Met.{index_for, report_for}
+use Rattle.demands_met.proofs.MetLaws.{lent_zeros, zero_consistent}
 use Rattle.recordings.specs.First as F
 use Rattle.recordings.specs.Said.{ones24, gap24, zero_22}
 use Rattle.recordings.specs.Hit.{hit_image, hits, is_hit, not_hit, clean_header}

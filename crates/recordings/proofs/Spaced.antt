@@ -29,7 +29,8 @@ use Rattle.writer.proofs.Utterance.{is_accepted}
 use Rattle.damage.specs.Damage.{Damage}
 use Rattle.demands.specs.Whole.{row_of}
 use Rattle.demands.proofs.WholeLaws.{cut_is}
-use Rattle.demands_met.specs.Met.{index_for, report_for, lent_zeros, hurt_image, hurts, says24, two_multiframes, names_says24}
+use Rattle.demands_met.specs.Met.{index_for, report_for, hurt_image, says24, two_multiframes}
+use Rattle.demands_met.proofs.MetLaws.{lent_zeros, hurts, names_says24}
 use Rattle.demands.specs.NamesTheDamage as N
 use Rattle.demands.proofs.NamesTheDamageLaws as NL
 use Rattle.recordings.specs.First as F

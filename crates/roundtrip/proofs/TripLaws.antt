@@ -36,7 +36,8 @@ use Rattle.refusals.specs.declared.Reading as RR
 use Rattle.refusals.specs.declared.Reading.TheVariants.{WrongTables, NegativeThreshold}
 use Rattle.demands.proofs.ReadsBackLaws.{reads_image}
 use Rattle.damage.specs.Instances.{lone, written_1, says1}
-use Rattle.demands_met.specs.Met.{index_for, report_for, lent_zeros}
+use Rattle.demands_met.specs.Met.{index_for, report_for}
+use Rattle.demands_met.proofs.MetLaws.{lent_zeros}
 use Rattle.roundtrip.specs.declared.Trip.{Trip}
 use Rattle.roundtrip.specs.declared.Trip.TheVariants.{NotWritten, NotRead, Back}
 use Rattle.roundtrip.specs.Trip.{Made, made, trip_of, after_writing, trip, whole, imaged, frames_back, noteless, IsBack, IsUnread, IsUnwritten}

@@ -7,7 +7,8 @@ use Rattle.settings.specs.Settings.{settings}
 use Rattle.settings.specs.declared.Settings.{Settings}
 use Rattle.choices.specs.declared.Choices.{Choices}
 use Rattle.writer.specs.Utterance.{multiframes_of, image_of}
-use Rattle.demands_met.specs.Met.{says24, two_multiframes, settings_24, hurt_image, names_says24}
+use Rattle.demands_met.specs.Met.{says24, two_multiframes, settings_24, hurt_image}
+use Rattle.demands_met.proofs.MetLaws.{names_says24}
 use Rattle.until_settled.specs.declared.Answer.TheVariants.{Read}
 use Rattle.until_settled.specs.UntilSettled.{until_settled}
 use Rattle.until_settled_demands.proofs.WrittenLaws.{damaged_settles, growing_settles}

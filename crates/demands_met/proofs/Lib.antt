@@ -1,0 +1,2 @@
+pub mod MetLaws
+pub mod NeededLaws
