@@ -1,26 +1,20 @@
 -- The reader's rules, case by case (01, "Headers", "Settings", "Bad pairs" with 02, C-12, "Replacing", and the success answer): numbers, places and bounds as 01
 -- prints them, which no theorem would notice if definition, laws and code were changed alike. The numbers stand bare here, as they do there.
 -- Assumes nothing.
-use Rattle.std.specs.Prelude.{◌≡◌, refl, true, false, List, [], ◌∷◌, ◌++◌, ℕ, zero, suc, ℤ, pos, negsuc, replicate}
-use Rattle.std.proofs.Common.{sym, ap, ◌∙◌, arith, eq-eqb, ne_eqb}
+use Rattle.std.specs.Prelude.{◌≡◌, true, false, List, [], ◌∷◌, ◌++◌, ℕ, zero, suc, ℤ, pos, negsuc, replicate}
 use Rattle.choices.specs.Choices.{by_default, by_one_header}
 use Rattle.choices.specs.declared.Choices.{Choices}
 use Rattle.settings.specs.Settings.{settings as set}
-use Rattle.frames.specs.Frames.{zero_frame}
-use Rattle.message.specs.Message.{message, rate_of, common_bits}
-use Rattle.message.specs.Message.Laws.{rate_back, count_back, common_rate, common_message, message_counts, message_rate_1}
+use Rattle.message.specs.Message.{message, common_bits}
 use Rattle.header.specs.declared.Header.{Header}
 use Rattle.header.specs.declared.Header.TheVariants.{Codeword, Lost}
-use Rattle.settling.specs.Settling.{first_agreeing, only_one, settling}
+use Rattle.settling.specs.Settling.{settling}
 use Rattle.header_notes.specs.HeaderNotes.{header_note}
-use Rattle.settling.proofs.Laws.{two_or_more, only_mended}
 use Rattle.settling.specs.declared.Settlement.TheVariants.{Settled, Unsettled}
-use Rattle.consistency.specs.Consistency.{exceeding, element_exceeds, flagged, flags, inconsistent}
-use Rattle.replacing.specs.Replacing.{source, source_by, run_start, leading}
+use Rattle.consistency.specs.Consistency.{exceeding, element_exceeds, flagged, inconsistent}
 use Rattle.replacing.specs.Examples.{stand_ins}
-use Rattle.replacing.specs.Speech.{last_nonzero, speech_of, end_of}
+use Rattle.replacing.specs.Speech.{speech_of, end_of}
 use Rattle.tables.specs.Tables.{tables_of}
-use Rattle.consistency.proofs.Laws.{inconsistent_turned}
 
 -- ---- tables
 -- k, k + 1, .., n of them: the number at place p of `up_to` is p
@@ -112,65 +106,6 @@ pub record Consistency : Type 0 where
   pub one_fallen : inconsistent (tables_of (up_to 1280) (all14 1)) (0 ∷ 0 ∷ 0 ∷ 0 ∷ 0 ∷ 0 ∷ 1 ∷ []) (replicate 7 0) ≡ false
   pub one_of_each : inconsistent (tables_of (up_to 1280) (all14 1)) (0 ∷ 1 ∷ 0 ∷ 0 ∷ 0 ∷ 0 ∷ 0 ∷ []) (1 ∷ 0 ∷ 0 ∷ 0 ∷ 0 ∷ 0 ∷ 0 ∷ []) ≡ true
 
-pub consistency : Consistency
-unfolding numbers_from up_to nine_at all14 crossed pairs14 flagged flags inconsistent
-consistency = record {
-  codebook_1 = refl;
-  entry_1_first = refl;
-  entry_1_second = refl;
-  seventh = refl;
-  last_number = refl;
-  not_before_last = refl;
-  codebook_1_falls = refl;
-  last_number_falls = refl;
-  threshold_6 = refl;
-  past_threshold_6 = refl;
-  past_threshold_7 = refl;
-  threshold_11 = refl;
-  past_threshold_11 = refl;
-  fall_threshold_6 = refl;
-  fall_past_threshold_6 = refl;
-  fall_threshold_11 = refl;
-  fall_past_threshold_11 = refl;
-  two_not_two = refl;
-  two_past_one = refl;
-  fall_not_two = refl;
-  fall_past_one = refl;
-  fall_past_zero = refl;
-  still = refl;
-  rise_past_minus_1 = refl;
-  fall_past_minus_1 = refl;
-  still_past_minus_1 = refl;
-  through_zero = refl;
-  fall_through_zero = refl;
-  through_zero_not_two = refl;
-  exact_rise = refl;
-  exact_fall = refl;
-  largest_rise = refl;
-  one_larger_rise = refl;
-  largest_fall = refl;
-  one_larger_fall = refl;
-  first_element = refl;
-  second_element = refl;
-  neither = refl;
-  first_element_falls = refl;
-  second_element_falls = refl;
-  rises_and_falls = refl;
-  falls_and_rises = refl;
-  two_flagged = refl;
-  one_flagged = refl;
-  last_two_flagged = refl;
-  two_fallen = refl;
-  middle_two_fallen = refl;
-  last_two_fallen = refl;
-  one_fallen = refl;
-  one_of_each = refl;
-}
-
--- what falls is what rises turned round, by the law
-pub fallen_is_risen : inconsistent (tables_of (up_to 1280) (all14 1)) (0 ∷ 0 ∷ 0 ∷ 0 ∷ 0 ∷ 1 ∷ 1 ∷ []) (replicate 7 0) ≡ true
-fallen_is_risen = inconsistent_turned (tables_of (up_to 1280) (all14 1)) (0 ∷ 0 ∷ 0 ∷ 0 ∷ 0 ∷ 1 ∷ 1 ∷ []) (replicate 7 0) ∙ consistency.last_two_flagged
-
 -- ---- replacing, frames counted from 1
 pub record Replacing : Type 0 where
   -- "At the start of an utterance all 2B take the frame after": pairs 1 and 2 bad, and the first alone
@@ -182,10 +117,6 @@ pub record Replacing : Type 0 where
   pub two_runs : stand_ins (0 ∷ 1 ∷ 0 ∷ 2 ∷ 0 ∷ []) (3 ∷ 4 ∷ 7 ∷ 8 ∷ []) ≡ 2 ∷ 5 ∷ 6 ∷ 9 ∷ []
   -- three bad pairs, frames 3 to 8: 3, 4 and 5 become 2; 6, 7 and 8 become 9
   pub run_of_three : stand_ins (0 ∷ 1 ∷ 1 ∷ 1 ∷ 0 ∷ []) (3 ∷ 4 ∷ 5 ∷ 6 ∷ 7 ∷ 8 ∷ []) ≡ 2 ∷ 2 ∷ 2 ∷ 9 ∷ 9 ∷ 9 ∷ []
-
-pub replacing : Replacing
-unfolding source source_by run_start leading
-replacing = record { start_of_two = refl; start_of_one = refl; end_of_two = refl; two_runs = refl; run_of_three = refl }
 
 -- ---- speech and end
 -- two multiframes of zeros with one octet of frame k, counted from 0, set
@@ -204,31 +135,11 @@ pub record Speech : Type 0 where
   pub ends : end_of 2 (one_at 328) ≡ 1
   pub ends_not : end_of 2 (one_at 329) ≡ 0
 
-pub speech : Speech
-unfolding one_at zero_frame last_nonzero
-speech = record {
-  none_in_the_last = refl;
-  only_in_the_first = refl;
-  first_of_the_last = refl;
-  seventh_of_the_last = refl;
-  last_of_the_last = refl;
-  ends = refl;
-  ends_not = refl;
-}
-
 -- a header that is read with this message and so many flips
 abbrev pub read_with : ℕ → ℕ → Header
 read_with m f = Codeword (record { message = m; flips = f })
 
 -- ---- header notes: 8 kHz, type 0 are settled
--- 8 kHz and 11 kHz differ in their common bits
-other_rate : common_bits (message (set 1 0) 1 0) ≡ common_bits (message (set 0 0) 0 0) → ⊥
-other_rate e =
-    let a : rate_of (common_bits (message (set 1 0) 1 0)) ≡ 1 = common_rate (message (set 1 0) 1 0) ∙ rate_back (set 1 0) 1 0 in
-    let b : rate_of (common_bits (message (set 0 0) 0 0)) ≡ 0 = common_rate (message (set 0 0) 0 0) ∙ rate_back (set 0 0) 0 0 in
-    let z : ◌≡◌ {A = ℕ} 1 0 = sym a ∙ ap rate_of e ∙ b in
-    omega arith
-
 pub record Notes : Type 0 where
   -- "0 clean, 1 or 2 flips mended, 3 lost"
   pub clean : header_note (common_bits (message (set 0 0) 0 0)) 0 (read_with (message (set 0 0) 1 0) 0) ≡ 0
@@ -242,27 +153,6 @@ pub record Notes : Type 0 where
   pub other_settings : header_note (common_bits (message (set 0 0) 0 0)) 0 (read_with (message (set 1 0) 1 0) 0) ≡ 8
   pub both_added : header_note (common_bits (message (set 0 0) 0 0)) 4 (read_with (message (set 1 0) 1 0) 1) ≡ 13
 
-pub notes : Notes
-unfolding header_note
-notes =
-    let c = common_message (set 0 0) 1 0 in
-    let same = eq-eqb (common_bits (message (set 0 0) 1 0)) (common_bits (message (set 0 0) 0 0)) c in
-    let same-0 = eq-eqb (common_bits (message (set 0 0) 0 0)) (common_bits (message (set 0 0) 0 0)) refl in
-    let other = ne_eqb (common_bits (message (set 1 0) 1 0)) (common_bits (message (set 0 0) 0 0)) other_rate in
-    let one = count_back (set 0 0) 1 0 in
-    let none = count_back (set 0 0) 0 0 in
-    let one-11 = count_back (set 1 0) 1 0 in
-    record {
-      clean = rw (one, same);
-      mended = rw (one, same);
-      lost = refl;
-      out_of_step = rw (one, same);
-      sixteenth = rw (none, same-0);
-      seventeenth = rw (one, same);
-      other_settings = rw (one-11, other);
-      both_added = rw (one-11, other);
-    }
-
 -- ---- settings: "the first readable header that agrees in them with an earlier readable one", not only with the one just before it
 pub record Settings (ch : Choices) : Type 0 where
   pub around_another : settling ch (read_with 8 0 ∷ read_with 1 0 ∷ read_with 8 0 ∷ []) ≡ Settled (common_bits 8)
@@ -275,35 +165,3 @@ pub record Settings (ch : Choices) : Type 0 where
   pub only_clean : settling by_one_header (read_with 8 0 ∷ []) ≡ Settled (common_bits 8)
   pub only_by_default : settling by_default (read_with 8 0 ∷ []) ≡ Unsettled
   pub only_mended : settling ch (read_with 8 1 ∷ []) ≡ Unsettled
-
--- 8 is 8 kHz with counter 1, and 1 is 11 kHz with counter 0
-eight_is : 8 ≡ message (set 0 0) 1 0
-eight_is = sym message_counts.0
-
-one_is : 1 ≡ message (set 1 0) 0 0
-one_is = sym message_rate_1
-
-apart : common_bits 1 ≡ common_bits 8 → ⊥
-apart e =
-    let a : rate_of (common_bits 1) ≡ 1 = common_rate 1 ∙ ap rate_of one_is ∙ rate_back (set 1 0) 0 0 in
-    let b : rate_of (common_bits 8) ≡ 0 = common_rate 8 ∙ ap rate_of eight_is ∙ rate_back (set 0 0) 1 0 in
-    let z : ◌≡◌ {A = ℕ} 1 0 = sym a ∙ ap rate_of e ∙ b in
-    omega arith
-
-pub settings : (ch : Choices) → Settings ch
-unfolding settling first_agreeing only_one
-settings ch =
-    let x = ne_eqb (common_bits 1) (common_bits 8) apart in
-    let y = ne_eqb (common_bits 8) (common_bits 1) (λ e. apart (sym e)) in
-    let s = eq-eqb (common_bits 8) (common_bits 8) refl in
-    let t = eq-eqb (common_bits 1) (common_bits 1) refl in
-    record {
-      around_another = rw (x, y, s);
-      around_a_lost_one = rw s;
-      first_to_agree = rw (x, t);
-      none_agrees = two_or_more ch (read_with 8 0 ∷ read_with 1 0 ∷ []) (omega arith) ∙ rw x;
-      one_is_lost = two_or_more ch (read_with 8 0 ∷ Lost ∷ []) (omega arith);
-      only_clean = refl;
-      only_by_default = refl;
-      only_mended = only_mended ch (record { message = 8; flips = 1 }) (λ e. omega arith);
-    }
