@@ -52,13 +52,5 @@ pub fn note(before: bool, fails: bool, inconsistent: bool, after: bool) -> u8
 pub fn count_bad(notes: &[u8]) -> usize
     ensures { result ≡ bad_pairs notes.now }
 {
-    let mut count = 0;
-    let mut k = 0;
-    while k < notes.len() {
-        if notes[k] != GOOD {
-            count += 1;
-        }
-        k += 1;
-    }
-    count
+    notes.iter().filter(|note| is_bad(**note)).count()
 }

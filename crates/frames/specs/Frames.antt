@@ -1,11 +1,11 @@
 -- Frames as index octets, seven a frame: what a zero frame is (01, "Writing" and "Reading"), for writer and reader alike. Frames count from 0.
 -- Assumes nothing.
-use Rattle.std.specs.Prelude.{ℕ, zero, suc, ◌+◌, ◌*◌, ◌≤◌, ◌<◌, ◌≡◌, refl, List, [], ◌∷◌, Bool, true, false, eqb, length, get_or, drop}
-use Rattle.std.proofs.Common.{sym, ap, ◌∙◌, length-take, drop-cons, get_or-take, get_or-drop, add-one, arith, eq-eqb, ne_eqb, eqb-true}
-use Rattle.std.proofs.Math.Seq.{drop-length}
+use Rattle.std.specs.Prelude.{ℕ, zero, suc, ◌+◌, ◌*◌, ◌<◌, ◌≡◌, refl, List, [], ◌∷◌, Bool, true, false, ◌&&◌, eqb, length, get_or, drop}
+use Rattle.std.proofs.Common.{sym, ◌∙◌, length-take, get_or-take, get_or-drop, arith, eqb-true}
 use Rattle.std.proofs.lemmas.Bool.{eqb-false}
+use Rattle.std.specs.List.{list_all}
 use Rattle.lists.specs.Tests.{when, true_false}
-use Rattle.lists.specs.Parts.{part, length_part}
+use Rattle.lists.specs.Parts.{part}
 use Rattle.layout.specs.Layout.{frame_indices}
 
 -- all of a frame's indices are zero
@@ -71,27 +71,11 @@ speaks index k x = by (all_zero (part (frame_indices * k) frame_indices index)) 
     by true e =
         absurd (x.nonzero (sym (frame_octet index k x.place x.within) ∙ all_zero_at (part (frame_indices * k) frame_indices index) x.place e))
 
--- ---- the steps of the code's loop
-
--- the frame that stands at place x
-module _ (index : List ℕ) (x : ℕ) (room : x + frame_indices ≤ length index) where
-  size : length (part x frame_indices index) ≡ frame_indices
-  size = length_part index x frame_indices room
-
-  octet : (j : ℕ) → j < frame_indices → get_or (part x frame_indices index) j 0 ≡ get_or index (x + j) 0
-  octet j h = get_or-take frame_indices (drop x index) j 0 h ∙ get_or-drop x index j 0
-
-  pub zero_on : (j : ℕ) → j < frame_indices → get_or index (x + j) 0 ≡ 0 → all_zero (drop j (part x frame_indices index)) ≡ all_zero (drop (j + 1) (part x frame_indices index))
-  zero_on j h z =
-      let f = part x frame_indices index in
-      rw (drop-cons f j 0 (omega (arith, size)), eq-eqb (get_or f j 0) 0 (octet j h ∙ z), add-one)
-
-  pub zero_stop : (j : ℕ) → j < frame_indices → (get_or index (x + j) 0 ≡ 0 → ⊥) → all_zero (drop j (part x frame_indices index)) ≡ false
-  zero_stop j h z =
-      let f = part x frame_indices index in
-      rw (drop-cons f j 0 (omega (arith, size)), ne_eqb (get_or f j 0) 0 (λ e. z (sym (octet j h) ∙ e)))
-
-  pub zero_end : (j : ℕ) → j ≡ frame_indices → all_zero (drop j (part x frame_indices index)) ≡ true
-  zero_end j e =
-      let f = part x frame_indices index in
-      ap (λ (n : ℕ). all_zero (drop n f)) (e ∙ sym size) ∙ ap all_zero (drop-length f)
+-- ---- in the library's words, which say what the code's chain of iterators gives
+pub all_zero_is : (l : List ℕ) → list_all (λ x. eqb x 0) l ≡ all_zero l
+all_zero_is [] = refl
+all_zero_is (x ∷ l) = by (eqb x 0) (all_zero_is l)
+  where
+    by : (t : Bool) → list_all (λ x. eqb x 0) l ≡ all_zero l → (t && list_all (λ x. eqb x 0) l) ≡ when t (all_zero l) false
+    by true e = e
+    by false e = refl

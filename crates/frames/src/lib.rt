@@ -13,12 +13,7 @@ pub fn is_zero(index: &[u8], frame: Frame) -> bool
     ensures { result ≡ zero_frame index.now frame.0 }
 {
     let start = FrameLayout::INDICES * frame.0;
-    let mut j = 0;
-    while j < FrameLayout::INDICES {
-        if index[start + j] != 0 {
-            return false;
-        }
-        j += 1;
-    }
-    true
+    index[start..start + FrameLayout::INDICES]
+        .iter()
+        .all(|x| *x == 0)
 }

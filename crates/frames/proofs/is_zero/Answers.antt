@@ -1,25 +1,18 @@
--- `is_zero` meets its contract: the octets passed are zero, so what is left says what the frame is.
+-- `is_zero` meets its contract: the chain says whether all of the part's octets are 0.
 -- Assumes nothing.
-use native.Mathlib.Omega.{arith}
-use mathlib.Core.Path.{◌≡◌, refl, sym, ◌∙◌}
+use Rattle.std.proofs.Common.{rules, ◌+◌, ◌*◌, ◌-◌, ◌∙◌, eqb, take, drop, ap}
+use borrow.Author.Tests.{tests}
+use Rattle.std.proofs.lemmas.Iterator.{YieldsList-from_slice}
+use Rattle.std.proofs.lemmas.Iterator.Search.{all_from_yields_List}
+use Rattle.lists.specs.Parts.{lent}
 use Rattle.layout.specs.Layout.{frame_indices}
-use Rattle.frames.specs.Frames.{zero_frame, zero_on, zero_stop, zero_end}
+use Rattle.frames.specs.Frames.{zero_frame, all_zero, all_zero_is}
 use Rattle.frames.proofs.is_zero.Goals as goal
-
-pub loop-j-init : goal.loop-j-init
-loop-j-init c = (c.requires, omega arith, refl)
-
-pub returns-then-index-start-ne0 : goal.returns-then-index-start-ne0
-unfolding zero_frame
-returns-then-index-start-ne0 c =
-    sym (zero_stop _ _ c.loop-j.invariant.0 c.loop-j.j (omega arith) c.if-index-start-ne0.true) ∙ c.loop-j.invariant.2
-
-pub loop-j-preserved : goal.loop-j-preserved
-loop-j-preserved c =
-    (c.loop-j.invariant.0, omega arith, sym (zero_on _ _ c.loop-j.invariant.0 c.loop-j.j (omega arith) c.if-index-start-ne0.false) ∙ c.loop-j.invariant.2)
 
 pub returns : goal.returns
 unfolding zero_frame
 returns c =
-    let e : c.loop-j.j ≡ frame_indices = omega arith in
-    sym (zero_end _ _ c.loop-j.invariant.0 c.loop-j.j e) ∙ c.loop-j.invariant.2
+    let at = frame_indices * c.args.frame.0 in
+    let l = take (at + frame_indices - at) (drop at c.args.index.now) in
+    all_from_yields_List (λ x. eqb x 0) _ _ c.all.result c.all.ensures.ran (YieldsList-from_slice l cc) (λ x b q k. search (rules, tests))
+    ∙ all_zero_is l ∙ ap all_zero (lent c.args.index.now at frame_indices)
