@@ -1,8 +1,9 @@
 -- What a reader of 01 would ask of `notes`, and the steps by which the reader works them out.
 -- Assumes nothing.
-use Rattle.std.specs.Prelude.{ℕ, zero, suc, ◌+◌, ◌≤◌, ◌<◌, ◌≡◌, refl, List, [], ◌∷◌, Bool, true, false, length, get_or, drop, eqb}
-use Rattle.std.proofs.Common.{ap, ◌∙◌, drop-cons, drop-drop, get_or-drop, add-one, arith, eq-eqb, ne_eqb, eqb-true}
+use Rattle.std.specs.Prelude.{ℕ, zero, suc, ◌+◌, ◌≤◌, ◌<◌, ◌≡◌, refl, List, [], ◌∷◌, Bool, true, false, not, cond, eqb, length, get_or, drop, count_by}
+use Rattle.std.proofs.Common.{ap, ◌∙◌, drop-cons, drop-drop, get_or-drop, add-one, arith, eqb-true}
 use Rattle.std.proofs.lemmas.Bool.{eqb-false}
+use Rattle.std.proofs.lemmas.List.Sums.{sum_by-cons}
 use Rattle.lists.specs.Tests.{when}
 use Rattle.bad_pairs.specs.BadPairs.{bad, note_by, undecided_by, notes_from, notes, bad_pairs}
 
@@ -140,9 +141,11 @@ none_bad (n ∷ ns) e k = by (eqb n 0) refl e k (λ a. none_bad ns a)
     by true q e (suc k) f = f e k
     by false q e k f = absurd (omega arith)
 
--- counting goes on by one pair
-pub counted : (k n : ℕ) (ns : List ℕ) → k < length ns → (get_or ns k 0 ≡ 0 → ⊥) → n + bad_pairs (drop k ns) ≡ n + 1 + bad_pairs (drop (k + 1) ns)
-counted k n ns h b = rw (drop-cons ns k 0 h, ne_eqb (get_or ns k 0) 0 b, add-one k) (omega arith)
-
-pub passed : (k n : ℕ) (ns : List ℕ) → k < length ns → get_or ns k 0 ≡ 0 → n + bad_pairs (drop k ns) ≡ n + bad_pairs (drop (k + 1) ns)
-passed k n ns h b = rw (drop-cons ns k 0 h, eq-eqb (get_or ns k 0) 0 b, add-one k)
+-- the count in the library's words, which say what the code's chain of iterators gives
+pub bad_pairs_is : (ns : List ℕ) → count_by bad ns ≡ bad_pairs ns
+bad_pairs_is [] = refl
+bad_pairs_is (n ∷ ns) = sum_by-cons (λ x. cond (bad x) 1 0) n ns ∙ by (eqb n 0) (bad_pairs_is ns)
+  where
+    by : (t : Bool) → count_by bad ns ≡ bad_pairs ns → cond (not t) 1 0 + count_by bad ns ≡ when t (bad_pairs ns) (suc (bad_pairs ns))
+    by true e = omega arith
+    by false e = omega arith

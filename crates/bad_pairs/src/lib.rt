@@ -4,7 +4,8 @@
 ghost use Rattle.std.specs.Prelude.{◌≡◌};
 ghost use Rattle.bad_pairs.specs.BadPairs.{bad, undecided_by, note_by, bad_pairs};
 
-// The notes of a pair.
+// The notes of a pair: octets and no enum, since the C interface fixes them and each is on its way into the report or out of it; an enum
+// would be turned into its octet, or made of it, at each use.
 pub const GOOD: u8 = 0;
 
 pub const CRC_FAILED: u8 = 1;
@@ -18,34 +19,25 @@ pub fn is_bad(note: u8) -> bool
 }
 
 // undecided says whether the pair's consistency matters at all: its own CRC is right, and the next pair's failed or the pair before it is bad.
+#[tactic(auto, unfolding(crate::specs::BadPairs::undecided_by))]
 pub fn undecided(before: bool, fails: bool, after: bool) -> bool
     ensures { result ≡ undecided_by before fails after }
 {
-    if fails {
-        return false;
-    }
-    if after {
-        return true;
-    }
-    before
+    !fails && (after || before)
 }
 
 // note gives the pair's note, by the pair before it (bad), its own CRC (fails) and consistency (inconsistent), and the next pair's CRC (after).
+#[tactic(auto, unfolding(crate::specs::BadPairs::note_by))]
 pub fn note(before: bool, fails: bool, inconsistent: bool, after: bool) -> u8
     ensures { result ≡ note_by before fails inconsistent after }
 {
     if fails {
-        return CRC_FAILED;
+        CRC_FAILED
+    } else if inconsistent && (after || before) {
+        BAD_OTHERWISE
+    } else {
+        GOOD
     }
-    if inconsistent {
-        if after {
-            return BAD_OTHERWISE;
-        }
-        if before {
-            return BAD_OTHERWISE;
-        }
-    }
-    GOOD
 }
 
 // count_bad counts the notes that are not 0.
