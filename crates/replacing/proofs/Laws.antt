@@ -1,7 +1,8 @@
 -- What a reader of 01 would ask of `source` and `replaced`.
 -- Assumes nothing.
 use Prim.Native.Nat.{ℕ, zero, suc, ◌+◌, ◌-◌, ◌*◌, ◌/◌, ◌%◌, ◌≤◌, ◌<◌}
-use Rattle.std.specs.Prelude.{◌≡◌, ◌⊎◌, List, [], ◌∷◌, Bool, true, false, drop, ltb, eqb}
+use Rattle.std.specs.Prelude.{◌≡◌, ◌⊎◌, List, [], ◌∷◌, Bool, true, false, not, cond, drop, ltb, eqb}
+use Rattle.std.specs.List.{prefix_len}
 use Rattle.std.proofs.Math.Path.{refl, ap, sym}
 use Rattle.std.proofs.Common.{◌∙◌, inl, inr, length-drop, drop-cons, add-one}
 use Rattle.std.proofs.Math.Logic.{⊎_elim}
@@ -38,6 +39,16 @@ end_stop l b h n = rw (drop-cons l b 0 h, eq-eqb (get_or l b 0) 0 n) (omega arit
 pub end_last : (l : List ℕ) → run_end l (length l) ≡ length l
 unfolding leading
 end_last l = rw (drop-length l) (omega arith)
+
+-- the bad notes at the front, as an iterator counts them
+pub leading_counted : (l : List ℕ) → prefix_len (λ n. not (eqb n 0)) l ≡ leading l
+unfolding leading
+leading_counted [] = refl
+leading_counted (n ∷ l) = by (eqb n 0) (leading_counted l)
+  where
+    by : (t : Bool) → prefix_len (λ n. not (eqb n 0)) l ≡ leading l → cond (not t) (1 + prefix_len (λ n. not (eqb n 0)) l) 0 ≡ when t 0 (suc (leading l))
+    by true h = refl
+    by false h = omega arith
 
 module _ (notes : List ℕ) (a b : ℕ) (run : Run notes a b) where
   first_start : run_start notes a ≡ a

@@ -4,18 +4,19 @@ use Prim.Native.Nat.{ℕ, ◌+◌, ◌-◌, ◌*◌, ◌/◌, ◌%◌, ◌≤◌
 use mathlib.Core.Path.{◌≡◌, refl, ap, sym, ◌∙◌}
 use mathlib.Core.Logic.{⊎_elim}
 use mathlib.Core.List.{List}
-use lib.ListN.{length, get_or, set, length-set}
-use lib.Seq.{get_or-set_same, get_or-set_other, ext_get_or}
+use lib.ListN.{length, get_or}
+use lib.Seq.{ext_get_or}
 use lib.Dec.{ltb}
 use mathlib.Core.Bool.{true, false}
 use native.Mathlib.Numerals.{add-one}
-use native.Mathlib.Decide.{dec_lt, ℕ_discrete}
+use native.Mathlib.Decide.{dec_lt}
 use native.Mathlib.Omega.{arith}
 use borrow.Author.Tests.{eq-eqb, ne_eqb, lt-ltb, le-ltb}
 use Rattle.lists.specs.Parts.{over, length_over, over_in, over_behind}
-use Rattle.layout.specs.Layout.{frame_indices, pair_of, first_frame}
+use Rattle.std.specs.List.{CopiedTo, SameBelow, SameFrom}
+use Rattle.layout.specs.Layout.{frame_indices, pair_of, first_frame, second_frame}
 use Rattle.bad_pairs.specs.Laws.{Good}
-use Rattle.replacing.specs.Replacing.{run_start, run_end, middle_frame, source_by, source, taken, pairs_octets, replaced}
+use Rattle.replacing.specs.Replacing.{run_start, run_end, frame_before, frame_after, middle_frame, source_by, source, taken, pairs_octets, replaced}
 use Rattle.replacing.specs.Laws.{Run}
 use Rattle.replacing.proofs.Laws.{run_of, in_run, good_stays, good_source, run_stop, replaced_at, replaced_length}
 use Rattle.replacing.specs.Steps.{Changed, Spread, Filled}
@@ -24,57 +25,31 @@ use Rattle.replacing.specs.Steps.{Changed, Spread, Filled}
 pub unchanged : (l : List ℕ) (x : ℕ) (f : ℕ → ℕ) → Changed l l x x f
 unchanged l x f = record { same = refl; before = λ t h. refl; inside = λ t h k. absurd (omega arith); behind = λ t h. refl }
 
-module _ (l m : List ℕ) (x y t v : ℕ) (f : ℕ → ℕ) (room : t < length l) (value : v ≡ get_or l (f t) 0) where
-  pub one_on : Changed l m x t f → x ≤ t → Changed l (set m t v) x (t + 1) f
-  one_on c h =
-      record {
-        same = simp length-set c.same;
-        before = λ u k. get_or-set_other m t u v 0 (λ e. omega arith) ∙ c.before u k;
-        inside = λ u k j. elim (ℕ_discrete u t) [
-          | yes e ↦ ap (λ (i : ℕ). get_or (set m t v) i 0) e ∙ get_or-set_same m t v 0 (omega (arith, c.same)) ∙ value ∙ ap (λ (i : ℕ). get_or l (f i) 0) (sym e)
-          | no n ↦ get_or-set_other m t u v 0 n ∙ c.inside u k (omega arith)
-        ];
-        behind = λ u k. get_or-set_other m t u v 0 (λ e. omega arith) ∙ c.behind u (omega arith);
-      }
-
-  pub one_back : Changed l m (t + 1) y f → t < y → Changed l (set m t v) t y f
-  one_back c h =
-      record {
-        same = simp length-set c.same;
-        before = λ u k. get_or-set_other m t u v 0 (λ e. omega arith) ∙ c.before u (omega arith);
-        inside = λ u k j. elim (ℕ_discrete u t) [
-          | yes e ↦ ap (λ (i : ℕ). get_or (set m t v) i 0) e ∙ get_or-set_same m t v 0 (omega (arith, c.same)) ∙ value ∙ ap (λ (i : ℕ). get_or l (f i) 0) (sym e)
-          | no n ↦ get_or-set_other m t u v 0 n ∙ c.inside u (omega arith) j
-        ];
-        behind = λ u k. get_or-set_other m t u v 0 (λ e. omega arith) ∙ c.behind u k;
-      }
-
--- what a turn of `spread_on` reads, seven octets back, is the frame's octet; and of `spread_back`, seven ahead
-pub read_on : (l m : List ℕ) (first t : ℕ) → 1 ≤ first → frame_indices * first ≤ t
-    → Changed l m (frame_indices * first) t (λ u. frame_indices * (first - 1) + u % frame_indices)
-    → get_or m (t - frame_indices) 0 ≡ get_or l (frame_indices * (first - 1) + t % frame_indices) 0
-read_on l m first t h k c =
-    elim (dec_lt (t - frame_indices) (frame_indices * first)) [
-      | yes y ↦
-          let e : t - frame_indices ≡ frame_indices * (first - 1) + t % frame_indices = omega arith in
-          c.before (t - frame_indices) y ∙ ap (λ (i : ℕ). get_or l i 0) e
-      | no n ↦
-          let e : (t - frame_indices) % frame_indices ≡ t % frame_indices = omega arith in
-          c.inside (t - frame_indices) (omega arith) (omega arith) ∙ ap (λ (i : ℕ). get_or l (frame_indices * (first - 1) + i) 0) e
-    ]
-
-pub read_back : (l m : List ℕ) (past t : ℕ) → t < frame_indices * past
-    → Changed l m (t + 1) (frame_indices * past) (λ u. frame_indices * past + u % frame_indices)
-    → get_or m (t + frame_indices) 0 ≡ get_or l (frame_indices * past + t % frame_indices) 0
-read_back l m past t k c =
-    elim (dec_lt (t + frame_indices) (frame_indices * past)) [
-      | yes y ↦
-          let e : (t + frame_indices) % frame_indices ≡ t % frame_indices = omega arith in
-          c.inside (t + frame_indices) (omega arith) y ∙ ap (λ (i : ℕ). get_or l (frame_indices * past + i) 0) e
-      | no n ↦
-          let e : t + frame_indices ≡ frame_indices * past + t % frame_indices = omega arith in
-          c.behind (t + frame_indices) (omega arith) ∙ ap (λ (i : ℕ). get_or l i 0) e
-    ]
+-- a frame copied: as each turn of `spread` does. The source's octets stand as they stood, whether or not frames were copied over them
+pub one_frame : (l m n : List ℕ) (source first k : ℕ) → first ≤ k → length n ≡ length m
+    → CopiedTo m n (frame_indices * source) (frame_indices * k) (frame_indices * source + frame_indices - frame_indices * source)
+    × SameBelow m n (frame_indices * k) × SameFrom m n (frame_indices * k + (frame_indices * source + frame_indices - frame_indices * source))
+    → Spread l m source first k → Spread l n source first (k + 1)
+one_frame l m n source first k h size (copied, below, behind) c =
+    let there : (t : ℕ) → t / frame_indices ≡ source → get_or m t 0 ≡ get_or l t 0 = λ t e.
+    elim (dec_lt t (frame_indices * first)) [
+      | yes y ↦ c.before t y
+      | no y ↦ elim (dec_lt t (frame_indices * k)) [
+        | yes z ↦ c.inside t (omega arith) z ∙ ap (λ (i : ℕ). get_or l i 0) (omega arith)
+        | no z ↦ c.behind t (omega arith)
+      ]
+    ] in
+    record {
+      same = size ∙ c.same;
+      before = λ t y. below t 0 (omega arith) ∙ c.before t y;
+      inside = λ t y z. elim (dec_lt t (frame_indices * k)) [
+        | yes u ↦ below t 0 u ∙ c.inside t y u
+        | no u ↦
+            let e : frame_indices * source + (t - frame_indices * k) ≡ frame_indices * source + t % frame_indices = omega arith in
+            copied t 0 (omega arith) (omega arith) ∙ ap (λ (i : ℕ). get_or m i 0) e ∙ there (frame_indices * source + t % frame_indices) (omega arith)
+      ];
+      behind = λ t y. behind t 0 (omega arith) ∙ c.behind t (omega arith);
+    }
 
 -- ---- one change after another, behind it
 pub then : (l m n : List ℕ) (x y z : ℕ) (f g h : ℕ → ℕ) → x ≤ y → y ≤ z → Changed l m x y f → Changed m n y z g
@@ -111,31 +86,34 @@ module _ (l m : List ℕ) (a b pairs : ℕ) where
       refit l m (frame_indices * x) (frame_indices * y) (pairs_octets a) (pairs_octets b) (λ t. frame_indices * y + t % frame_indices)
       (λ t. frame_indices * source_by a b pairs (t / frame_indices) + t % frame_indices) (omega arith) (omega arith) (λ t h k. rw (eq-eqb a 0 z, ey)) c
 
-  pub fill_end : (x y : ℕ) → x ≡ first_frame a → y ≡ first_frame b → (a ≡ 0 → ⊥) → b ≡ pairs → Spread l m (x - 1) x y → Filled l m a b pairs
+  -- w is the frame before the run
+  pub fill_end : (w x y : ℕ) → w ≡ second_frame (a - 1) → x ≡ first_frame a → y ≡ first_frame b → (a ≡ 0 → ⊥) → b ≡ pairs → Spread l m w x y → Filled l m a b pairs
   unfolding source_by
-  fill_end x y ex ey n z c =
-      refit l m (frame_indices * x) (frame_indices * y) (pairs_octets a) (pairs_octets b) (λ t. frame_indices * (x - 1) + t % frame_indices)
-      (λ t. frame_indices * source_by a b pairs (t / frame_indices) + t % frame_indices) (omega arith) (omega arith) (λ t h k. rw (ne_eqb a 0 n, eq-eqb b pairs z, ex)) c
+  fill_end w x y ew ex ey n z c =
+      let e : w ≡ frame_before a = omega (arith, n) in
+      refit l m (frame_indices * x) (frame_indices * y) (pairs_octets a) (pairs_octets b) (λ t. frame_indices * w + t % frame_indices)
+      (λ t. frame_indices * source_by a b pairs (t / frame_indices) + t % frame_indices) (omega arith) (omega arith) (λ t h k. rw (ne_eqb a 0 n, eq-eqb b pairs z, e)) c
 
-  -- and p, q the frame behind its first half
-  pub fill_between : (n : List ℕ) (x y p q : ℕ) → x ≡ first_frame a → y ≡ first_frame b → p ≡ middle_frame a b → q ≡ middle_frame a b → a < b → (a ≡ 0 → ⊥) → (b ≡ pairs → ⊥)
-      → Spread l n (x - 1) x p → Spread n m y q y → Filled l m a b pairs
+  -- and p the frame behind its first half
+  pub fill_between : (n : List ℕ) (w x y p : ℕ) → w ≡ second_frame (a - 1) → x ≡ first_frame a → y ≡ first_frame b → p ≡ middle_frame a b → a < b → (a ≡ 0 → ⊥) → (b ≡ pairs → ⊥)
+      → Spread l n w x p → Spread n m y p y → Filled l m a b pairs
   unfolding source_by
-  fill_between n x y p q ex ey ep eq h na nb c d =
-      let c' : Changed l n (pairs_octets a) (frame_indices * middle_frame a b) (λ t. frame_indices * (first_frame a - 1) + t % frame_indices) =
-      refit l n (frame_indices * x) (frame_indices * p) (pairs_octets a) (frame_indices * middle_frame a b) (λ t. frame_indices * (x - 1) + t % frame_indices)
-      (λ t. frame_indices * (first_frame a - 1) + t % frame_indices) (omega arith) (omega arith) (λ t i j. rw ex) c in
-      let d' : Changed n m (frame_indices * middle_frame a b) (pairs_octets b) (λ t. frame_indices * (first_frame b) + t % frame_indices) =
-      refit n m (frame_indices * q) (frame_indices * y) (frame_indices * middle_frame a b) (pairs_octets b) (λ t. frame_indices * y + t % frame_indices)
-      (λ t. frame_indices * (first_frame b) + t % frame_indices) (omega arith) (omega arith) (λ t i j. rw ey) d in
-      then l n m (pairs_octets a) (frame_indices * middle_frame a b) (pairs_octets b) (λ t. frame_indices * (first_frame a - 1) + t % frame_indices) (λ t. frame_indices * (first_frame b) + t % frame_indices)
+  fill_between n w x y p ew ex ey ep h na nb c d =
+      let e : w ≡ frame_before a = omega (arith, na) in
+      let c' : Changed l n (pairs_octets a) (frame_indices * p) (λ t. frame_indices * frame_before a + t % frame_indices) =
+      refit l n (frame_indices * x) (frame_indices * p) (pairs_octets a) (frame_indices * p) (λ t. frame_indices * w + t % frame_indices)
+      (λ t. frame_indices * frame_before a + t % frame_indices) (omega arith) (omega arith) (λ t i j. rw e) c in
+      let d' : Changed n m (frame_indices * p) (pairs_octets b) (λ t. frame_indices * frame_after b + t % frame_indices) =
+      refit n m (frame_indices * p) (frame_indices * y) (frame_indices * p) (pairs_octets b) (λ t. frame_indices * y + t % frame_indices)
+      (λ t. frame_indices * frame_after b + t % frame_indices) (omega arith) (omega arith) (λ t i j. rw ey) d in
+      then l n m (pairs_octets a) (frame_indices * p) (pairs_octets b) (λ t. frame_indices * frame_before a + t % frame_indices) (λ t. frame_indices * frame_after b + t % frame_indices)
       (λ t. frame_indices * source_by a b pairs (t / frame_indices) + t % frame_indices) (omega arith) (omega arith) c' d'
       (λ t j k.
       let e : ltb (t / frame_indices - first_frame a) (b - a) ≡ true = lt-ltb (t / frame_indices - first_frame a) (b - a) (omega arith) in
       rw (ne_eqb a 0 na, ne_eqb b pairs nb, e))
       (λ t j k.
       let e : ltb (t / frame_indices - first_frame a) (b - a) ≡ false = le-ltb (t / frame_indices - first_frame a) (b - a) (omega arith) in
-      c'.behind (frame_indices * (first_frame b) + t % frame_indices) (omega arith) ∙ rw (ne_eqb a 0 na, ne_eqb b pairs nb, e))
+      c'.behind (frame_indices * frame_after b + t % frame_indices) (omega arith) ∙ rw (ne_eqb a 0 na, ne_eqb b pairs nb, e))
 
 -- ---- all pairs before k are done in m, which was l
 pub record Going (notes l m : List ℕ) (k : ℕ) : Type 0 where

@@ -17,40 +17,22 @@ fn run_end(notes: &[u8], q: Pair) -> Pair
     requires { q.0 ≤ length notes.now }
     ensures { result.0 ≡ run_end notes.now q.0 }
 {
-    let mut b = q.0;
-    while b < notes.len() {
-        if notes[b] == GOOD {
-            return Pair(b);
-        }
-        b += 1;
-    }
-    Pair(b)
+    let bad = notes[q.0..]
+        .iter()
+        .take_while(|note| **note != GOOD)
+        .count();
+    Pair(q.0 + bad)
 }
 
-// The frame before frame first goes over the frames from first to past - 1.
-fn spread_on(index: &mut [u8], first: Frame, past: Frame)
-    requires { (1 ≤ first.0) × (first.0 ≤ past.0) × (frame_indices * past.0 ≤ length index.old) }
-    ensures { Spread index.old index.new (first.0 - 1) first.0 past.0 }
+// Frame source goes over the frames from first to past - 1.
+fn spread(index: &mut [u8], source: Frame, first: Frame, past: Frame)
+    requires source_in_bounds { frame_indices * source.0 + frame_indices ≤ length index.old }
+    requires frames_in_bounds { (first.0 ≤ past.0) × (frame_indices * past.0 ≤ length index.old) }
+    ensures { Spread index.old index.new source.0 first.0 past.0 }
 {
-    let from = first.0;
-    let end = FrameLayout::INDICES * past.0;
-    let mut t = FrameLayout::INDICES * from;
-    while t < end {
-        index[t] = index[t - FrameLayout::INDICES];
-        t += 1;
-    }
-}
-
-// Frame past goes over the frames from first to past - 1.
-fn spread_back(index: &mut [u8], first: Frame, past: Frame)
-    requires { (first.0 ≤ past.0) × (frame_indices * (past.0 + 1) ≤ length index.old) }
-    ensures { Spread index.old index.new past.0 first.0 past.0 }
-{
-    let start = FrameLayout::INDICES * first.0;
-    let mut t = FrameLayout::INDICES * past.0;
-    while start < t {
-        t -= 1;
-        index[t] = index[t + FrameLayout::INDICES];
+    let from = FrameLayout::INDICES * source.0;
+    for k in first.0..past.0 {
+        index.copy_within(from..from + FrameLayout::INDICES, FrameLayout::INDICES * k);
     }
 }
 
@@ -68,13 +50,19 @@ fn fill_run(index: &mut [u8], a: Pair, b: Pair, pairs: usize)
     requires { (a.0 < b.0) × (b.0 ≤ pairs) × (pairs_octets pairs ≤ length index.old) × (a.0 ≡ 0 → b.0 < pairs) }
     ensures { Filled index.old index.new a.0 b.0 pairs }
 {
+    let start = a.first();
+    let after = b.first();
     if a.0 == 0 {
-        spread_back(index, a.first(), b.first());
-    } else if b.0 == pairs {
-        spread_on(index, a.first(), b.first());
+        spread(index, after, start, after);
+        return;
+    }
+    let before = Pair(a.0 - 1).second();
+    if b.0 == pairs {
+        spread(index, before, start, after);
     } else {
-        spread_on(index, a.first(), middle(a, b));
-        spread_back(index, middle(a, b), b.first());
+        let half = middle(a, b);
+        spread(index, before, start, half);
+        spread(index, after, half, after);
     }
 }
 
@@ -84,6 +72,7 @@ pub fn replace(notes: &[u8], index: &mut [u8])
     requires { (pairs_octets (length notes.now) ≤ length index.old) × Good notes.now }
     ensures { index.new ≡ over index.old 0 (pairs_octets (length notes.now)) (replaced notes.now index.old) }
 {
+    // No `for`: a run of bad pairs is passed in one step.
     let mut k = 0;
     while k < notes.len() {
         if notes[k] == GOOD {
@@ -104,15 +93,12 @@ pub fn speech_of(index: &[u8], m: usize) -> usize
 {
     let first = Multiframe(m - 1).first_frame();
     let start = first.0;
-    let mut n = MultiframeLayout::FRAMES;
-    while 0 < n {
-        if frames::is_zero(index, Frame(start + (n - 1))) {
-            n -= 1;
-        } else {
-            return start + n;
+    for n in (0..MultiframeLayout::FRAMES).rev() {
+        if !frames::is_zero(index, Frame(start + n)) {
+            return start + n + 1;
         }
     }
-    start + n
+    start
 }
 
 // end_of gives 1 if the last frame of m multiframes is zero, else 0. It asks what speech_of asks.
@@ -120,8 +106,5 @@ pub fn end_of(index: &[u8], m: usize) -> u8
     requires { (1 ≤ m) × (m ≤ most_multiframes) × (index_octets * m ≤ length index.now) }
     ensures { result ≡ end_of m index.now }
 {
-    if frames::is_zero(index, Frame(MultiframeLayout::FRAMES * m - 1)) {
-        return 1;
-    }
-    0
+    u8::from(frames::is_zero(index, Frame(MultiframeLayout::FRAMES * m - 1)))
 }

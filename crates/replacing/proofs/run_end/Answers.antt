@@ -1,20 +1,20 @@
--- `run_end` meets its contract: every pair passed is bad, so the run ends where it ended.
+-- `run_end` meets its contract: the notes taken are the bad ones at the front.
 -- Assumes nothing.
-use native.Mathlib.Omega.{arith}
-use mathlib.Core.Path.{◌≡◌, ap, sym, ◌∙◌}
-use lib.ListN.{length}
-use Rattle.replacing.specs.Replacing.{run_end}
-use Rattle.replacing.proofs.Laws.{end_on, end_stop, end_last}
-use Rattle.std.proofs.Common.{rules}
+use Prim.Native.Nat.{◌+◌}
+use Rattle.std.proofs.Common.{◌∙◌, ap, not, eqb, drop, rules, tests, ℕ}
+use Rattle.std.proofs.lemmas.List.{take_rest}
+use Rattle.std.proofs.lemmas.List.Folds.{length-prefix_len}
+use Rattle.std.proofs.lemmas.Iterator.{YieldsList-from_slice}
+use Rattle.std.proofs.lemmas.Iterator.Consumers.{count_from_yields_List}
+use Rattle.std.proofs.lemmas.Iterator.Search.{YieldsList-from_take_while}
+use Rattle.replacing.proofs.Laws.{leading_counted}
 use Rattle.replacing.proofs.run_end.Goals as goal
-
-pub returns-then-notes-b-eq-GOOD : goal.returns-then-notes-b-eq-GOOD
-returns-then-notes-b-eq-GOOD c = sym (end_stop c.args.notes.now c.loop-b.b (omega arith) c.if-notes-b-eq-GOOD.true) ∙ c.loop-b.invariant.1
-
-pub loop-b-preserved : goal.loop-b-preserved
-loop-b-preserved c = (search rules, sym (end_on c.args.notes.now c.loop-b.b (omega arith) c.if-notes-b-eq-GOOD.false) ∙ c.loop-b.invariant.1)
 
 pub returns : goal.returns
 returns c =
-    let e : c.loop-b.b ≡ length c.args.notes.now = omega arith in
-    e ∙ sym (end_last c.args.notes.now) ∙ ap (run_end c.args.notes.now) (sym e) ∙ c.loop-b.invariant.1
+    let isBad = λ (n : ℕ). not (eqb n 0) in
+    let behind = drop c.args.q.0 c.args.notes.now in
+    ap (λ (k : ℕ). c.args.q.0 + k) (count_from_yields_List c.take_while.result _ c.count-bad.ensures.ran
+    (YieldsList-from_take_while _ isBad (YieldsList-from_slice behind (cc (take_rest c.args.notes.now c.args.q.0)))
+    c.take_while.ensures.closure c.take_while.ensures.done (λ x b q k. search (rules, tests)))
+    ∙ length-prefix_len isBad behind ∙ leading_counted behind)
