@@ -86,10 +86,11 @@ take_more l to n w {m} hn room em =
     ap (λ (k : ℕ). set m (to + n) (bit_and (w / 2 ^ k) most_narrow)) (sym t) ∙ take_one (replicate n 6) 6 l to n w (length-replicate n 6) hv room em
     ∙ ap (λ (ws : List ℕ). over l to (n + 1) (numbers ws (field frame_bits w))) (replicate-append-replicate n 1 6)
 
-pub take_last : (l : List ℕ) (to w : ℕ) {m : List ℕ} → to + 6 < length l → m ≡ over l to 6 (numbers (replicate 6 6) (field frame_bits w))
+pub take_last : (l : List ℕ) (to w i : ℕ) {m : List ℕ} → i ≡ 6 → to + 6 < length l → m ≡ over l to i (numbers (replicate i 6) (field frame_bits w))
     → set m (to + 6) (bit_and (w / 2 ^ 36) 255) ≡ over l to frame_indices (indices widths (field frame_bits w))
 unfolding total
-take_last l to w room em = take_one (replicate 6 6) 8 l to 6 w refl (lit≤ tt) room em
+take_last l to w i e room em =
+    take_one (replicate 6 6) 8 l to 6 w refl (lit≤ tt) room (em ∙ ap (λ (n : ℕ). over l to n (numbers (replicate n 6) (field frame_bits w))) e)
 
 -- the frame in a word of at least its bits
 front_word : (l : List Bool) (w : ℕ) → w ≡ value l → frame_bits ≤ length l → indices widths (field frame_bits w) ≡ indices widths l

@@ -34,23 +34,17 @@ const FRAME_MASK: u64 = (1 << FrameLayout::BITS) - 1;
 
 const SECOND_MASK: u64 = (1 << (FrameLayout::BITS + PacketLayout::CRC_BITS)) - 1;
 
-// first_word gives the bits of the first frame of pair p's packet in a stream. It asks, as those below, that the packet lies
-// inside.
-fn first_word(s: &[u8], p: Pair) -> u64
+// words gives the bits of the two frames of pair p's packet in a stream, the CRC behind those of the second. It asks, as those below, that
+// the packet lies inside. The second word starts four octets on and never passes the packet's last octet.
+fn words(s: &[u8], p: Pair) -> (u64, u64)
     requires { packet_start p.0 + packet_bits ≤ 8 * length s.now }
-    ensures { result ≡ value (part (packet_start p.0) frame_bits (bits s.now)) }
+    ensures first { result.0 ≡ value (part (packet_start p.0) frame_bits (bits s.now)) }
+    ensures second { result.1 ≡ value (part (packet_start p.0 + frame_bits) second_bits (bits s.now)) }
 {
     let at = p.start();
-    (bits::word(s, at / 8) >> (at % 8)) & FRAME_MASK
-}
-
-// second_word gives the bits of the second frame and the CRC. Its word starts four octets on and never passes the packet's last octet.
-fn second_word(s: &[u8], p: Pair) -> u64
-    requires { packet_start p.0 + packet_bits ≤ 8 * length s.now }
-    ensures { result ≡ value (part (packet_start p.0 + frame_bits) second_bits (bits s.now)) }
-{
-    let at = p.start();
-    (bits::word(s, at / 8 + AHEAD) >> (INTO + at % 8)) & SECOND_MASK
+    let first = bits::word(s, at / 8) >> (at % 8);
+    let second = bits::word(s, at / 8 + AHEAD) >> (INTO + at % 8);
+    (first & FRAME_MASK, second & SECOND_MASK)
 }
 
 // is_right tells whether the CRC of pair p's packet in a stream is right: the register is 0 after all 92 bits. Four zero bits ahead of
@@ -59,8 +53,7 @@ pub fn is_right(s: &[u8], p: Pair) -> bool
     requires { packet_start p.0 + packet_bits ≤ 8 * length s.now }
     ensures { result ≡ right data_bits (part (packet_start p.0) packet_bits (bits s.now)) }
 {
-    let a = first_word(s, p);
-    let b = second_word(s, p);
+    let (a, b) = words(s, p);
     let first = Crc::new().octets(a << PacketLayout::CRC_BITS, WITH_CRC);
     first.octets(b, WITH_CRC).0 == 0
 }
@@ -81,6 +74,7 @@ pub fn take_apart(s: &[u8], p: Pair, idx: &mut [u8], to: usize)
     requires { (packet_start p.0 + packet_bits ≤ 8 * length s.now) × (to + pair_indices ≤ length idx.old) }
     ensures { idx.new ≡ over idx.old to pair_indices (apart widths (part (packet_start p.0) packet_bits (bits s.now))) }
 {
-    take_frame(first_word(s, p), idx, to);
-    take_frame(second_word(s, p), idx, to + FrameLayout::INDICES);
+    let (a, b) = words(s, p);
+    take_frame(a, idx, to);
+    take_frame(b, idx, to + FrameLayout::INDICES);
 }

@@ -14,5 +14,5 @@ pub returns : goal.returns
 returns c =
     let l = bits c.args.s.now in
     let room : packet_start c.args.p.0 + packet_bits ≤ length l = rw length_bits (omega arith) in
-    right_law l (packet_start c.args.p.0) c.first_word-a.result c.second_word-b.result c.new.result.0 c.octets-first.result.0 c.octets.result.0 room
-    c.first_word-a.ensures c.second_word-b.ensures c.new.ensures c.octets-first.ensures c.octets.ensures
+    right_law l (packet_start c.args.p.0) c.words-a.result.0 c.words-a.result.1 c.new.result.0 c.octets-first.result.0 c.octets.result.0 room
+    c.words-a.ensures.first c.words-a.ensures.second c.new.ensures c.octets-first.ensures c.octets.ensures
