@@ -10,6 +10,7 @@ ghost use Rattle.entries.specs.Laws.{settings_fit};
 
 use header::Header;
 use hunt::Hunted;
+use refusals::Refusal;
 
 // The largest number of eight bits.
 const OCTET: u64 = 255;
@@ -65,9 +66,9 @@ pub fn tell_hunted(h: Hunted, found: &mut u64, tested: &mut u64, place: &mut u64
             refusals::SUCCESS
         }
         Hunted::Refused(r) => {
-            *tested = refusals::hunt_tested(r) as u64;
-            *place = refusals::hunt_place(r) as u64;
-            refusals::hunt_number(r)
+            *tested = r.tested() as u64;
+            *place = r.place() as u64;
+            r.number()
         }
     }
 }

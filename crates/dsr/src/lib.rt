@@ -14,7 +14,7 @@ ghost use Rattle.entries.specs.Entries.{header_read, packed, packing, unpacked, 
 
 use choices::Asked;
 use layout::{MultiframeLayout, Pair, ReadingLayout};
-use refusals::Writing;
+use refusals::{Refusal, Writing};
 use settings::Settings;
 use writer::Answer;
 use wrong_frames::Found;
@@ -56,7 +56,7 @@ pub extern "C" fn dsr_pack(indices: &[u8], stream: &mut [u8]) -> u32
         return refusals::WRONG_LENGTH;
     }
     match wrong_frames::first_wide(indices) {
-        Found::At(f) => refusals::writing_number(Writing::WideIndex { frame: f }),
+        Found::At(f) => Writing::WideIndex { frame: f }.number(),
         Found::Nowhere => {
             streams::put_stream(indices, Pair(0), stream, 0);
             refusals::SUCCESS

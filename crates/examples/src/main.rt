@@ -5,6 +5,7 @@
 use choices::Choices;
 use layout::{FrameLayout, MultiframeLayout, ReadingLayout, UtteranceLayout};
 use reader::Answer;
+use refusals::Refusal;
 use settings::Settings;
 use std::io;
 
@@ -76,12 +77,7 @@ fn show_reading(rt: &impl Print, name: &str, octets: &[u8], choices: Choices) ->
         &mut report,
     ) {
         Answer::Read(s) => print_numbers(rt, name, 0, s.speech as u64),
-        Answer::Refused(r) => print_numbers(
-            rt,
-            name,
-            refusals::reading_number(r) as u64,
-            refusals::reading_place(r) as u64,
-        ),
+        Answer::Refused(r) => print_numbers(rt, name, r.number() as u64, r.place() as u64),
     }
 }
 

@@ -69,7 +69,7 @@ pub fn gather(octets: &[u8], from: usize, least: usize, image: &mut [u8]) -> Gat
             Hunted::Refused(r) => {
                 return Gathered::Whole {
                     count: m,
-                    tested: tested + refusals::hunt_tested(r),
+                    tested: tested + r.tested(),
                 }
             }
         }

@@ -7,7 +7,7 @@ ghost use Rattle.text.specs.Text.{Put};
 ghost use Rattle.last_line.specs.LastLine.{most_total, total, refusal};
 
 use reader::Summary;
-use refusals::Reading;
+use refusals::{Reading, Refusal};
 
 // TOTAL is the most octets of a total or a refusal: 42 of words, six numbers and a line feed.
 pub const TOTAL: usize = 6 * text::NUMBER + 43;
@@ -38,8 +38,8 @@ pub fn put_refusal(r: Reading, text: &mut [u8], at: usize) -> usize
     requires { at + most_total ≤ length text.old }
     ensures { Put (refusal r) text.old at text.new result }
 {
-    let number = refusals::reading_number(r) as u64;
-    let place = refusals::reading_place(r) as u64;
+    let number = r.number() as u64;
+    let place = r.place() as u64;
     let end = text::put_two(b"refused ", number, b" ", place, text, at);
     text::put_words(b"\n", text, end)
 }

@@ -10,6 +10,7 @@ ghost use Rattle.entries.specs.Settle.{settle_numbers, beginning_numbers, settle
 
 use hunting::Counted;
 use reader::Summary;
+use refusals::Refusal;
 use until_settled::Beginning;
 
 // put_summary puts the six numbers of a success, in 01's order. It asks for their room, which dsr_read has tested.
@@ -60,8 +61,8 @@ pub fn tell_reading(a: reader::Answer, answer: &mut [u64], place: &mut u64) -> u
             refusals::SUCCESS
         }
         reader::Answer::Refused(r) => {
-            *place = refusals::reading_place(r) as u64;
-            refusals::reading_number(r)
+            *place = r.place() as u64;
+            r.number()
         }
     }
 }
@@ -77,8 +78,8 @@ pub fn tell_beginning(a: until_settled::Answer, answer: &mut [u64], place: &mut 
             refusals::SUCCESS
         }
         until_settled::Answer::Refused(refusal) => {
-            *place = refusals::reading_place(refusal) as u64;
-            refusals::reading_number(refusal)
+            *place = refusal.place() as u64;
+            refusal.number()
         }
     }
 }
@@ -93,9 +94,9 @@ pub fn tell_hunting_reading(a: hunting::Answer, answer: &mut [u64], place: &mut 
             put_counted(c, answer);
             refusals::SUCCESS
         }
-        hunting::Answer::Refused(r) => {
-            *place = refusals::hunting_place(r) as u64;
-            refusals::hunting_number(r)
+        hunting::Answer::Refused(q) => {
+            *place = q.place() as u64;
+            q.number()
         }
     }
 }

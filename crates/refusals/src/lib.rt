@@ -2,8 +2,9 @@
 // is 0.
 #![tactic(auto)]
 
-ghost use Rattle.std.specs.Prelude.{◌≡◌, ◌^◌, ◌<◌};
+ghost use Rattle.std.specs.Prelude.{◌≡◌, ℕ, ◌^◌, ◌<◌};
 ghost use Rattle.refusals.specs.Refusals.{writing_number, writing_place, reading_number, reading_place, hunt_number, hunt_place, hunt_tested, hunting_number, hunting_place};
+ghost use Rattle.refusals.specs.declared.Hunting.TheVariants.{Octets};
 
 use layout::Frame;
 
@@ -67,123 +68,161 @@ pub enum Hunting {
     TooMany { place: usize },
 }
 
-// writing_number gives 01's number of a writer's refusal.
-pub fn writing_number(r: Writing) -> u32
-    ensures { result ≡ writing_number r }
-{
-    match r {
-        Writing::WrongSettings => 1,
-        Writing::PartFrame { octets: _ } => 2,
-        Writing::TooMany { frames: _ } => 3,
-        Writing::WideIndex { frame: _ } => 4,
-        Writing::ZeroFrame { frame: _ } => 5,
-        Writing::OutputShort { needed: _ } => 6,
+// What a refusal tells whoever asked: which it is, and where.
+pub trait Refusal: Copy {
+    ghost number: { Self → ℕ };
+
+    ghost place: { Self → ℕ };
+
+    // The refusals whose place can be asked for: a place that does not fit cannot.
+    ghost can_place: { Self → Type 0 };
+
+    // 01's number of it, or 02's; no two refusals of an entry share one.
+    fn number(self) -> u32
+        ensures { result ≡ number self };
+
+    // The place that 01 or 02 gives it; 0 where it has none.
+    fn place(self) -> usize
+        requires { can_place self }
+        ensures { result ≡ place self };
+}
+
+impl Refusal for Writing {
+    ghost number = { writing_number };
+
+    ghost place = { writing_place };
+
+    // A frame's place counts from 1. Every place that the writer answers fits.
+    ghost can_place = { λ r. writing_place r < 2 ^ 64 };
+
+    fn number(self) -> u32 {
+        match self {
+            Writing::WrongSettings => 1,
+            Writing::PartFrame { .. } => 2,
+            Writing::TooMany { .. } => 3,
+            Writing::WideIndex { .. } => 4,
+            Writing::ZeroFrame { .. } => 5,
+            Writing::OutputShort { .. } => 6,
+        }
+    }
+
+    fn place(self) -> usize {
+        match self {
+            Writing::WrongSettings => 0,
+            Writing::PartFrame { octets } => octets,
+            Writing::TooMany { frames } => frames,
+            Writing::WideIndex { frame } => frame.0 + 1,
+            Writing::ZeroFrame { frame } => frame.0 + 1,
+            Writing::OutputShort { needed } => needed,
+        }
     }
 }
 
-// writing_place gives 01's place of a writer's refusal. It asks for one that fits, as every place that the writer answers does.
-pub fn writing_place(r: Writing) -> usize
-    requires { writing_place r < 2 ^ 64 }
-    ensures { result ≡ writing_place r }
-{
-    match r {
-        Writing::WrongSettings => 0,
-        Writing::PartFrame { octets } => octets,
-        Writing::TooMany { frames } => frames,
-        Writing::WideIndex { frame } => frame.0 + 1,
-        Writing::ZeroFrame { frame } => frame.0 + 1,
-        Writing::OutputShort { needed } => needed,
+impl Refusal for Reading {
+    ghost number = { reading_number };
+
+    ghost place = { reading_place };
+
+    ghost can_place = { λ _. Unit {0} };
+
+    fn number(self) -> u32 {
+        match self {
+            Reading::WrongTables => 11,
+            Reading::NegativeThreshold { .. } => 10,
+            Reading::Unknown { .. } => 12,
+            Reading::CutShort { .. } => 13,
+            Reading::Empty { .. } => 14,
+            Reading::TooMany { .. } => 15,
+            Reading::Unsettled => 16,
+            Reading::Unfit => 17,
+            Reading::IndexShort { .. } => 18,
+            Reading::ReportShort { .. } => 19,
+            Reading::AllBad => 20,
+        }
+    }
+
+    fn place(self) -> usize {
+        match self {
+            Reading::WrongTables => 0,
+            Reading::NegativeThreshold { threshold } => threshold,
+            Reading::Unknown { place } => place,
+            Reading::CutShort { place } => place,
+            Reading::Empty { octets } => octets,
+            Reading::TooMany { place } => place,
+            Reading::Unsettled => 0,
+            Reading::Unfit => 0,
+            Reading::IndexShort { needed } => needed,
+            Reading::ReportShort { needed } => needed,
+            Reading::AllBad => 0,
+        }
     }
 }
 
-// reading_number gives the number of a reader's refusal: 01's, and 02's of a negative threshold.
-pub fn reading_number(r: Reading) -> u32
-    ensures { result ≡ reading_number r }
-{
-    match r {
-        Reading::WrongTables => 11,
-        Reading::NegativeThreshold { threshold: _ } => 10,
-        Reading::Unknown { place: _ } => 12,
-        Reading::CutShort { place: _ } => 13,
-        Reading::Empty { octets: _ } => 14,
-        Reading::TooMany { place: _ } => 15,
-        Reading::Unsettled => 16,
-        Reading::Unfit => 17,
-        Reading::IndexShort { needed: _ } => 18,
-        Reading::ReportShort { needed: _ } => 19,
-        Reading::AllBad => 20,
+impl Refusal for Hunt {
+    ghost number = { hunt_number };
+
+    ghost place = { hunt_place };
+
+    ghost can_place = { λ _. Unit {0} };
+
+    fn number(self) -> u32 {
+        match self {
+            Hunt::MatchRange { .. } => 21,
+            Hunt::Nowhere { .. } => 22,
+        }
+    }
+
+    fn place(self) -> usize {
+        match self {
+            Hunt::MatchRange { least } => least,
+            Hunt::Nowhere { from, .. } => from,
+        }
     }
 }
 
-// reading_place gives the place of a reader's refusal.
-pub fn reading_place(r: Reading) -> usize
-    ensures { result ≡ reading_place r }
-{
-    match r {
-        Reading::WrongTables => 0,
-        Reading::NegativeThreshold { threshold } => threshold,
-        Reading::Unknown { place } => place,
-        Reading::CutShort { place } => place,
-        Reading::Empty { octets } => octets,
-        Reading::TooMany { place } => place,
-        Reading::Unsettled => 0,
-        Reading::Unfit => 0,
-        Reading::IndexShort { needed } => needed,
-        Reading::ReportShort { needed } => needed,
-        Reading::AllBad => 0,
+impl Hunt {
+    // How many places were tested before the refusal.
+    pub fn tested(self) -> usize
+        ensures { result ≡ hunt_tested self }
+    {
+        match self {
+            Hunt::MatchRange { .. } => 0,
+            Hunt::Nowhere { tested, .. } => tested,
+        }
     }
 }
 
-// hunt_number gives 02's number of a hunt's refusal.
-pub fn hunt_number(r: Hunt) -> u32
-    ensures { result ≡ hunt_number r }
-{
-    match r {
-        Hunt::MatchRange { least: _ } => 21,
-        Hunt::Nowhere { from: _, tested: _ } => 22,
+impl Refusal for Hunting {
+    ghost number = { hunting_number };
+
+    ghost place = { hunting_place };
+
+    ghost can_place = { λ _. Unit {0} };
+
+    fn number(self) -> u32 {
+        match self {
+            Hunting::Octets(r) => r.number(),
+            Hunting::MatchRange { .. } => 21,
+            Hunting::Nowhere { .. } => 22,
+            Hunting::TooMany { .. } => 15,
+        }
+    }
+
+    fn place(self) -> usize {
+        match self {
+            Hunting::Octets(r) => r.place(),
+            Hunting::MatchRange { least } => least,
+            Hunting::Nowhere { from, .. } => from,
+            Hunting::TooMany { place } => place,
+        }
     }
 }
 
-// hunt_place gives 02's place of a hunt's refusal.
-pub fn hunt_place(r: Hunt) -> usize
-    ensures { result ≡ hunt_place r }
-{
-    match r {
-        Hunt::MatchRange { least } => least,
-        Hunt::Nowhere { from, tested: _ } => from,
-    }
-}
+// A hunting reading hands on what the octet reader refuses.
+impl From<Reading> for Hunting {
+    ghost from_gives = { λ r q. q ≡ Octets r };
 
-// hunt_tested gives how many places were tested before a hunt's refusal.
-pub fn hunt_tested(r: Hunt) -> usize
-    ensures { result ≡ hunt_tested r }
-{
-    match r {
-        Hunt::MatchRange { least: _ } => 0,
-        Hunt::Nowhere { from: _, tested } => tested,
-    }
-}
-
-// hunting_number gives the number of a hunting reading's refusal: 01's, or 02's for those of the hunt.
-pub fn hunting_number(r: Hunting) -> u32
-    ensures { result ≡ hunting_number r }
-{
-    match r {
-        Hunting::Octets(q) => reading_number(q),
-        Hunting::MatchRange { least: _ } => 21,
-        Hunting::Nowhere { from: _, tested: _ } => 22,
-        Hunting::TooMany { place: _ } => 15,
-    }
-}
-
-// hunting_place gives the place of a hunting reading's refusal.
-pub fn hunting_place(r: Hunting) -> usize
-    ensures { result ≡ hunting_place r }
-{
-    match r {
-        Hunting::Octets(q) => reading_place(q),
-        Hunting::MatchRange { least } => least,
-        Hunting::Nowhere { from, tested: _ } => from,
-        Hunting::TooMany { place } => place,
+    fn from(refusal: Reading) -> Hunting {
+        Hunting::Octets(refusal)
     }
 }

@@ -5,7 +5,7 @@ ghost use Rattle.std.specs.Prelude.{◌≡◌, ◌^◌, ◌<◌};
 ghost use Rattle.writer.specs.Writing.{verdict, outcome, writing, number_of, place_of};
 
 use layout::{FrameLayout, MultiframeLayout, UtteranceLayout};
-use refusals::Writing;
+use refusals::{Refusal, Writing};
 use settings::Settings;
 use wrong_frames::Found;
 
@@ -68,7 +68,7 @@ pub fn number_of(a: Answer) -> u32
 {
     match a {
         Answer::Written { octets: _ } => refusals::SUCCESS,
-        Answer::Refused(r) => refusals::writing_number(r),
+        Answer::Refused(r) => r.number(),
     }
 }
 
@@ -79,6 +79,6 @@ pub fn place_of(a: Answer) -> usize
 {
     match a {
         Answer::Written { octets } => octets,
-        Answer::Refused(r) => refusals::writing_place(r),
+        Answer::Refused(r) => r.place(),
     }
 }

@@ -8,4 +8,4 @@ returns-in-Found c = hunt_found _ _ _ _ _ (sym c.in-Found.is)
 
 pub returns-in-Refused : goal.returns-in-Refused
 returns-in-Refused c =
-    hunt_refused _ _ _ _ _ _ _ (sym c.in-Refused.is) c.hunt_number.ensures c.hunt_tested.ensures c.hunt_place.ensures
+    hunt_refused _ _ _ _ _ _ _ (sym c.in-Refused.is) c.number.ensures c.tested.ensures c.place.ensures

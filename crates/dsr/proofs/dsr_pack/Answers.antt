@@ -15,7 +15,7 @@ returns-then-stream-ne-STREAM c =
 pub returns-in-At : goal.returns-in-At
 returns-in-At c =
     packs_no_wide c.args.indices.now c.args.stream.now (omega (arith, c.if-indices-ne-INDEX.false)) (omega (arith, c.if-stream-ne-STREAM.false)) _ (sym c.in-At.ensures) _
-    c.writing_number.ensures
+    c.number.ensures
 
 pub returns-in-Nowhere : goal.returns-in-Nowhere
 returns-in-Nowhere c =

@@ -41,9 +41,9 @@ loop-place-preserved c =
 
 pub overflow_add-result : goal.overflow_add-result
 overflow_add-result c =
-    record { fits = omega (arith, c.hunt_tested.ensures, few_tested_last _ _ _ _ _ _ _ c.loop-place.invariant.0 _ c.in-Refused.ensures, searched_lt (bits c.args.octets.now)) }
+    record { fits = omega (arith, c.tested.ensures, few_tested_last _ _ _ _ _ _ _ c.loop-place.invariant.0 _ c.in-Refused.ensures, searched_lt (bits c.args.octets.now)) }
 
 pub returns-in-Refused : goal.returns-in-Refused
 returns-in-Refused c =
-    let w = finished _ _ _ _ _ _ _ c.loop-place.invariant.0 _ c.in-Refused.ensures _ c.hunt_tested.ensures in
+    let w = finished _ _ _ _ _ _ _ c.loop-place.invariant.0 _ c.in-Refused.ensures _ c.tested.ensures in
     record { answer = w.0; image = w.1 }

@@ -10,4 +10,4 @@ returns-in-Read c =
 
 pub returns-in-Refused : goal.returns-in-Refused
 returns-in-Refused c =
-    tells_refusal settle_numbers _ _ _ _ _ _ _ (sym (ap settle_told c.in-Refused.is)) c.reading_number.ensures c.reading_place.ensures
+    tells_refusal settle_numbers _ _ _ _ _ _ _ (sym (ap settle_told c.in-Refused.is)) c.number.ensures c.place.ensures

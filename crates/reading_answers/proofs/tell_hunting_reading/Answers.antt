@@ -10,4 +10,4 @@ returns-in-Read c =
 
 pub returns-in-Refused : goal.returns-in-Refused
 returns-in-Refused c =
-    tells_refusal counted_numbers _ _ _ _ _ _ _ (sym (ap bits_told c.in-Refused.is)) c.hunting_number.ensures c.hunting_place.ensures
+    tells_refusal counted_numbers _ _ _ _ _ _ _ (sym (ap bits_told c.in-Refused.is)) c.number.ensures c.place.ensures

@@ -10,4 +10,4 @@ returns-in-Read c =
 
 pub returns-in-Refused : goal.returns-in-Refused
 returns-in-Refused c =
-    tells_refusal answer_numbers _ _ _ _ _ _ _ (sym (ap told_of c.in-Refused.is)) c.reading_number.ensures c.reading_place.ensures
+    tells_refusal answer_numbers _ _ _ _ _ _ _ (sym (ap told_of c.in-Refused.is)) c.number.ensures c.place.ensures

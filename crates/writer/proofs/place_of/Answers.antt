@@ -4,5 +4,5 @@ use native.Mathlib.Omega.{arith}
 use Rattle.writer.specs.Writing.{place_of}
 use Rattle.writer.proofs.place_of.Goals as goal
 
-pub writing_place-requires : goal.writing_place-requires
-writing_place-requires c = let e = ap place_of c.in-Refused.is in omega (arith, e)
+pub place-requires : goal.place-requires
+place-requires c = let e = ap place_of c.in-Refused.is in omega (arith, e)
