@@ -1,91 +1,72 @@
--- What stands at a place: the arithmetic of `word` and `store` on octets, as parts of the bits and as bits laid over.
+-- The library's numbers from and to octets, in bits: the word of eight octets, and the low octets of a word.
 -- Assumes nothing.
-use mathlib.Core.Path.{◌≡◌, refl, sym, ap, ap₂, ◌∙◌, subst}
-use mathlib.Core.Bool.{Bool}
-use mathlib.Core.List.{List, [], ◌∷◌, ◌++◌}
-use Prim.Native.Nat.{ℕ, suc, ◌+◌, ◌*◌, ◌/◌, ◌%◌, ◌^◌, ◌≤◌, ◌<◌}
-use native.Mathlib.Nat.{add-zero, div-one, le_of_lt, mod-eq_of_lt}
-use native.Mathlib.Omega.{arith}
-use lib.Bits.{bit_and, bit_or, or_shifted, and_mask}
-use lib.Dec.{lit≤}
-use lib.Pow.{shl_exact}
-use lib.ListN.{length, length-drop, take, drop, get_or, set, take-append-drop}
-use lib.Seq.{drop-append-add, take-append-le, drop-append-le, length-take-le, split_at, drop-drop, take-add}
-use Rattle.lists.specs.Parts.{part, over, over_over, length_over, set_over}
-use Rattle.bits.specs.Bits.{field, value, bits, octets, numbers}
-use Rattle.bits.proofs.Laws.{length_field, field_add, take_field, field_part, value_field, value_lt, value_append, length_bits, bits_append, bits_cons, length_octets, octets_append}
+use Rattle.std.specs.Prelude.{◌≡◌, refl, List, [], ◌∷◌, ℕ, zero, suc, ◌+◌, ◌-◌, ◌*◌, ◌/◌, ◌%◌, ◌^◌, ◌≤◌, ◌<◌, length, take, drop, get_or, slice_index}
+use Rattle.std.specs.Int.{w64, sum_through, byte_worth, byte_at, bytes_low_first, from_le_bytes, to_le_bytes}
+use Rattle.std.proofs.Common.{sym, ap, ap₂, ◌∙◌, arith, pow-suc, mul_assoc, mod-eq_of_lt, take_at, div-one, get_or-take, get_or-drop}
+use Rattle.std.proofs.Math.Nat.{div-div-eq-div-mul}
+use Rattle.lists.specs.Parts.{part, length_part}
+use Rattle.bits.specs.Bits.{field, value, fields, bits, octets, numbers}
+use Rattle.bits.proofs.Laws.{length_field, bits_part, field_add, take_field, drop_field, value_field, value_append, bits_cons, length_octets, octets_append}
 
-part_inside : (p q r : List Bool) (k w : ℕ) → k + w ≤ length q → part (length p + k) w (p ++ (q ++ r)) ≡ part k w q
-part_inside p q r k w h =
-    let hk : k ≤ length q = omega arith in
-    let hw : w ≤ length (drop k q) = rw length-drop (omega arith) in
-    rw (drop-append-add, drop-append-le k q r hk, take-append-le w (drop k q) r hw)
+-- ---- the word of octets
+-- one octet before octets
+value_cons : (x : ℕ) (s : List ℕ) → x < 256 → value (bits (x ∷ s)) ≡ value (bits s) * 256 + x
+value_cons x s h =
+    ap value (bits_cons x s) ∙ value_append (field 8 x) (bits s) 8 (length_field 8 x)
+    ∙ ap (λ (n : ℕ). value (bits s) * 256 + n) (value_field 8 x ∙ mod-eq_of_lt h)
 
--- w bits inside octet i, from its bit k on
-in_octet : (s : List ℕ) (i k w : ℕ) → i < length s → k + w ≤ 8 → part (i * 8 + k) w (bits s) ≡ field w (get_or s i 0 / 2 ^ k)
-in_octet s i k w hi hk =
-    let x = get_or s i 0 in
-    let e : bits s ≡ bits (take i s) ++ (field 8 x ++ bits (drop (suc i) s)) =
-    ap bits (split_at s i 0 hi) ∙ bits_append (take i s) (x ∷ drop (suc i) s) ∙ ap (◌++◌ (bits (take i s))) (bits_cons x (drop (suc i) s)) in
-    let n : length (bits (take i s)) ≡ i * 8 = rw (length_bits, length-take-le i s (le_of_lt hi)) in
-    let h : k + w ≤ length (field 8 x) = rw length_field hk in
-    rw (e, ← n) (part_inside (bits (take i s)) (field 8 x) (bits (drop (suc i) s)) k w h ∙ field_part 8 x k w hk)
+-- of no octets
+value_none : value (bits []) ≡ 0
+unfolding value fields
+value_none = refl
 
--- ---- the word of eight octets
-pub word_none : (l : List Bool) → 0 ≡ value (take 0 l)
-unfolding value
-word_none l = refl
+-- the sum by which the library says what octets are worth, up to octet k
+abbrev worth : List ℕ → ℕ → ℕ
+worth s k = sum_through (λ i. byte_worth i (slice_index s i)) k
 
--- one octet more of a word
-pub word_more : (s : List ℕ) (i k x v : ℕ) → i + 8 ≤ length s → k < 8 → get_or s (i + k) 0 < 2 ^ 8 → v ≡ get_or s (i + k) 0
-    → x ≡ value (part (8 * i) (8 * k) (bits s)) → bit_or (v * 2 ^ (8 * k) % 2 ^ 64) x ≡ value (part (8 * i) (8 * (k + 1)) (bits s))
-word_more s i k x v h hk hv ev ex =
-    let l = bits s in
-    let p = part (8 * i) (8 * k) l in
-    let q = part (8 * i + 8 * k) 8 l in
-    let g : 8 * k + 8 ≡ 8 * (k + 1) = omega arith in
-    let at : (i + k) * 8 + 0 ≡ 8 * i + 8 * k = omega arith in
-    let room : 8 * k ≤ length (drop (8 * i) l) = rw (length-drop, length_bits) (omega arith) in
-    let lp : length p ≡ 8 * k = length-take-le (8 * k) (drop (8 * i) l) room in
-    let w : part (8 * i) (8 * (k + 1)) l ≡ p ++ q =
-    ap (λ (j : ℕ). take j (drop (8 * i) l)) (sym g) ∙ take-add (8 * k) 8 (drop (8 * i) l)
-    ∙ ap (λ (m : List Bool). p ++ take 8 m) (drop-drop (8 * k) (8 * i) l) in
-    let hi : i + k < length s = omega arith in
-    let u : value q ≡ v =
-    ap (λ (j : ℕ). value (part j 8 l)) (sym at) ∙ ap value (in_octet s (i + k) 0 8 hi (lit≤ tt)) ∙ value_field 8 (get_or s (i + k) 0 / 2 ^ 0)
-    ∙ ap (λ (n : ℕ). n % 2 ^ 8) (div-one (get_or s (i + k) 0)) ∙ mod-eq_of_lt hv ∙ sym ev in
-    let hx : x < 2 ^ (8 * k) = subst (λ (n : ℕ). n < 2 ^ (8 * k)) (sym ex) (subst (λ (j : ℕ). value p < 2 ^ j) lp (value_lt p)) in
-    let hv8 : v < 2 ^ 8 = rw ev hv in
-    let hs : 8 + 8 * k ≤ 64 = omega arith in
-    ap (λ (n : ℕ). bit_or n x) (shl_exact 8 (8 * k) 64 hv8 hs) ∙ or_shifted v (8 * k) x hx
-    ∙ ap₂ (λ (a b : ℕ). a * 2 ^ (8 * k) + b) (sym u) ex ∙ sym (value_append p q (8 * k) lp) ∙ ap value (sym w)
+-- one octet before them
+worth_cons : (x : ℕ) (s : List ℕ) (k : ℕ) → worth (x ∷ s) (suc k) ≡ worth s k * 256 + x
+worth_cons x s zero = omega arith
+worth_cons x s (suc k) =
+    let b = slice_index s (suc k) in
+    let p : b * 256 ^ suc (suc k) ≡ b * 256 ^ suc k * 256 = ap (λ (n : ℕ). b * n) (pow-suc 256 (suc k)) ∙ sym (mul_assoc b (256 ^ suc k) 256) in
+    let i = worth_cons x s k in
+    omega (arith, p, i)
 
--- ---- octets stored, one behind the other
-octets_one : (x : ℕ) → octets 1 (field 8 x) ≡ x % 2 ^ 8 ∷ []
+worth_value : (s : List ℕ) (k : ℕ) → length s ≡ suc k → ((i : ℕ) → i ≤ k → get_or s i 0 < 256) → worth s k ≡ value (bits s)
+worth_value [] k h f = absurd (omega arith)
+worth_value (x ∷ []) zero h f = rw (value_cons x [] (f 0 (omega arith)), value_none) (omega arith)
+worth_value (x ∷ y ∷ s) zero h f = absurd (omega arith)
+worth_value (x ∷ s) (suc k) h f =
+    worth_cons x s k ∙ ap (λ (n : ℕ). n * 256 + x) (worth_value s k (omega arith) (λ i z. f (suc i) (omega arith))) ∙ sym (value_cons x s (f 0 (omega arith)))
+
+-- eight octets as a number
+pub word_value : (s : List ℕ) (i : ℕ) → i + 8 ≤ length s → ((k : ℕ) → get_or s k 0 < 256) → from_le_bytes w64 (part i 8 s) ≡ value (part (8 * i) 64 (bits s))
+word_value s i h f =
+    worth_value (part i 8 s) 7 (length_part s i 8 h)
+    (λ k z. rw (get_or-take 8 (drop i s) k 0 (omega arith), get_or-drop i s k 0) (f (i + k)))
+    ∙ ap value (bits_part i 8 s h)
+
+-- ---- the low octets of a word
+low : (i k n : ℕ) → bytes_low_first i k n ≡ octets k (field (8 * k) (n / 256 ^ i))
 unfolding numbers
-octets_one x = ap (λ (n : ℕ). n ∷ []) (ap value (take_all_field x) ∙ value_field 8 x)
+low i zero n = refl
+low i (suc k) n =
+    let m = n / 256 ^ i in
+    let e : 8 * suc k ≡ 8 + 8 * k = omega arith in
+    let b : value (take 8 (field (8 + 8 * k) m)) ≡ byte_at i n = rw (take_field, value_field) (byte i n) in
+    let d : n / 256 ^ suc i ≡ m / 2 ^ 8 = rw (pow-suc 256 i, div-div-eq-div-mul) refl in
+    rw (e, b, drop_field, ← d) (ap (λ (l : List ℕ). byte_at i n ∷ l) (low (suc i) k n))
   where
-    take_all_field : (x : ℕ) → take 8 (field 8 x) ≡ field 8 x
-    take_all_field x = take_field 8 0 x
+    byte : (i n : ℕ) → n / 256 ^ i % 256 ≡ byte_at i n
+    byte zero n = rw div-one refl
+    byte (suc i) n = refl
 
-octets_more : (k w : ℕ) → octets (k + 1) (field (8 * (k + 1)) w) ≡ octets k (field (8 * k) w) ++ (w / 2 ^ (8 * k) % 2 ^ 8 ∷ [])
-octets_more k w =
-    let g : 8 * (k + 1) ≡ 8 * k + 8 = omega arith in
-    ap (octets (k + 1)) (ap (λ (j : ℕ). field j w) g ∙ field_add (8 * k) 8 w)
-    ∙ octets_append k 1 (field (8 * k) w) (field 8 (w / 2 ^ (8 * k))) (length_field (8 * k) w)
-    ∙ ap (λ (x : List ℕ). octets k (field (8 * k) w) ++ x) (octets_one (w / 2 ^ (8 * k)))
-
-pub store_none : (l : List ℕ) (i w : ℕ) → l ≡ over l i 0 (octets 0 (field 0 w))
-unfolding numbers
-store_none l i w = rw add-zero (sym (take-append-drop i l))
-
-pub store_more : (l : List ℕ) (i k w : ℕ) {m : List ℕ} → i + k < length l → m ≡ over l i k (octets k (field (8 * k) w))
-    → set m (i + k) (bit_and (w / 2 ^ (8 * k)) 255) ≡ over l i (k + 1) (octets (k + 1) (field (8 * (k + 1)) w))
-store_more l i k w {m} h em =
-    let f = octets k (field (8 * k) w) in
-    let x = w / 2 ^ (8 * k) % 2 ^ 8 in
-    let hl : i + k ≤ length l = omega arith in
-    let lf : length f ≡ k = length_octets k (field (8 * k) w) in
-    let lo : i + k < length (over l i k f) = rw (length_over l f i k hl lf) h in
-    ap₂ (λ (n : List ℕ) (y : ℕ). set n (i + k) y) em (and_mask (w / 2 ^ (8 * k)) 8) ∙ set_over (over l i k f) (i + k) x lo
-    ∙ over_over l f i k hl lf 1 (x ∷ []) ∙ ap (over l i (k + 1)) (sym (octets_more k w))
+pub word_octets : (n w : ℕ) → n ≤ 8 → take n (to_le_bytes w64 w) ≡ octets n (field (8 * n) w)
+word_octets n w h =
+    let e : n + (8 - n) ≡ 8 = omega arith in
+    let f : 8 * n + 8 * (8 - n) ≡ 64 = omega arith in
+    let l : to_le_bytes w64 w ≡ octets 8 (field 64 w) = low 0 8 w ∙ ap (λ (m : ℕ). octets 8 (field 64 m)) (div-one w) in
+    ap (take n) (l ∙ ap₂ (λ (a b : ℕ). octets a (field b w)) (sym e) (sym f) ∙ ap (octets (n + (8 - n))) (field_add (8 * n) (8 * (8 - n)) w)
+    ∙ octets_append n (8 - n) (field (8 * n) w) (field (8 * (8 - n)) (w / 2 ^ (8 * n))) (length_field (8 * n) w))
+    ∙ take_at (octets n (field (8 * n) w)) (octets (8 - n) (field (8 * (8 - n)) (w / 2 ^ (8 * n)))) n (length_octets n (field (8 * n) w))
