@@ -11,6 +11,7 @@ ghost use Rattle.until_settled.specs.UntilSettled.{settled_answer, end_answer, u
 use choices::Choices;
 use cutting::Piece;
 use layout::{Multiframe, MultiframeLayout, UtteranceLayout};
+use message::Fields;
 use refusals::Reading;
 use settings::Settings;
 use settling::Settlement;
@@ -23,7 +24,7 @@ fn settled(common: u16, multiframes: usize) -> Answer
     if unfit::is_unfit(common) {
         return Answer::Refused(Reading::Unfit);
     }
-    let settings = message::fields_of(common).settings;
+    let settings = Fields::from(common).settings;
     Answer::Read(Beginning {
         settings,
         multiframes,

@@ -8,6 +8,7 @@ ghost use Rattle.header_notes.specs.Steps.{step_note, common_note};
 
 use header::Header;
 use layout::Multiframe;
+use message::Fields;
 
 // The counter of a header counts modulo 16.
 const COUNTS: usize = 16;
@@ -48,7 +49,7 @@ fn note_of(h: Header, k: Multiframe, common: u16) -> u8
     let Header::Codeword(d) = h else {
         return LOST;
     };
-    let step = step_note(message::fields_of(d.message).count, k);
+    let step = step_note(Fields::from(d.message).count, k);
     let like = common_note(message::common_of(d.message), common);
     d.flips as u8 + step + like
 }

@@ -19,7 +19,7 @@ fn put_multiframe(settings: Settings, indices: &[u8], k: Multiframe, out: &mut [
 {
     let at = MultiframeLayout::OCTETS * k.0;
     let count = ((k.0 + 1) & 15) as u8;
-    let message = message::message_of(Fields {
+    let message = u16::from(Fields {
         settings,
         count,
         exp: 0,

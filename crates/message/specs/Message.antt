@@ -4,6 +4,7 @@
 use Rattle.std.specs.Prelude.{ℕ, ◌+◌, ◌*◌, ◌/◌, ◌%◌}
 use Rattle.settings.specs.declared.Settings.{Settings}
 use Rattle.settings.specs.Settings.{settings}
+use Rattle.message.specs.declared.Fields.{Fields}
 pub mod Laws
 
 -- the message of its fields; of a number too large for its field the low bits count
@@ -25,6 +26,10 @@ count_of m = m / 8 % 16
 
 pub exp_of : ℕ → ℕ
 exp_of m = m / 128 % 512
+
+-- all its fields
+abbrev pub fields_of : ℕ → Fields
+fields_of m = record { settings = settings_of m; count = count_of m; exp = exp_of m }
 
 -- the common bits are SampRate, feType and EXP (01, "Settings"): the message with its counter 0
 pub common_bits : ℕ → ℕ

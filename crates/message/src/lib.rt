@@ -3,7 +3,7 @@
 #![tactic(auto)]
 
 ghost use Rattle.std.specs.Prelude.{◌≡◌};
-ghost use Rattle.message.specs.Message.{message, settings_of, count_of, exp_of, common_bits};
+ghost use Rattle.message.specs.Message.{message, fields_of, common_bits};
 
 use settings::Settings;
 
@@ -16,30 +16,32 @@ pub struct Fields {
 }
 
 // The message of its fields; of a number too large for its field the low bits count.
-pub fn message_of(f: Fields) -> u16
-    ensures { result ≡ message f.settings f.count f.exp }
-{
-    let rate = (f.settings.rate & 3) as u16;
-    let kind = (f.settings.kind & 1) as u16;
-    let count = (f.count & 15) as u16;
-    let exp = f.exp & 511;
-    rate | (kind << 2) | (count << 3) | (exp << 7)
+impl From<Fields> for u16 {
+    ghost from_gives = { λ f m. m ≡ message f.settings f.count f.exp };
+
+    fn from(f: Fields) -> u16 {
+        let rate = (f.settings.rate & 3) as u16;
+        let kind = (f.settings.kind & 1) as u16;
+        let count = (f.count & 15) as u16;
+        let exp = f.exp & 511;
+        rate | (kind << 2) | (count << 3) | (exp << 7)
+    }
 }
 
 // The fields of a message.
-pub fn fields_of(message: u16) -> Fields
-    ensures settings { result.settings ≡ settings_of message }
-    ensures count { result.count ≡ count_of message }
-    ensures exp { result.exp ≡ exp_of message }
-{
-    let rate = (message & 3) as u8;
-    let kind = ((message >> 2) & 1) as u8;
-    let settings = Settings { rate, kind };
-    let count = ((message >> 3) & 15) as u8;
-    Fields {
-        settings,
-        count,
-        exp: message >> 7,
+impl From<u16> for Fields {
+    ghost from_gives = { λ m f. f ≡ fields_of m };
+
+    fn from(message: u16) -> Fields {
+        let rate = (message & 3) as u8;
+        let kind = ((message >> 2) & 1) as u8;
+        let settings = Settings { rate, kind };
+        let count = ((message >> 3) & 15) as u8;
+        Fields {
+            settings,
+            count,
+            exp: message >> 7,
+        }
     }
 }
 

@@ -18,6 +18,7 @@ use choices::Choices;
 use cutting::Cut;
 use deciding::Verdict;
 use layout::{MultiframeLayout, UtteranceLayout};
+use message::Fields;
 use refusals::Reading;
 use settings::Settings;
 use tables::Admission;
@@ -67,7 +68,7 @@ fn write(
     replacing::replace(notes, index);
     report::put_report(headers, notes, common, report);
     let m = places.len();
-    let settled = message::fields_of(common);
+    let settled = Fields::from(common);
     let settings = settled.settings;
     Summary {
         settings,

@@ -19,7 +19,7 @@ pub enum Answer {
 fn decide(settings: Settings, indices: &[u8], room: usize) -> Answer
     ensures { result ≡ verdict settings indices.now room }
 {
-    if !settings::is_right(settings) {
+    if !settings.is_right() {
         return Answer::Refused(Writing::WrongSettings);
     }
     if indices.len() % FrameLayout::INDICES != 0 {

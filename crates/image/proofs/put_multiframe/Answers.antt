@@ -14,7 +14,7 @@ overflow_cast-count c = record { fits = omega (arith, mask_lt (c.args.k.0 + 1) 4
 
 pub returns : goal.returns
 returns c =
-    let m : c.message_of-message.result ≡ message c.args.settings (c.args.k.0 + 1) 0 =
-    c.message_of-message.ensures ∙ ap (λ (n : ℕ). message c.args.settings n 0) (and_mask (c.args.k.0 + 1) 4) ∙ count_mod c.args.settings (c.args.k.0 + 1) 0 in
+    let m : c.from-message.result ≡ message c.args.settings (c.args.k.0 + 1) 0 =
+    c.from-message.ensures ∙ ap (λ (n : ℕ). message c.args.settings n 0) (and_mask (c.args.k.0 + 1) 4) ∙ count_mod c.args.settings (c.args.k.0 + 1) 0 in
     laid_multiframe_lem c.args.settings c.args.indices.now c.args.k.0 c.encode-word.result _ c.args.out.now _ _ _ c.requires.multiframe_octets_in_bounds
     (c.encode-word.ensures ∙ ap codeword m) c.first_pair.ensures c.store.ensures c.store-2.ensures c.put_stream.ensures

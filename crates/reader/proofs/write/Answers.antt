@@ -1,10 +1,11 @@
 -- `write` meets its contract: all pairs taken apart, the bad ones replaced, the report laid, and the rest read off. Assumes nothing.
 use Prim.Native.Nat.{ℕ, ◌*◌}
-use mathlib.Core.Path.{ap₂, ◌∙◌}
+use mathlib.Core.Path.{ap, ap₂, ◌∙◌}
 use mathlib.Core.List.{List}
 use native.Mathlib.Omega.{arith}
 use Rattle.lists.specs.Parts.{over}
 use Rattle.layout.specs.Layout.{report_octets}
+use Rattle.message.specs.declared.Fields.{Fields}
 use Rattle.report.specs.Sections.{stored_size, stored_mended, sections_are}
 use Rattle.reader.proofs.Steps.{index_is, summary_is}
 use Rattle.reader.proofs.write.Goals as goal
@@ -25,7 +26,7 @@ returns c =
     let size = c.requires.headers_value.1 in
     let e = index_is a.octets.now a.places.now a.notes.now a.index.now c.take_all_apart.new.idx c.replace.new.index size c.requires.places_in_bounds.0 c.take_all_apart.ensures c.requires.headers_value.2 c.replace.ensures in
     record {
-      answer = summary_is a.octets.now a.places.now a.notes.now a.common _ _ _ _ a.index.now c.replace.new.index c.requires.placed.1 size e c.fields_of-settled.ensures.settings c.speech_of.ensures c.count_bad.ensures c.end_of.ensures;
+      answer = summary_is a.octets.now a.places.now a.notes.now a.common _ _ _ _ a.index.now c.replace.new.index c.requires.placed.1 size e (ap (λ (f : Fields). f.settings) c.from-settled.ensures) c.speech_of.ensures c.count_bad.ensures c.end_of.ensures;
       index = e;
       report = c.put_report.ensures ∙ ap₂ (λ (k : ℕ) (l : List ℕ). over a.report.now 0 (report_octets * k) l) (stored_size a.octets.now a.places.now a.headers.now stored) (sections_are a.octets.now a.places.now a.headers.now stored a.notes.now a.common);
     }

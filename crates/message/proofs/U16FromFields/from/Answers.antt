@@ -1,7 +1,6 @@
 -- Each field is masked to its width and shifted behind the ones before it. Assumes nothing.
 use Rattle.message.specs.Message.Laws.{packed}
-use Rattle.message.proofs.message_of.Goals as goal
+use Rattle.message.proofs.U16FromFields.from.Goals as goal
 
 pub returns : goal.returns
-returns c =
-    packed c.args.f.settings c.args.f.count c.args.f.exp
+returns c = packed c.args.f.settings c.args.f.count c.args.f.exp
