@@ -52,11 +52,11 @@ frame_more idx at n x v hn ev ex =
     (ap (λ (m : List Bool). l ++ m) b ∙ laid_more (replicate n 6) 6 idx at n (length-replicate n 6)
     ∙ ap (λ (ws : List ℕ). laid ws (row idx at (n + 1))) (replicate-append-replicate n 1 6))
 
-pub frame_last : (idx : List ℕ) (at x v : ℕ) → v ≡ get_or idx (at + 6) 0 → v < 2 ^ 8 → x ≡ value (laid (replicate 6 6) (row idx at 6))
+pub frame_last : (idx : List ℕ) (at i x v : ℕ) → i ≡ 6 → v ≡ get_or idx (at + 6) 0 → v < 2 ^ 8 → x ≡ value (laid (replicate i 6) (row idx at i))
     → bit_or x (v * 2 ^ 36 % 2 ^ 64) ≡ value (frame widths (row idx at frame_indices))
-frame_last idx at x v ev hv ex =
+frame_last idx at i x v e ev hv ex =
     let l = laid (replicate 6 6) (row idx at 6) in
-    word_add l 36 8 x v (length_sixes 6 (row idx at 6)) (lit≤ tt) ex hv
+    word_add l 36 8 x v (length_sixes 6 (row idx at 6)) (lit≤ tt) (ex ∙ ap (λ (n : ℕ). value (laid (replicate n 6) (row idx at n))) e) hv
     ∙ ap value (ap (λ (n : ℕ). l ++ field 8 n) ev ∙ laid_more (replicate 6 6) 8 idx at 6 refl)
 
 -- a frame's word holds its bits

@@ -5,6 +5,7 @@ ghost use Rattle.std.specs.Prelude.{◌≡◌, ◌^◌, ◌<◌};
 ghost use Rattle.writer.specs.Writing.{verdict, outcome, writing, number_of, place_of};
 
 use layout::{FrameLayout, MultiframeLayout, UtteranceLayout};
+use packing::Frames;
 use refusals::{Refusal, Writing};
 use settings::Settings;
 use wrong_frames::Found;
@@ -55,7 +56,8 @@ pub fn write(settings: Settings, indices: &[u8], out: &mut [u8]) -> Answer
 {
     match decide(settings, indices, out.len()) {
         Answer::Written { octets } => {
-            image::put_image(settings, indices, octets / MultiframeLayout::OCTETS, out);
+            let frames = Frames { octets: indices };
+            image::put_image(settings, frames, octets / MultiframeLayout::OCTETS, out);
             Answer::Written { octets }
         }
         Answer::Refused(r) => Answer::Refused(r),

@@ -7,5 +7,5 @@ use Rattle.packing.proofs.crc_of.Goals as goal
 pub returns : goal.returns
 returns c =
     let a = c.args in
-    c.wide.ensures
-    ∙ crc_law a.a a.b c.new.result.0 c.octets-first.result.0 c.octets.result.0 c.requires c.new.ensures c.octets-first.ensures c.octets.ensures
+    c.from.ensures
+    ∙ crc_law a.a a.b c.new.result.0 c.octets-first.result.0 c.octets-both.result.0 c.requires c.new.ensures c.octets-first.ensures c.octets-both.ensures

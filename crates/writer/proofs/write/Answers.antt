@@ -7,12 +7,18 @@ use Rattle.writer.proofs.Places.{in_numbers}
 use Rattle.writer.proofs.Steps.{finishes, leaves}
 use Rattle.writer.proofs.write.Goals as goal
 
+-- what is written is whole frames
+pub invariant_of-frames : goal.invariant_of-frames
+invariant_of-frames c =
+    let h = accepted c.args.settings c.args.indices.now (length c.args.out.now) _ (sym c.in-Written.ensures) in
+    record { whole = h.sizes.whole }
+
 pub put_image-requires : goal.put_image-requires
 put_image-requires c =
     let h = accepted c.args.settings c.args.indices.now (length c.args.out.now) _ (sym c.in-Written.ensures) in
     let m = few_multiframes c.args.settings c.args.indices.now h.sizes in
     record {
-      frame_indices_len = (h.sizes.whole, omega (arith, h.octets_needed, m));
+      most = omega (arith, h.octets_needed, m);
       m_in_bounds = omega (arith, h.octets_needed, h.room);
     }
 
