@@ -2,18 +2,19 @@
 -- Assumes nothing.
 use mathlib.Core.Path.{◌≡◌, refl, sym, ap, ap₂, ◌∙◌}
 use mathlib.Core.Bool.{Bool, true, false, xor, cond}
-use mathlib.Core.List.{List, [], ◌∷◌}
-use Prim.Native.Nat.{ℕ, ◌+◌, ◌*◌, ◌/◌, ◌%◌, ◌^◌, ◌<◌}
+use mathlib.Core.List.{List, [], ◌∷◌, ◌++◌}
+use Prim.Native.Nat.{ℕ, ◌+◌, ◌/◌, ◌%◌, ◌^◌, ◌<◌}
 use native.Mathlib.Nat.{div-div-eq-div-mul, mod-eq_of_lt}
-use native.Mathlib.Omega.{arith}
 use lib.Bits.{bit_and, bit_xor, and_mask}
 use lib.Dec.{eqb, T, eqb→eq}
 use lib.Pow.{shr-shr}
 use borrow.Author.Tests.{eq-eqb}
-use lib.ListN.{length}
+use lib.ListN.{length, get_or, take}
+use lib.Seq.{take-suc}
+use native.Mathlib.Numerals.{add-one}
 use Rattle.lists.specs.Tests.{all, all_holds, not_same, true_false}
-use Rattle.bits.specs.Bits.{value, field, odd}
-use Rattle.bits.proofs.Laws.{value_lt, value_field, field_value, field_add, field_low}
+use Rattle.bits.specs.Bits.{value, field, bits, odd}
+use Rattle.bits.proofs.Laws.{value_lt, value_field, field_value, field_add, fields_one, bits_append}
 use Rattle.crc.specs.Crc.{Rem, rem, none, sent, fed, fed_all, code, coded, right}
 use Rattle.crc.proofs.Laws.{fed_append, right_fed, right_true}
 
@@ -90,15 +91,16 @@ fed_bit c x k r y e f =
     ∙ sym (fed_append (coded c) (field k x) (field 1 (x / 2 ^ k)))
     ∙ ap (fed_all (coded c)) (sym (field_add k 1 x)))
 
--- one octet more of a number
-pub fed_octet : (c w k r x : ℕ) → r ≡ code (fed_all (coded c) (field (8 * k) w)) → x ≡ w / 2 ^ (8 * k)
-    → code (fed_all (coded r) (field 8 (bit_and x 255))) ≡ code (fed_all (coded c) (field (8 * (k + 1)) w))
-fed_octet c w k r x e f =
-    let g : 8 * k + 8 ≡ 8 * (k + 1) = omega arith in
+-- one octet more
+pub fed_octet : (c k r : ℕ) (s : List ℕ) → k < length s → r ≡ code (fed_all (coded c) (bits (take k s)))
+    → code (fed_all (coded r) (field 8 (get_or s k 0))) ≡ code (fed_all (coded c) (bits (take (k + 1) s)))
+fed_octet c k r s h e =
+    let x = get_or s k 0 in
+    let t : take (k + 1) s ≡ take k s ++ (x ∷ []) = rw (add-one k) (take-suc s k 0 h) in
     ap code
-    (ap₂ fed_all (ap coded e ∙ coded_code (fed_all (coded c) (field (8 * k) w))) (ap (field 8) (and_mask x 8) ∙ field_low 8 x ∙ ap (field 8) f)
-    ∙ sym (fed_append (coded c) (field (8 * k) w) (field 8 (w / 2 ^ (8 * k))))
-    ∙ ap (fed_all (coded c)) (sym (field_add (8 * k) 8 w) ∙ ap (λ (j : ℕ). field j w) g))
+    (ap (λ (q : Rem). fed_all q (field 8 x)) (ap coded e ∙ coded_code (fed_all (coded c) (bits (take k s))))
+    ∙ sym (fed_append (coded c) (bits (take k s)) (field 8 x))
+    ∙ ap (fed_all (coded c)) (ap (λ (l : List Bool). bits (take k s) ++ l) (sym (fields_one 8 x)) ∙ sym (bits_append (take k s) (x ∷ [])) ∙ ap bits (sym t)))
 
 pub shifted : (x k y j : ℕ) → y ≡ x / 2 ^ k → y / 2 ^ j ≡ x / 2 ^ (k + j)
 shifted x k y j e = ap (λ (n : ℕ). n / 2 ^ j) e ∙ shr-shr x k j

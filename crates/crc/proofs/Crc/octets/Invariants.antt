@@ -1,13 +1,9 @@
--- `crc::Crc::octets` meets its contract: after k turns the register was fed the k low octets of the word.
+-- `crc::Crc::octets` meets its contract: after so many octets the register was fed their bits.
 -- Assumes nothing.
-use mathlib.Core.Path.{◌≡◌}
-use Prim.Native.Nat.{◌-◌, ◌*◌, ◌/◌, ◌^◌, ◌≤◌}
-use Rattle.bits.specs.Bits.{field}
+use Rattle.std.proofs.Common.{◌≡◌, take}
+use Rattle.bits.specs.Bits.{bits}
 use Rattle.crc.specs.Crc.{code, coded, fed_all}
 use Rattle.crc.proofs.Crc.octets.Given as goal
 
-abbrev pub invariant-loop-k : goal.invariant-loop-k
-invariant-loop-k l = (l.k ≤ l.n) × ((l.x ≡ l.w / 2 ^ (8 * l.k)) × (l.r.0 ≡ code (fed_all (coded l.initial.r.0) (field (8 * l.k) l.w))))
-
-abbrev pub decreases-loop-k : goal.decreases-loop-k
-decreases-loop-k l = l.n - l.k
+abbrev pub invariant-loop-octet : goal.invariant-loop-octet
+invariant-loop-octet l = l.r.0 ≡ code (fed_all (coded l.initial.r.0) (bits (take l.octet-index l.octet-items)))

@@ -1,18 +1,17 @@
 -- `crc::Crc::step` meets its contract: a test over the sixteen registers, for each bit.
 -- Assumes nothing.
-use mathlib.Core.Path.{sym, ap, ◌∙◌}
-use mathlib.Core.Bool.{Bool, cond, xor}
-use Prim.Native.Nat.{◌/◌}
+use Rattle.std.proofs.Common.{Bool, cond, sym, ap, ◌∙◌, ◌/◌}
+use mathlib.Core.Bool.{xor}
 use lib.Bits.{bit_xor}
 use Rattle.crc.proofs.Register.{step_law}
 use Rattle.crc.proofs.Crc.step.Goals as goal
 
-pub returns-then-r-bit : goal.returns-then-r-bit
+pub returns-then-self-bit : goal.returns-then-self-bit
 unfolding xor
-returns-then-r-bit c =
-    ap (λ (t : Bool). cond t (bit_xor (c.args.self.0 / 2) 12) (c.args.self.0 / 2)) (sym c.if-r-bit.true) ∙ step_law c.args.self.0 c.args.bit c.requires
+returns-then-self-bit c =
+    ap (λ (t : Bool). cond t (bit_xor (c.args.self.0 / 2) 12) (c.args.self.0 / 2)) (sym c.if-self-bit.true) ∙ step_law c.args.self.0 c.args.bit c.requires
 
-pub returns : goal.returns
+pub returns-else-self-bit : goal.returns-else-self-bit
 unfolding xor
-returns c =
-    ap (λ (t : Bool). cond t (bit_xor (c.args.self.0 / 2) 12) (c.args.self.0 / 2)) (sym c.if-r-bit.false) ∙ step_law c.args.self.0 c.args.bit c.requires
+returns-else-self-bit c =
+    ap (λ (t : Bool). cond t (bit_xor (c.args.self.0 / 2) 12) (c.args.self.0 / 2)) (sym c.if-self-bit.false) ∙ step_law c.args.self.0 c.args.bit c.requires
