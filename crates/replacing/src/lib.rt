@@ -1,7 +1,7 @@
 // Replacing the frames of bad pairs by the good frames around them, and what the frames then say of the end of speech.
 #![tactic(auto)]
 
-ghost use Rattle.std.specs.Prelude.{◌≡◌, ◌+◌, ◌-◌, ◌*◌, ◌^◌, ◌≤◌, ◌<◌, length};
+ghost use Rattle.std.specs.Prelude.{◌≡◌, ◌+◌, ◌*◌, ◌^◌, ◌≤◌, ◌<◌, length};
 ghost use Rattle.lists.specs.Parts.{over};
 ghost use Rattle.layout.specs.Layout.{frame_indices, index_octets, most_multiframes, second_frame};
 ghost use Rattle.replacing.specs.Replacing.{run_end, middle_frame, pairs_octets, replaced};

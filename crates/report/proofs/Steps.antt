@@ -1,29 +1,16 @@
 -- Each turn of the report's loops lays what is next behind what is there, over lists and numbers alone.
 -- Assumes nothing.
-use Prim.Native.Nat.{ℕ, suc, ◌+◌, ◌*◌, ◌≤◌, ◌<◌}
-use mathlib.Core.Path.{◌≡◌, refl, ap, sym, ◌∙◌}
-use mathlib.Core.List.{List, [], ◌∷◌, ◌++◌}
+use Prim.Native.Nat.{ℕ, suc, ◌+◌, ◌*◌, ◌≤◌}
+use mathlib.Core.Path.{◌≡◌, refl, ap, ◌∙◌}
+use mathlib.Core.List.{List, [], ◌∷◌}
 use native.Mathlib.Omega.{arith}
-use native.Mathlib.Numerals.{add-one}
-use lib.ListN.{length, get_or, take, drop, set, length-drop}
-use lib.Seq.{take-suc, get_or-drop}
+use lib.ListN.{length, get_or, set}
 use Rattle.lists.specs.Parts.{part, over, length_part, set_over, behind}
 use Rattle.lists.specs.Rows.{joined_more}
 use Rattle.layout.specs.Layout.{multiframe_pairs, report_octets, first_pair}
 use Rattle.header_notes.specs.HeaderNotes.{header_note}
 use Rattle.header_readings.specs.Stored.{opened}
 use Rattle.report.specs.Sections.{section, sections}
-
--- one note more of the twelve
-pub note_on : (ns l m : List ℕ) (from to j x : ℕ) → from + j < length ns → to + j < length l → x ≡ get_or ns (from + j) 0 → length m ≡ length l
-    → m ≡ over l to j (part from j ns) → set m (to + j) x ≡ over l to (j + 1) (part from (j + 1) ns)
-note_on ns l m from to j x h room e size em =
-    let n : length (part from j ns) ≡ j = length_part ns from j (omega arith) in
-    let s : set m (to + j) x ≡ over m (to + j) 1 (x ∷ []) = set_over m (to + j) x (omega arith) in
-    let t : part from (j + 1) ns ≡ part from j ns ++ (x ∷ []) =
-    ap (λ (k : ℕ). take k (drop from ns)) (add-one j) ∙ take-suc (drop from ns) j 0 (rw length-drop (omega arith))
-    ∙ ap (λ (y : ℕ). part from j ns ++ (y ∷ [])) (get_or-drop from ns j 0 ∙ sym e) in
-    behind l to j 1 (part from j ns) (x ∷ []) (omega arith) n em s ∙ ap (over l to (j + 1)) (sym t)
 
 -- a header note and the twelve notes behind it
 pub section_is : (headers ns l m : List ℕ) (c k x first : ℕ) → report_octets * k + report_octets ≤ length l → x ≡ header_note c k (opened (get_or headers k 0))

@@ -2,26 +2,13 @@
 #![tactic(auto)]
 
 ghost use Rattle.std.specs.Prelude.{◌≡◌, length, get_or};
-ghost use Prim.Native.Nat.{◌+◌, ◌*◌, ◌≤◌, ◌<◌};
-ghost use Rattle.lists.specs.Parts.{part, over};
-ghost use Rattle.layout.specs.Layout.{multiframe_pairs, report_octets};
+ghost use Prim.Native.Nat.{◌*◌, ◌<◌};
+ghost use Rattle.lists.specs.Parts.{over};
+ghost use Rattle.layout.specs.Layout.{report_octets};
 ghost use Rattle.header_readings.specs.Stored.{Mended, opened};
 ghost use Rattle.report.specs.Sections.{Reportable, section, sections};
 
-use layout::{Multiframe, MultiframeLayout, Pair, ReadingLayout};
-
-// The notes of the twelve pairs from pair first on go to place to of the report.
-fn put_notes(notes: &[u8], first: Pair, report: &mut [u8], to: usize)
-    requires { (first.0 + multiframe_pairs ≤ length notes.now) × (to + multiframe_pairs ≤ length report.old) }
-    ensures { report.new ≡ over report.old to multiframe_pairs (part first.0 multiframe_pairs notes.now) }
-{
-    let from = first.0;
-    let mut j = 0;
-    while j < MultiframeLayout::PAIRS {
-        report[to + j] = notes[from + j];
-        j += 1;
-    }
-}
+use layout::{Multiframe, MultiframeLayout, ReadingLayout};
 
 // Multiframe k's thirteen octets go to the report.
 fn put_section(headers: &[u32], notes: &[u8], common: u16, report: &mut [u8], k: Multiframe)
@@ -30,8 +17,10 @@ fn put_section(headers: &[u32], notes: &[u8], common: u16, report: &mut [u8], k:
     ensures { report.new ≡ over report.old (report_octets * k.0) report_octets (section headers.now notes.now common k.0) }
 {
     let at = ReadingLayout::REPORT * k.0;
+    let first = k.first_pair().0;
     report[at] = header_notes::note_at(headers, k, common);
-    put_notes(notes, k.first_pair(), report, at + 1);
+    let pairs = &mut report[at + 1..at + 1 + MultiframeLayout::PAIRS];
+    pairs.copy_from_slice(&notes[first..first + MultiframeLayout::PAIRS]);
 }
 
 // put_report puts the report's part to the front of report; the rest of it stays. It asks for headers as read_headers stores them.
@@ -41,9 +30,7 @@ pub fn put_report(headers: &[u32], notes: &[u8], common: u16, report: &mut [u8])
     ensures { report.new ≡ over report.old 0 (report_octets * length headers.now)
         (sections headers.now notes.now common (length headers.now)) }
 {
-    let mut k = 0;
-    while k < headers.len() {
+    for k in 0..headers.len() {
         put_section(headers, notes, common, report, Multiframe(k));
-        k += 1;
     }
 }
