@@ -14,6 +14,7 @@ ghost use Rattle.entries.specs.Entries.{header_read, packed, packing, unpacked, 
 
 use choices::Asked;
 use layout::{MultiframeLayout, Pair, ReadingLayout};
+use packing::Frames;
 use refusals::{Refusal, Writing};
 use settings::Settings;
 use writer::Answer;
@@ -58,7 +59,7 @@ pub extern "C" fn dsr_pack(indices: &[u8], stream: &mut [u8]) -> u32
     match wrong_frames::first_wide(indices) {
         Found::At(f) => Writing::WideIndex { frame: f }.number(),
         Found::Nowhere => {
-            streams::put_stream(indices, Pair(0), stream, 0);
+            streams::put_stream(Frames { octets: indices }, Pair(0), stream, 0);
             refusals::SUCCESS
         }
     }
