@@ -8,9 +8,9 @@ ghost use Rattle.entries.specs.Bits.{hunt_returned, hunt_returning};
 ghost use Rattle.entries.specs.Entries.{header_read};
 ghost use Rattle.entries.specs.Laws.{settings_fit};
 
-use header::Header;
-use hunt::Hunted;
-use refusals::Refusal;
+use header::Decoded;
+use hunt::Found;
+use refusals::{Hunt, Refusal, Writing};
 
 // The largest number of eight bits.
 const OCTET: u64 = 255;
@@ -29,21 +29,21 @@ pub fn fits(rate: u64, kind: u64) -> bool
 }
 
 // tell_header puts the message and the number of flipped bits into the lent numbers; of a lost header both stay.
-pub fn tell_header(h: Header, message: &mut u16, flips: &mut u32) -> u32
+pub fn tell_header(h: Option<Decoded>, message: &mut u16, flips: &mut u32) -> u32
     ensures { header_read result message.new flips.new message.old flips.old h }
 {
     match h {
-        Header::Codeword(d) => {
+        Some(d) => {
             *message = d.message;
             *flips = d.flips;
             refusals::SUCCESS
         }
-        Header::Lost => refusals::UNREADABLE,
+        None => refusals::UNREADABLE,
     }
 }
 
 // tell_written puts the octets written or the refusal's place into place. It asks for a number that fits, as every answer of write has.
-pub fn tell_written(a: writer::Answer, place: &mut u64) -> u32
+pub fn tell_written(a: Result<usize, Writing>, place: &mut u64) -> u32
     requires { place_of a < 2 ^ 64 }
     ensures { (result ≡ number_of a) × (place.new ≡ place_of a) }
 {
@@ -53,19 +53,26 @@ pub fn tell_written(a: writer::Answer, place: &mut u64) -> u32
 
 // tell_hunted puts the bit found and the number of places tested into found and tested; or the refusal's place and the number of places tested
 // into place and tested. What it does not name stays.
-pub fn tell_hunted(h: Hunted, found: &mut u64, tested: &mut u64, place: &mut u64) -> u32
+pub fn tell_hunted(
+    h: Result<Found, Hunt>,
+    found: &mut u64,
+    tested: &mut u64,
+    place: &mut u64,
+) -> u32
     ensures { hunt_returned result found.new tested.new place.new ≡ hunt_returning found.old place.old h }
 {
     match h {
-        Hunted::Found {
-            place: at,
-            tested: n,
-        } => {
+        Ok(
+            Found {
+                place: at,
+                tested: n,
+            },
+        ) => {
             *found = at as u64;
             *tested = n as u64;
             refusals::SUCCESS
         }
-        Hunted::Refused(r) => {
+        Err(r) => {
             *tested = r.tested() as u64;
             *place = r.place() as u64;
             r.number()

@@ -1,5 +1,6 @@
 -- The turns of `read`: what was met so far is the front of what cutting meets, its headers stand in the array, and no two of them agree.
 -- Assumes nothing.
+use Rattle.std.specs.Prelude.{Some, None, Err}
 use Prim.Native.Nat.{ℕ, suc, ◌+◌, ◌≤◌, ◌<◌}
 use mathlib.Core.Path.{◌≡◌, refl, ap, ap₂, sym, ◌∙◌, subst}
 use mathlib.Core.List.{List, [], ◌∷◌, ◌++◌}
@@ -14,8 +15,7 @@ use Rattle.choices.specs.declared.Choices.{Choices}
 use Rattle.carrier.specs.Carrier.{header_word}
 use Rattle.refusals.specs.declared.Reading.TheVariants as R
 use Rattle.header.specs.Reading.{reading}
-use Rattle.header.specs.declared.Header.{Header}
-use Rattle.header.specs.declared.Header.TheVariants.{Lost}
+use Rattle.header.specs.Types.{Header}
 use Rattle.cutting.specs.declared.Piece.{Piece}
 use Rattle.cutting.specs.declared.Piece.TheVariants.{Multiframe, Inverse}
 use Rattle.cutting.specs.Cutting.{piece_of, Ending, Cutting, ended, step, walk}
@@ -26,10 +26,8 @@ use Rattle.header_readings.specs.Readings.{readings}
 use Rattle.settling.specs.Settling.{first_agreeing, settling}
 use Rattle.header_readings.specs.Stored.{packed, opened, open_all, length_open, opened_packed, mended}
 use Rattle.settling.specs.Steps.{seen_before, settled_by}
-use Rattle.settling.specs.declared.Settlement.{Settlement}
-use Rattle.settling.specs.declared.Settlement.TheVariants as S
-use Rattle.until_settled.specs.declared.Answer.{Answer}
-use Rattle.until_settled.specs.declared.Answer.TheVariants.{Refused}
+use Rattle.settling.specs.Types.{Settlement}
+use Rattle.until_settled.specs.Types.{Answer}
 use Rattle.until_settled.specs.UntilSettled.{read_until, settled_answer, end_answer, unsettled_answer, until_settled}
 use Rattle.until_settled.proofs.Agreeing.{one_more, one_more_read}
 use Rattle.until_settled.specs.Front.{Front, start, met, stepped, readings_more}
@@ -47,7 +45,7 @@ open_more l x =
 
 -- ---- the end of the octets
 module _ (ch : Choices) (n : ℕ) (l : List ℕ) where
-  pub ended_empty : length l ≡ 0 → Refused (R.Empty n) ≡ end_answer ch n (open_all l)
+  pub ended_empty : length l ≡ 0 → Err (R.Empty n) ≡ end_answer ch n (open_all l)
   unfolding end_answer
   ended_empty z = rw (eq-eqb (length (open_all l)) 0 (length_open l ∙ z))
 
@@ -73,7 +71,7 @@ pub record Going (s headers : List ℕ) (p m : ℕ) : Type 0 where
   pub few : m ≤ most_multiframes
   pub room : length headers ≡ most_multiframes
   pub stored : open_all (take m headers) ≡ readings s places
-  pub none : first_agreeing [] (readings s places) ≡ S.Unsettled
+  pub none : first_agreeing [] (readings s places) ≡ None
 
 pub begun : (s headers : List ℕ) → length headers ≡ most_multiframes → Going s headers 0 0
 unfolding open_all readings first_agreeing
@@ -152,22 +150,22 @@ module _ (ch : Choices) (s headers : List ℕ) (p m : ℕ) (g : Going s headers 
       length_read = length_each (λ k. reading (header_word s (get_or ps k 0))) (length ps) ∙ g.count
 
       -- what `agreed` answers of it
-      module _ (r : Settlement) (er : r ≡ settled_by (get_or (open_all (take (m + 1) (set headers m x))) m Lost) (seen_before (open_all (take (m + 1) (set headers m x))) m)) where
+      module _ (r : Settlement) (er : r ≡ settled_by (get_or (open_all (take (m + 1) (set headers m x))) m None) (seen_before (open_all (take (m + 1) (set headers m x))) m)) where
         found : first_agreeing [] (readings s (ps ++ (p ∷ []))) ≡ r
         found =
             let hs = readings s ps in
             let gs = hs ++ (reading (header_word s p) ∷ []) in
             let all : open_all (take (m + 1) (set headers m x)) ≡ gs = more_stored ∙ read_one in
-            ap (first_agreeing []) read_one ∙ one_more hs (reading (header_word s p)) g.none ∙ ap (λ (k : ℕ). settled_by (get_or gs k Lost) (seen_before gs k)) length_read
-            ∙ sym (ap (λ (l : List Header). settled_by (get_or l m Lost) (seen_before l m)) all) ∙ sym er
+            ap (first_agreeing []) read_one ∙ one_more hs (reading (header_word s p)) g.none ∙ ap (λ (k : ℕ). settled_by (get_or gs k None) (seen_before gs k)) length_read
+            ∙ sym (ap (λ (l : List Header). settled_by (get_or l m None) (seen_before l m)) all) ∙ sym er
 
-        pub settles : (c : ℕ) → r ≡ S.Settled c → settled_answer (m + 1) (S.Settled c) ≡ until_settled ch s
+        pub settles : (c : ℕ) → r ≡ Some c → settled_answer (m + 1) (Some c) ≡ until_settled ch s
         settles c e =
             let n : read_until [] (readings s (ps ++ (p ∷ []))) ≡ m + 1 =
             ap (read_until []) read_one ∙ one_more_read (readings s ps) (reading (header_word s p)) g.none ∙ ap (λ (k : ℕ). k + 1) length_read in
-            ap (λ (k : ℕ). settled_answer k (S.Settled c)) (sym n) ∙ settles_here ch s on c (found ∙ e)
+            ap (λ (k : ℕ). settled_answer k (Some c)) (sym n) ∙ settles_here ch s on c (found ∙ e)
 
-        pub goes_on : r ≡ S.Unsettled → Going s (set headers m x) (p + multiframe_octets) (m + 1)
+        pub goes_on : r ≡ None → Going s (set headers m x) (p + multiframe_octets) (m + 1)
         goes_on e =
             record {
               places = ps ++ (p ∷ []);

@@ -1,8 +1,7 @@
 -- The choices are all that there are, and each is asked for by its number.
 -- Assumes nothing.
-use Rattle.std.specs.Prelude.{◌≡◌, refl, Bool, true, false}
+use Rattle.std.specs.Prelude.{◌≡◌, refl, Bool, true, false, Some}
 use Rattle.choices.specs.declared.Choices.{Choices}
-use Rattle.choices.specs.declared.Asked.TheVariants.{For}
 use Rattle.choices.specs.Choices.{one_settles, by_default, by_one_header, asked, choice_number}
 
 -- these are all the choices that there are
@@ -14,6 +13,6 @@ default_or_asked P d o ch = by (one_settles ch)
     by false = d
 
 -- the number of each choice asks for it
-pub asked_for : (ch : Choices) → asked (choice_number ch) ≡ For ch
+pub asked_for : (ch : Choices) → asked (choice_number ch) ≡ Some ch
 unfolding asked
-asked_for = default_or_asked (λ (ch : Choices). asked (choice_number ch) ≡ For ch) refl refl
+asked_for = default_or_asked (λ (ch : Choices). asked (choice_number ch) ≡ Some ch) refl refl

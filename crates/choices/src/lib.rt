@@ -11,31 +11,24 @@ pub struct Choices {
     pub one_header_settles: bool,
 }
 
-// What a caller asked for by a number.
-#[derive(Clone, Copy)]
-pub enum Asked {
-    For(Choices),
-    NoSuchChoice,
-}
-
 const BY_DEFAULT: u64 = 0;
 
 const ONE_HEADER_SETTLES: u64 = 1;
 
-// asked_by gives the choices that a number names. One that names none is told, and not taken for another: a choice of a later version is
-// never left out without a word.
-pub fn asked_by(number: u64) -> Asked
+// asked_by gives the choices that a number names. For one that names none it gives none, and takes it for no other: a choice of a later
+// version is never left out without a word.
+pub fn asked_by(number: u64) -> Option<Choices>
     ensures { result ≡ asked number }
 {
     if number == BY_DEFAULT {
-        return Asked::For(Choices {
+        return Some(Choices {
             one_header_settles: false,
         });
     }
     if number == ONE_HEADER_SETTLES {
-        return Asked::For(Choices {
+        return Some(Choices {
             one_header_settles: true,
         });
     }
-    Asked::NoSuchChoice
+    None
 }

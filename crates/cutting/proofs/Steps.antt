@@ -1,5 +1,6 @@
 -- The turns of `cut_into`: what is still to be cut, laid behind the places already stored, makes the whole answer and the whole buffer.
 -- Assumes nothing.
+use Rattle.std.specs.Prelude.{Ok, Err}
 use Prim.Native.Nat.{ℕ, suc, ◌+◌, ◌≤◌, ◌<◌}
 use mathlib.Core.Path.{◌≡◌, refl, ap, sym, ◌∙◌, subst}
 use mathlib.Core.List.{List, [], ◌∷◌, append_assoc}
@@ -12,8 +13,7 @@ use Rattle.layout.specs.Layout.{multiframe_octets, sync_octets, most_multiframes
 use Rattle.refusals.specs.declared.Reading.TheVariants as R
 use Rattle.cutting.specs.declared.Piece.{Piece}
 use Rattle.cutting.specs.declared.Piece.TheVariants.{End, Multiframe, Inverse, Unknown, CutShort, TooMany}
-use Rattle.cutting.specs.declared.Cut.{Cut}
-use Rattle.cutting.specs.declared.Cut.TheVariants as C
+use Rattle.cutting.specs.Types.{Cut}
 use Rattle.cutting.specs.Cutting.{piece_of, Ending, whole, refused, Cutting, step, walk, cutting, answered_by, answered, laid}
 use Rattle.cutting.specs.Laws.{Says}
 use Rattle.cutting.proofs.Laws.{says, at_place}
@@ -47,12 +47,12 @@ Done s b₀ b r = (r ≡ answered (cutting s)) × (b ≡ laid 0 (cutting s).plac
 
 -- what each piece asks of its turn
 abbrev pub Next : (s b₀ b : List ℕ) (p m : ℕ) → Piece → Type 0
-Next s b₀ b p m End = Done s b₀ b (C.Whole m)
+Next s b₀ b p m End = Done s b₀ b (Ok m)
 Next s b₀ b p m Multiframe = (p + multiframe_octets ≤ length s) × (m < most_multiframes) × Going s b₀ (set b m p) (p + multiframe_octets) (m + 1)
 Next s b₀ b p m Inverse = (p + sync_octets ≤ length s) × Going s b₀ b (p + sync_octets) m
-Next s b₀ b p m Unknown = Done s b₀ b (C.Refused (R.Unknown p))
-Next s b₀ b p m CutShort = Done s b₀ b (C.Refused (R.CutShort p))
-Next s b₀ b p m TooMany = Done s b₀ b (C.Refused (R.TooMany p))
+Next s b₀ b p m Unknown = Done s b₀ b (Err (R.Unknown p))
+Next s b₀ b p m CutShort = Done s b₀ b (Err (R.CutShort p))
+Next s b₀ b p m TooMany = Done s b₀ b (Err (R.TooMany p))
 
 module _ (s b₀ b : List ℕ) (p m : ℕ) (g : Going s b₀ b p m) where
   ended_here : (e : Ending) → walk 0 (drop p s) p m ≡ record { places = []; ending = e } → Done s b₀ b (answered_by m e)

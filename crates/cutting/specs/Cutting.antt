@@ -1,7 +1,7 @@
 -- Cutting up (01, "Cutting up", and 12, 13 and 15 of the reader's table): the octet places of the multiframes met, in order, and how
 -- cutting ended. Places count from 0.
 -- Assumes nothing.
-use Rattle.std.specs.Prelude.{ℕ, zero, suc, ◌+◌, ◌-◌, List, [], ◌∷◌, length, get_or, ltb, eqb}
+use Rattle.std.specs.Prelude.{ℕ, zero, suc, ◌+◌, ◌-◌, List, [], ◌∷◌, length, get_or, ltb, eqb, Ok, Err}
 use Rattle.lists.specs.Tests.{when}
 use Rattle.lists.specs.Parts.{over}
 use Rattle.layout.specs.Layout.{multiframe_octets, sync_octets, most_multiframes, sync_first, sync_second, inverse_first, inverse_second}
@@ -9,8 +9,7 @@ use Rattle.refusals.specs.declared.Reading.{Reading}
 use Rattle.refusals.specs.declared.Reading.TheVariants as R
 use Rattle.cutting.specs.declared.Piece.{Piece}
 use Rattle.cutting.specs.declared.Piece.TheVariants.{End, Multiframe, Inverse, Unknown, CutShort, TooMany}
-use Rattle.cutting.specs.declared.Cut.{Cut}
-use Rattle.cutting.specs.declared.Cut.TheVariants as C
+use Rattle.cutting.specs.Types.{Cut}
 
 -- a sync with n octets from it on, after m multiframes: one too many, even a cut one (15); too few octets (13); else a multiframe
 unfoldable pub sync_met : ℕ → ℕ → Piece
@@ -68,8 +67,8 @@ cutting l = walk 0 l 0 0
 
 -- the code's answer: how many multiframes, or the refusal
 abbrev pub answered_by : ℕ → Ending → Cut
-answered_by m whole = C.Whole m
-answered_by m (refused r) = C.Refused r
+answered_by m whole = Ok m
+answered_by m (refused r) = Err r
 
 abbrev pub answered : Cutting → Cut
 answered w = answered_by (length w.places) w.ending

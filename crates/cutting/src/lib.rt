@@ -19,13 +19,6 @@ pub enum Piece {
     TooMany,
 }
 
-// How cutting ended: with so many multiframes, or refused.
-#[derive(Clone, Copy)]
-pub enum Cut {
-    Whole { count: usize },
-    Refused(Reading),
-}
-
 // piece_of names what the octets begin, after so many multiframes.
 pub fn piece_of(rest: &[u8], count: usize) -> Piece
     ensures { result ≡ piece_of rest.now count }
@@ -71,9 +64,9 @@ fn sync_met(octets: usize, count: usize) -> Piece
     Piece::Multiframe
 }
 
-// cut_into puts the places of the multiframes met to the front of places; the rest of places stays.
+// cut_into puts the places of the multiframes met to the front of places and answers their number; the rest of places stays.
 // It asks for room for as many as an utterance may have: its caller lends an array of its own.
-pub fn cut_into(s: &[u8], places: &mut [usize]) -> Cut
+pub fn cut_into(s: &[u8], places: &mut [usize]) -> Result<usize, Reading>
     requires { length places.old ≡ most_multiframes }
     ensures answer { result ≡ answered (cutting s.now) }
     ensures places { places.new ≡ laid 0 (cutting s.now).places places.old }
@@ -90,10 +83,10 @@ pub fn cut_into(s: &[u8], places: &mut [usize]) -> Cut
             Piece::Inverse => {
                 p += MultiframeLayout::SYNC;
             }
-            Piece::End => return Cut::Whole { count: m },
-            Piece::Unknown => return Cut::Refused(Reading::Unknown { place: p }),
-            Piece::CutShort => return Cut::Refused(Reading::CutShort { place: p }),
-            Piece::TooMany => return Cut::Refused(Reading::TooMany { place: p }),
+            Piece::End => return Ok(m),
+            Piece::Unknown => return Err(Reading::Unknown { place: p }),
+            Piece::CutShort => return Err(Reading::CutShort { place: p }),
+            Piece::TooMany => return Err(Reading::TooMany { place: p }),
         }
     }
 }

@@ -1,6 +1,6 @@
 -- Damage to an image, as demand 3 counts it, and what is left of the utterance in a damaged image.
 -- Assumes nothing.
-use Rattle.std.specs.Prelude.{◌≡◌, Bool, true, false, List, ◌⊎◌, ℕ, ◌+◌, ◌*◌, ◌^◌, ◌≤◌, ◌<◌, length, drop, get_or}
+use Rattle.std.specs.Prelude.{◌≡◌, Bool, true, false, List, ◌⊎◌, ℕ, ◌+◌, ◌*◌, ◌^◌, ◌≤◌, ◌<◌, length, drop, get_or, Some, None}
 use Rattle.std.proofs.Common.{sym, ◌∙◌, subst, inl, inr, lt_of_lt_of_le, arith, length-take, pow_mono}
 use Rattle.std.proofs.Math.Path.{ap}
 use Rattle.std.specs.Int.Bits.{bit_xor}
@@ -17,7 +17,6 @@ use Rattle.message.specs.Message.{message}
 use Rattle.message.specs.Message.Laws.{message_lt}
 use Rattle.header.specs.Reading.{decoded_as, reading}
 use Rattle.header.proofs.Laws.{near, lost_at_three}
-use Rattle.header.specs.declared.Header.TheVariants.{Codeword, Lost}
 use Rattle.image.specs.Made.{Small, sync_in, header_in, word_in, packet_in}
 use Rattle.image.proofs.Laws.{image_word, image_packet}
 use Rattle.writer.specs.Utterance.{Utterance, multiframes_of, pairs_of, image_of}
@@ -84,12 +83,12 @@ module _ (u : Utterance) (s : List ℕ) (k : ℕ) (h : k < multiframes_of u) whe
   header_near = ap (λ (w : ℕ). ones (bit_xor (word_in s k) w)) (sym (image_word u.settings u.indices (multiframes_of u) k h))
 
   -- with at most two flips it is read as that codeword, and its flips are counted
-  pub header_read_lem : header_flips (image_of u) s k ≤ 2 → reading (word_in s k) ≡ Codeword (decoded_as (word_in s k) (sent_message u k))
+  pub header_read_lem : header_flips (image_of u) s k ≤ 2 → reading (word_in s k) ≡ Some (decoded_as (word_in s k) (sent_message u k))
   header_read_lem few =
       near (word_in s k) (sent_message u k) (message_lt u.settings (k + 1) 0) (subst (λ (n : ℕ). n ≤ 2) (sym header_near) few)
 
   -- and with three it is lost
-  pub header_lost : header_flips (image_of u) s k ≡ 3 → reading (word_in s k) ≡ Lost
+  pub header_lost : header_flips (image_of u) s k ≡ 3 → reading (word_in s k) ≡ None
   header_lost e = lost_at_three (word_in s k) (sent_message u k) (message_lt u.settings (k + 1) 0) (header_near ∙ e)
 
 -- ---- pairs

@@ -1,6 +1,6 @@
 -- Utterances and damaged images that meet the premises of the theorems, so that none of them speaks of nothing.
 -- Assumes nothing.
-use Rattle.std.specs.Prelude.{◌≡◌, refl, Bool, List, [], ◌∷◌, ◌++◌, ℕ, zero, suc, ◌^◌, ◌<◌}
+use Rattle.std.specs.Prelude.{◌≡◌, refl, Bool, List, [], ◌∷◌, ◌++◌, ℕ, zero, suc, ◌^◌, ◌<◌, Ok}
 use Rattle.std.proofs.Common.{lit<}
 use Rattle.std.specs.Int.Bits.{bit_xor}
 use Rattle.lists.specs.Search.{first_from}
@@ -12,7 +12,6 @@ use Rattle.header_code.specs.Code.{codeword}
 use Rattle.image.specs.Made.{Small, made}
 use Rattle.writer.specs.Writing.{verdict, room_answer, needed}
 use Rattle.writer.specs.Utterance.{Utterance}
-use Rattle.writer.specs.declared.Answer.TheVariants.{Written}
 use Rattle.damage.specs.Damage.{sent_message}
 
 -- ---- utterances of one frame, one multiframe long
@@ -30,11 +29,11 @@ small_lone x h (suc (suc (suc (suc (suc zero))))) = lit< tt
 small_lone x h (suc (suc (suc (suc (suc (suc zero)))))) = lit< tt
 small_lone x h (suc (suc (suc (suc (suc (suc (suc i))))))) = lit< tt
 
-pub written_1 : verdict (settings 0 0) (lone 1) (needed (lone 1)) ≡ Written (needed (lone 1))
+pub written_1 : verdict (settings 0 0) (lone 1) (needed (lone 1)) ≡ Ok (needed (lone 1))
 unfolding verdict room_answer first_from zero_frame
 written_1 = refl
 
-pub written_2 : verdict (settings 0 0) (lone 2) (needed (lone 2)) ≡ Written (needed (lone 2))
+pub written_2 : verdict (settings 0 0) (lone 2) (needed (lone 2)) ≡ Ok (needed (lone 2))
 unfolding verdict room_answer first_from zero_frame
 written_2 = refl
 

@@ -1,3 +1,4 @@
+pub mod Types
 pub mod Deciding
 pub mod Laws
 pub mod Steps

@@ -13,37 +13,29 @@ ghost use Rattle.deciding.specs.Steps.{early_verdict, Kept};
 use choices::Choices;
 use layout::ReadingLayout;
 use refusals::Reading;
-use settling::Settlement;
-
-// What is decided before anything is written: a refusal, or the settled common bits.
-#[derive(Clone, Copy)]
-pub enum Verdict {
-    Refuse(Reading),
-    Accept { common: u16 },
-}
 
 // 17, 18 and 19: what can be refused of settled common bits before any pair is judged.
-fn early(common: u16, m: usize, index: usize, report: usize) -> Verdict
+fn early(common: u16, m: usize, index: usize, report: usize) -> Result<u16, Reading>
     requires { m ≤ most_multiframes }
     ensures { result ≡ early_verdict m index report common }
 {
     if unfit::is_unfit(common) {
-        return Verdict::Refuse(Reading::Unfit);
+        return Err(Reading::Unfit);
     }
     if index < ReadingLayout::INDEX * m {
-        return Verdict::Refuse(Reading::IndexShort {
+        return Err(Reading::IndexShort {
             needed: ReadingLayout::INDEX * m,
         });
     }
     if report < ReadingLayout::REPORT * m {
-        return Verdict::Refuse(Reading::ReportShort {
+        return Err(Reading::ReportShort {
             needed: ReadingLayout::REPORT * m,
         });
     }
-    Verdict::Accept { common }
+    Ok(common)
 }
 
-// decide gives 14 and 16 to 20, of octets that are cut up, by what the caller chose. Neither the index nor the report buffer is lent to it,
+// decide gives the settled common bits, or 14 and 16 to 20, of octets that are cut up, by what the caller chose. Neither the index nor the report buffer is lent to it,
 // only their lengths. An accepted reading has its headers and notes in headers and notes.
 pub fn decide(
     octets: &[u8],
@@ -55,7 +47,7 @@ pub fn decide(
     report: usize,
     headers: &mut [u32],
     notes: &mut [u8],
-) -> Verdict
+) -> Result<u16, Reading>
     requires placed { Placed octets.now places.now × (length notes.old ≡ pair_count places.now) × (length places.now ≤ most_multiframes)
         × (length headers.old ≡ length places.now) }
     requires right_sizes { RightSizes (tables_of codebook.now thresholds.now) }
@@ -64,21 +56,21 @@ pub fn decide(
     ensures notes { Kept (received_notes octets.now places.now (tables_of codebook.now thresholds.now)) notes.new result }
 {
     if places.len() == 0 {
-        return Verdict::Refuse(Reading::Empty {
+        return Err(Reading::Empty {
             octets: octets.len(),
         });
     }
     header_readings::read_headers(octets, places, headers);
-    let Settlement::Settled { common } = settling::settle(headers, choices) else {
-        return Verdict::Refuse(Reading::Unsettled);
+    let Some(common) = settling::settle(headers, choices) else {
+        return Err(Reading::Unsettled);
     };
-    if let Verdict::Refuse(r) = early(common, places.len(), index, report) {
-        return Verdict::Refuse(r);
+    if let Err(r) = early(common, places.len(), index, report) {
+        return Err(r);
     }
     notes::note_crcs(octets, places, notes);
     notes::judge(octets, places, codebook, thresholds, notes);
     if bad_pairs::count_bad(notes) == notes.len() {
-        return Verdict::Refuse(Reading::AllBad);
+        return Err(Reading::AllBad);
     }
-    Verdict::Accept { common }
+    Ok(common)
 }

@@ -2,7 +2,7 @@
 -- read settle the settings sent; where the caller asks for the old rule (02, C-20), an only one that is untouched does too. Whatever happened to
 -- the pairs.
 -- Assumes nothing.
-use Rattle.std.specs.Prelude.{◌≡◌, true, false, List, [], ◌∷◌, ◌⊎◌, ℕ, ◌+◌, ◌%◌, ◌≤◌, ◌<◌, length, get_or}
+use Rattle.std.specs.Prelude.{◌≡◌, true, false, List, [], ◌∷◌, ◌⊎◌, ℕ, ◌+◌, ◌%◌, ◌≤◌, ◌<◌, length, get_or, Some, None}
 use Rattle.std.proofs.Common.{sym, ap, ◌∙◌, subst, inl, inr, arith, eq-eqb, le-leb}
 use Rattle.std.proofs.Math.Decide.{dec_lt}
 use Rattle.std.proofs.Math.ListN.{get_or-eq_default}
@@ -19,8 +19,7 @@ use Rattle.message.specs.Message.Laws.{count_back, exp_back, common_exp, common_
 use Rattle.header.specs.Reading as H
 use Rattle.header.proofs.Laws.{lost_not_read, same_message}
 use Rattle.header.specs.declared.Decoded.{Decoded}
-use Rattle.header.specs.declared.Header.{Header}
-use Rattle.header.specs.declared.Header.TheVariants.{Codeword, Lost}
+use Rattle.header.specs.Types.{Header}
 use Rattle.header_readings.specs.Readings.{readings}
 use Rattle.settling.specs.Settling.{among, settling}
 use Rattle.header_notes.specs.HeaderNotes.{header_note}
@@ -28,7 +27,6 @@ use Rattle.header_readings.specs.Laws.{length_readings}
 use Rattle.settling.specs.Laws.{Has, Earlier, First, Enough}
 use Rattle.settling.proofs.Laws.{settled_first, has_read, read_has, settled_same, two_settle, settled_enough, one_default, only_clean, only_mended, only_lost}
 use Rattle.header_notes.specs.Laws.{note_lost}
-use Rattle.settling.specs.declared.Settlement.TheVariants.{Settled, Unsettled}
 use Rattle.image.specs.Made.{word_in}
 use Rattle.writer.specs.Utterance.{Utterance, multiframes_of, image_of}
 use Rattle.writer.proofs.Utterance.{settings_right_lem}
@@ -50,17 +48,17 @@ pub exp_sent : (u : Utterance) → exp_of (sent_common u) ≡ 0
 exp_sent u = common_exp (message u.settings 0 0) ∙ exp_back u.settings 0 0
 
 -- a header read as sent, in step and as settled, has its flips for a note
-note_of_read : (u : Utterance) (k w : ℕ) → header_note (sent_common u) k (Codeword (H.decoded_as w (sent_message u k))) ≡ flips_to w (sent_message u k)
+note_of_read : (u : Utterance) (k w : ℕ) → header_note (sent_common u) k (Some (H.decoded_as w (sent_message u k))) ≡ flips_to w (sent_message u k)
 unfolding header_note
 note_of_read u k w =
     let f = flips_to w (sent_message u k) in
     let z : f + 0 + 0 ≡ f = omega arith in
     rw (eq-eqb (count_of (sent_message u k)) ((k + 1) % 16) (count_back u.settings (k + 1) 0), eq-eqb (common_bits (sent_message u k)) (sent_common u) (common_sent u k)) z
 
-pub heard_read : (w message : ℕ) → flips_to w message ≤ 2 → heard_as w message ≡ Codeword (H.decoded_as w message)
+pub heard_read : (w message : ℕ) → flips_to w message ≤ 2 → heard_as w message ≡ Some (H.decoded_as w message)
 heard_read w message few = rw (le-leb (flips_to w message) 2 few)
 
-pub heard_lost : (w message : ℕ) → 2 < flips_to w message → heard_as w message ≡ Lost
+pub heard_lost : (w message : ℕ) → 2 < flips_to w message → heard_as w message ≡ None
 heard_lost w message many = rw (lt-leb (flips_to w message) 2 many)
 
 -- headers that are enough and of which the first is untouched can settle
@@ -91,7 +89,7 @@ module _ (u : Utterance) (s : List ℕ) (k : ℕ) (h : k < multiframes_of u) (mo
       ]
 
   -- so where it is read its common bits are those sent
-  read_sent : (d : Decoded) → H.reading (word_in s k) ≡ Codeword d → common_bits d.message ≡ sent_common u
+  read_sent : (d : Decoded) → H.reading (word_in s k) ≡ Some d → common_bits d.message ≡ sent_common u
   read_sent d e =
       elim (dec_lt 2 (flips_to (word_in s k) (sent_message u k))) [
         | yes y ↦ absurd (lost_not_read d (sym (heard ∙ heard_lost (word_in s k) (sent_message u k) y) ∙ e))
@@ -112,18 +110,18 @@ module _ (u : Utterance) (s : List ℕ) (j : ℕ) (others : (k : ℕ) → k < mu
   pub others_sent : (k d : ℕ) → (k ≡ j → ⊥) → Has (readings s (row_of (multiframes_of u))) k d → d ≡ sent_common u
   others_sent k d n x = by (dec_lt k (multiframes_of u))
     where
-      r : (x : Decoded) × ((get_or hs k Lost ≡ Codeword x) × (common_bits x.message ≡ d))
+      r : (x : Decoded) × ((get_or hs k None ≡ Some x) × (common_bits x.message ≡ d))
       r = has_read hs k d x
 
       by : Dec (k < multiframes_of u) → d ≡ sent_common u
-      by (no o) = absurd (lost_not_read r.0 (sym (get_or-eq_default hs Lost (omega (arith, length_hs))) ∙ r.1.0))
+      by (no o) = absurd (lost_not_read r.0 (sym (get_or-eq_default hs None (omega (arith, length_hs))) ∙ r.1.0))
       by (yes h) =
           sym r.1.1
           ∙ read_sent u s k h (others k h n) r.0
-          (sym (ap (λ (l : List Header). get_or l k Lost) (readings_are s (multiframes_of u)) ∙ each_at (λ k. H.reading (word_in s k)) (multiframes_of u) k Lost h) ∙ r.1.0)
+          (sym (ap (λ (l : List Header). get_or l k None) (readings_are s (multiframes_of u)) ∙ each_at (λ k. H.reading (word_in s k)) (multiframes_of u) k None h) ∙ r.1.0)
 
   -- so of two headers or more nothing else is settled
-  pub settles_nothing_else : (ch : Choices) (d : ℕ) → 2 ≤ multiframes_of u → settling ch (readings s (row_of (multiframes_of u))) ≡ Settled d → d ≡ sent_common u
+  pub settles_nothing_else : (ch : Choices) (d : ℕ) → 2 ≤ multiframes_of u → settling ch (readings s (row_of (multiframes_of u))) ≡ Some d → d ≡ sent_common u
   settles_nothing_else ch d two = settled_same hs (sent_common u) j others_sent ch d (omega (arith, length_hs))
 
 -- all headers have at most three flips
@@ -141,8 +139,8 @@ module _ (u : Utterance) (s : List ℕ) (most : (k : ℕ) → k < multiframes_of
   pub headers_read : readings s (row_of m) ≡ each (λ k. heard_as (word_in s k) (sent_message u k)) m
   headers_read = readings_are s m ∙ same_each (λ k. H.reading (word_in s k)) heard_at m (λ k h. heard u s k h (most k h))
 
-  header_is : (k : ℕ) → k < m → get_or (readings s (row_of m)) k Lost ≡ heard_at k
-  header_is k h = ap (λ (l : List Header). get_or l k Lost) headers_read ∙ each_at heard_at m k Lost h
+  header_is : (k : ℕ) → k < m → get_or (readings s (row_of m)) k None ≡ heard_at k
+  header_is k h = ap (λ (l : List Header). get_or l k None) headers_read ∙ each_at heard_at m k None h
 
   -- a readable header is read with the common bits sent
   has_sent : (k : ℕ) → k < m → flips k ≤ 2 → Has (readings s (row_of m)) k (sent_common u)
@@ -152,7 +150,7 @@ module _ (u : Utterance) (s : List ℕ) (most : (k : ℕ) → k < multiframes_of
       (header_is k h ∙ heard_read (word_in s k) (sent_message u k) (omega (arith, header_near u s k h))))
 
   -- two readable headers settle the common bits sent, and so does an only one that is untouched where the caller asks for it
-  pub settles : (ch : Choices) → Settling ch u s → settling ch (readings s (row_of m)) ≡ Settled (sent_common u)
+  pub settles : (ch : Choices) → Settling ch u s → settling ch (readings s (row_of m)) ≡ Some (sent_common u)
   settles ch (inl t) =
       let l = t.order in
       let w = t.within in
@@ -161,10 +159,10 @@ module _ (u : Utterance) (s : List ℕ) (most : (k : ℕ) → k < multiframes_of
       let z : flips_to (word_in s 0) (sent_message u 0) ≡ 0 = header_near u s 0 (omega (arith, x.1.0)) ∙ x.1.1 in
       ap (settling ch) headers_read ∙ ap (λ (n : ℕ). settling ch (each heard_at n)) x.1.0
       ∙ ap (λ (h : Header). settling ch (h ∷ [])) (heard_read (word_in s 0) (sent_message u 0) (omega arith))
-      ∙ only_clean ch (H.decoded_as (word_in s 0) (sent_message u 0)) x.0 z ∙ ap Settled (common_sent u 0)
+      ∙ only_clean ch (H.decoded_as (word_in s 0) (sent_message u 0)) x.0 z ∙ ap Some (common_sent u 0)
 
   -- and nothing else settles anything: of two headers or more two are readable
-  pub settled_readable : (ch : Choices) (c : ℕ) → 2 ≤ multiframes_of u → settling ch (readings s (row_of (multiframes_of u))) ≡ Settled c → TwoReadable u s
+  pub settled_readable : (ch : Choices) (c : ℕ) → 2 ≤ multiframes_of u → settling ch (readings s (row_of (multiframes_of u))) ≡ Some c → TwoReadable u s
   settled_readable ch c two e = by f.agrees.with
     where
       hs : List Header
@@ -180,11 +178,11 @@ module _ (u : Utterance) (s : List ℕ) (most : (k : ℕ) → k < multiframes_of
       inside : (k : ℕ) → Has (readings s (row_of (multiframes_of u))) k c → (k < multiframes_of u) × (header_flips (image_of u) s k ≤ 2)
       inside k x = by (dec_lt k m) (dec_lt 2 (flips k))
         where
-          r : (x : Decoded) × ((get_or (readings s (row_of (multiframes_of u))) k Lost ≡ Codeword x) × (common_bits x.message ≡ c))
+          r : (x : Decoded) × ((get_or (readings s (row_of (multiframes_of u))) k None ≡ Some x) × (common_bits x.message ≡ c))
           r = has_read (readings s (row_of (multiframes_of u))) k c x
 
           by : Dec (k < m) → Dec (2 < flips k) → (k < multiframes_of u) × (header_flips (image_of u) s k ≤ 2)
-          by (no o) y = absurd (lost_not_read r.0 (sym (get_or-eq_default (readings s (row_of m)) Lost (omega (arith, long))) ∙ r.1.0))
+          by (no o) y = absurd (lost_not_read r.0 (sym (get_or-eq_default (readings s (row_of m)) None (omega (arith, long))) ∙ r.1.0))
           by (yes h) (yes y) =
               absurd (lost_not_read r.0 (sym (header_is k h ∙ heard_lost (word_in s k) (sent_message u k) (omega (arith, header_near u s k h))) ∙ r.1.0))
           by (yes h) (no y) = (h, omega arith)
@@ -201,7 +199,7 @@ module _ (u : Utterance) (s : List ℕ) (most : (k : ℕ) → k < multiframes_of
       }
 
   -- an only header that is touched settles nothing
-  pub touched_unsettles : (ch : Choices) → m ≡ 1 → (flips 0 ≡ 0 → ⊥) → settling ch (readings s (row_of m)) ≡ Unsettled
+  pub touched_unsettles : (ch : Choices) → m ≡ 1 → (flips 0 ≡ 0 → ⊥) → settling ch (readings s (row_of m)) ≡ None
   touched_unsettles ch one n =
       let e = header_near u s 0 (omega (arith, one)) in
       ap (settling ch) headers_read ∙ ap (λ (i : ℕ). settling ch (each heard_at i)) one
@@ -213,7 +211,7 @@ module _ (u : Utterance) (s : List ℕ) (most : (k : ℕ) → k < multiframes_of
       ]
 
   -- each header note is the number of flips there: three are lost, and that is note 3
-  pub note_of_header : (k : ℕ) → k < m → header_note (sent_common u) k (get_or (readings s (row_of m)) k Lost) ≡ flips k
+  pub note_of_header : (k : ℕ) → k < m → header_note (sent_common u) k (get_or (readings s (row_of m)) k None) ≡ flips k
   note_of_header k h =
       let e = header_near u s k h in
       ap (header_note (sent_common u) k) (header_is k h)
@@ -225,11 +223,11 @@ module _ (u : Utterance) (s : List ℕ) (most : (k : ℕ) → k < multiframes_of
       ]
 
 -- an only header settles nothing by default, whatever it is (02, C-20)
-pub default_unsettles : (ch : Choices) (u : Utterance) (s : List ℕ) → one_settles ch ≡ false → multiframes_of u ≡ 1 → settling ch (readings s (row_of (multiframes_of u))) ≡ Unsettled
+pub default_unsettles : (ch : Choices) (u : Utterance) (s : List ℕ) → one_settles ch ≡ false → multiframes_of u ≡ 1 → settling ch (readings s (row_of (multiframes_of u))) ≡ None
 default_unsettles ch u s o one =
     one_default ch (readings s (row_of (multiframes_of u))) o (length_readings s (row_of (multiframes_of u)) ∙ every_length 0 (multiframes_of u) ∙ one)
 
 -- so what is settled at all had enough headers
-pub sent_enough : (ch : Choices) (u : Utterance) (s : List ℕ) (c : ℕ) → settling ch (readings s (row_of (multiframes_of u))) ≡ Settled c → Enough ch (multiframes_of u)
+pub sent_enough : (ch : Choices) (u : Utterance) (s : List ℕ) (c : ℕ) → settling ch (readings s (row_of (multiframes_of u))) ≡ Some c → Enough ch (multiframes_of u)
 sent_enough ch u s c e =
     subst (Enough ch) (length_readings s (row_of (multiframes_of u)) ∙ every_length 0 (multiframes_of u)) (settled_enough ch (readings s (row_of (multiframes_of u))) c e)

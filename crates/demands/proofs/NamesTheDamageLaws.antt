@@ -1,7 +1,7 @@
 -- NAMES THE DAMAGE (demand 3) is so: what the reader gives of a damaged image with a good pair, octet by octet, is what demand 3 asks, also where
 -- headers have up to three flips, if two of them have at most two (`Wider`).
 -- Assumes nothing.
-use Rattle.std.specs.Prelude.{◌≡◌, List, ◌++◌, ◌↔◌, ℕ, ◌+◌, ◌*◌, ◌/◌, ◌≤◌, ◌<◌, eqb, length, get_or}
+use Rattle.std.specs.Prelude.{◌≡◌, List, ◌++◌, ◌↔◌, ℕ, ◌+◌, ◌*◌, ◌/◌, ◌≤◌, ◌<◌, eqb, length, get_or, Ok}
 use Rattle.std.proofs.Common.{sym, ap, ◌∙◌, subst, arith, lit<, take_at, take_all, eqb-true}
 use Rattle.std.proofs.Math.Decide.{ℕ_discrete}
 use Rattle.lists.specs.Tests.{true_false, not_false}
@@ -24,7 +24,6 @@ use Rattle.report.specs.Report.{report_part}
 use Rattle.reader.specs.Reading.{index_part, summary, Outcome, outcome, reading, received_frames}
 use Rattle.deciding.specs.Laws.{Fitting}
 use Rattle.reader.proofs.ReadingLaws.{length_index}
-use Rattle.reader.specs.declared.Answer.TheVariants.{Read}
 use Rattle.image.specs.Made.{part_within}
 use Rattle.image.proofs.Laws.{length_image, image_sync}
 use Rattle.writer.proofs.Laws.{few_multiframes}
@@ -98,7 +97,7 @@ module _ (ch : Choices) (u : Utterance) (s : List ℕ) (tables : Tables) (index 
     size = d.size ∙ length_image u.settings u.indices m
 
     pub read_is : result
-        ≡ outcome (Read (summary s (row_of m) ns (sent_common u))) (over index 0 (index_octets * length (row_of m)) (index_part s (row_of m) ns))
+        ≡ outcome (Ok (summary s (row_of m) ns (sent_common u))) (over index 0 (index_octets * length (row_of m)) (index_part s (row_of m) ns))
         (over report 0 (report_octets * length (row_of m)) (report_part s (row_of m) ns (sent_common u)))
     read_is =
         reads_as s m (few_multiframes u.settings u.indices (is_accepted u).sizes) size

@@ -1,7 +1,7 @@
 -- READS BACK (demand 2) is so: no pair of a written image is bad, so its frames come back as they were written with zeros after them, and all notes
 -- are 0. The same holds where only headers were damaged and still settle the settings, but for their notes.
 -- Assumes nothing.
-use Rattle.std.specs.Prelude.{◌≡◌, Bool, true, false, List, [], ◌∷◌, ◌++◌, eqb, take, drop, get_or}
+use Rattle.std.specs.Prelude.{◌≡◌, Bool, true, false, List, [], ◌∷◌, ◌++◌, eqb, take, drop, get_or, None, Ok}
 use Rattle.std.proofs.Math.Path.{refl, ap, ap₂}
 use Rattle.std.proofs.Common.{sym, ◌∙◌, subst, mul-zero, mul-suc, arith, lit<, length-append, take_at, ext_get_or, get_or-take, get_or-drop, get_or-append-add, eq-eqb, eqb-true}
 use Rattle.std.proofs.Math.Logic.{⊎_elim}
@@ -24,7 +24,6 @@ use Rattle.packet.specs.Packet.{frame_at}
 use Rattle.packet.proofs.Laws.{length_row, get_or_row}
 use Rattle.cutting.proofs.Laws.{every_length}
 use Rattle.message.specs.Message.{settings_of}
-use Rattle.header.specs.declared.Header.TheVariants.{Lost}
 use Rattle.header_readings.specs.Readings.{readings}
 use Rattle.header_notes.specs.HeaderNotes.{header_note}
 use Rattle.settling.specs.Laws.{Enough}
@@ -37,7 +36,6 @@ use Rattle.deciding.specs.Deciding.{received_notes}
 use Rattle.report.specs.Report.{report_part}
 use Rattle.reader.specs.Reading.{index_part, summary, Outcome, outcome, reading, received_frames}
 use Rattle.reader.specs.declared.Summary.{Summary}
-use Rattle.reader.specs.declared.Answer.TheVariants.{Read}
 use Rattle.image.specs.Made.{word_in, packet_in}
 use Rattle.image.proofs.Laws.{length_image}
 use Rattle.wrong_frames.specs.WrongFrames.{frame_count}
@@ -201,7 +199,7 @@ module _ (ch : Choices) (u : Utterance) (s : List ℕ) (d : DamageUpTo 3 (multif
       by (not_so x e) = eqb-true (get_or ns q 0) 0 (not_false (eqb (get_or ns q 0) 0) e)
 
   note_row : (k : ℕ) → k < length places
-      → header_note (sent_common u) k (get_or (readings s places) k Lost) ∷ part (first_pair k) multiframe_pairs ns ≡ header_flips (image_of u) s k ∷ replicate multiframe_pairs 0
+      → header_note (sent_common u) k (get_or (readings s places) k None) ∷ part (first_pair k) multiframe_pairs ns ≡ header_flips (image_of u) s k ∷ replicate multiframe_pairs 0
   note_row k h =
       let p = part (multiframe_pairs * k) multiframe_pairs ns in
       let l : length p ≡ multiframe_pairs = length_part ns (multiframe_pairs * k) multiframe_pairs (omega (arith, notes_size)) in
@@ -212,7 +210,7 @@ module _ (ch : Choices) (u : Utterance) (s : List ℕ) (d : DamageUpTo 3 (multif
   report_is : report_part s places ns (sent_common u) ≡ mended_report u s
   unfolding report_part
   report_is =
-      same_joined (λ k. header_note (sent_common u) k (get_or (readings s places) k Lost) ∷ part (first_pair k) multiframe_pairs ns)
+      same_joined (λ k. header_note (sent_common u) k (get_or (readings s places) k None) ∷ part (first_pair k) multiframe_pairs ns)
       (λ k. header_flips (image_of u) s k ∷ replicate multiframe_pairs 0) (length places) note_row
       ∙ ap (joined (λ k. header_flips (image_of u) s k ∷ replicate multiframe_pairs 0)) rows
 
@@ -259,18 +257,18 @@ module _ (ch : Choices) (u : Utterance) (s : List ℕ) (d : DamageUpTo 3 (multif
 
   -- HEADERS HURT: with no pair damaged and the settings settled, headers of at most three flips cost nothing but their notes
   pub reads_undamaged : reading ch s tables index report
-      ≡ outcome (Read (spoken u)) (over index 0 (index_octets * multiframes_of u) (padded u)) (over report 0 (report_octets * multiframes_of u) (mended_report u s))
+      ≡ outcome (Ok (spoken u)) (over index 0 (index_octets * multiframes_of u) (padded u)) (over report 0 (report_octets * multiframes_of u) (mended_report u s))
   reads_undamaged =
       NL.read_is ch u s tables index report premises
-      ∙ ap₂ (λ (a : Summary) (i : List ℕ). outcome (Read a) i (over report 0 (report_octets * length places) (report_part s places ns (sent_common u)))) answer_is
+      ∙ ap₂ (λ (a : Summary) (i : List ℕ). outcome (Ok a) i (over report 0 (report_octets * length places) (report_part s places ns (sent_common u)))) answer_is
       (ap₂ (λ (k : ℕ) (l : List ℕ). over index 0 (index_octets * k) l) rows index_is)
-      ∙ ap (outcome (Read (spoken u)) (over index 0 (index_octets * multiframes_of u) (padded u))) (ap₂ (λ (k : ℕ) (l : List ℕ). over report 0 (report_octets * k) l) rows report_is)
+      ∙ ap (outcome (Ok (spoken u)) (over index 0 (index_octets * multiframes_of u) (padded u))) (ap₂ (λ (k : ℕ) (l : List ℕ). over report 0 (report_octets * k) l) rows report_is)
 
 -- so where no header has more than two flips, two multiframes are enough, or an untouched only header where the caller asks for the old rule
 pub reads_mended : (ch : Choices) (u : Utterance) (s : List ℕ) → Damage (multiframes_of u) (image_of u) s → ((q : ℕ) → q < pairs_of u → packet_in s q ≡ packet_in (image_of u) q)
     → CanSettle ch (multiframes_of u) (header_flips (image_of u) s 0) → (tables : Tables) (index report : List ℕ) → Lent (multiframes_of u) tables index report
     → reading ch s tables index report
-    ≡ outcome (Read (spoken u)) (over index 0 (index_octets * multiframes_of u) (padded u)) (over report 0 (report_octets * multiframes_of u) (mended_report u s))
+    ≡ outcome (Ok (spoken u)) (over index 0 (index_octets * multiframes_of u) (padded u)) (over report 0 (report_octets * multiframes_of u) (mended_report u s))
 reads_mended ch u s d untouched headers = reads_undamaged ch u s (loosened (lit< tt) d) untouched (enough ch u s d headers)
 
 -- ---- the image itself: nothing was mended, so its report is zeros
@@ -284,10 +282,10 @@ report_clean u =
 
 pub reads_image : (ch : Choices) (u : Utterance) → Enough ch (multiframes_of u) → (tables : Tables) (index report : List ℕ) → Lent (multiframes_of u) tables index report
     → reading ch (image_of u) tables index report
-    ≡ outcome (Read (spoken u)) (over index 0 (index_octets * multiframes_of u) (padded u)) (over report 0 (report_octets * multiframes_of u) (replicate (report_octets * multiframes_of u) 0))
+    ≡ outcome (Ok (spoken u)) (over index 0 (index_octets * multiframes_of u) (padded u)) (over report 0 (report_octets * multiframes_of u) (replicate (report_octets * multiframes_of u) 0))
 reads_image ch u sent tables index report lent =
     reads_mended ch u (image_of u) (unharmed u) (λ q h. refl) (can_settle ch (multiframes_of u) _ sent (no_flips (image_of u) 0)) tables index report lent
-    ∙ ap (λ (r : List ℕ). outcome (Read (spoken u)) (over index 0 (index_octets * multiframes_of u) (padded u)) (over report 0 (report_octets * multiframes_of u) r)) (report_clean u)
+    ∙ ap (λ (r : List ℕ). outcome (Ok (spoken u)) (over index 0 (index_octets * multiframes_of u) (padded u)) (over report 0 (report_octets * multiframes_of u) r)) (report_clean u)
 
 module _ (ch : Choices) (u : Utterance) (tables : Tables) (output index report : List ℕ) where
   abbrev written : W.Outcome
@@ -304,7 +302,7 @@ module _ (ch : Choices) (u : Utterance) (tables : Tables) (output index report :
 
   back : Premises ch u tables output index report → Back ch u tables output index report
   back p =
-      let e : result ≡ outcome (Read (spoken u)) (over index 0 (index_octets * multiframes_of u) (padded u)) (over report 0 (report_octets * multiframes_of u) (replicate (report_octets * multiframes_of u) 0)) =
+      let e : result ≡ outcome (Ok (spoken u)) (over index 0 (index_octets * multiframes_of u) (padded u)) (over report 0 (report_octets * multiframes_of u) (replicate (report_octets * multiframes_of u) 0)) =
       ap (λ (i : List ℕ). reading ch i tables index report) (image_back p.output_room) ∙ reads_image ch u p.headers tables index report p.lent in
       record {
         accepted = ap (λ (o : W.Outcome). o.answer) (writes u output p.output_room);

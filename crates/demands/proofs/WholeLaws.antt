@@ -1,7 +1,7 @@
 -- Octets of m whole multiframes and nothing else, as the reader meets them: where it finds each header word and each packet, and what it gives
 -- once the settings are settled, a pair is good and there is room.
 -- Assumes nothing.
-use Rattle.std.specs.Prelude.{◌≡◌, ℕ, suc, ◌+◌, ◌*◌, ◌/◌, ◌%◌, ◌≤◌, ◌<◌, drop, get_or}
+use Rattle.std.specs.Prelude.{◌≡◌, ℕ, suc, ◌+◌, ◌*◌, ◌/◌, ◌%◌, ◌≤◌, ◌<◌, drop, get_or, Some, None, Ok, Err}
 use Rattle.std.proofs.Common.{sym, ◌∙◌, arith, ext_get_or, get_or-take, get_or-drop}
 use Rattle.std.proofs.Math.Path.{ap, ap₂, subst}
 use borrow.Author.Tests.{eq-eqb, ne_eqb, le-ltb}
@@ -19,8 +19,6 @@ use Rattle.bits.specs.Bits.{bits}
 use Rattle.cutting.specs.Cutting.{Cutting, whole, cutting}
 use Rattle.cutting.proofs.Laws.{every_length, every_at, whole_image}
 use Rattle.header.specs.Reading as H
-use Rattle.header.specs.declared.Header.TheVariants.{Lost}
-use Rattle.settling.specs.declared.Settlement.TheVariants as S
 use Rattle.header_readings.specs.Readings.{readings}
 use Rattle.settling.specs.Settling.{settling}
 use Rattle.header_notes.specs.HeaderNotes.{header_note}
@@ -33,9 +31,8 @@ use Rattle.reader.specs.Reading.{index_part, summary, end_verdict, verdict, fini
 use Rattle.deciding.specs.Laws.{Fitting}
 use Rattle.reader.specs.ReadingLaws.{Accepted}
 use Rattle.reader.proofs.ReadingLaws.{accepting}
-use Rattle.deciding.specs.declared.Verdict.{Verdict}
+use Rattle.deciding.specs.Types.{Verdict}
 use Rattle.refusals.specs.declared.Reading.TheVariants.{Unsettled, AllBad}
-use Rattle.reader.specs.declared.Answer.TheVariants.{Read, Refused}
 use Rattle.image.specs.Made.{sync_in, word_in, packet_in, stream_in}
 use Rattle.demands.specs.Whole.{Lent, header_note_in, pair_note_in, row_of}
 
@@ -75,7 +72,7 @@ module _ (s : List ℕ) (m : ℕ) (few : m ≤ most_multiframes) (size : length 
   pub reads_as : (ch : Choices) (tables : Tables) (index report : List ℕ) (c : ℕ) → 0 < m → Lent m tables index report
       → Fitting (length (row_of m)) (bad_pairs (received_notes s (row_of m) tables)) (pair_count (row_of m)) (length index) (length report) (settling ch (readings s (row_of m))) c
       → reading ch s tables index report
-      ≡ outcome (Read (summary s (row_of m) (received_notes s (row_of m) tables) c))
+      ≡ outcome (Ok (summary s (row_of m) (received_notes s (row_of m) tables) c))
       (over index 0 (index_octets * length (row_of m)) (index_part s (row_of m) (received_notes s (row_of m) tables)))
       (over report 0 (report_octets * length (row_of m)) (report_part s (row_of m) (received_notes s (row_of m) tables) c))
   unfolding reading
@@ -102,13 +99,13 @@ front_part l f w a v h = part_left f (drop (0 + w) l) a v h
 
 module _ (s places ns report : List ℕ) (c w : ℕ) (notes_size : length ns ≡ pair_count places) where
   report_octet : (k j : ℕ) → k < length places → j < report_octets
-      → get_or (over report 0 w (report_part s places ns c)) (report_octets * k + j) 0 ≡ get_or (header_note c k (get_or (readings s places) k Lost) ∷ part (first_pair k) multiframe_pairs ns) j 0
+      → get_or (over report 0 w (report_part s places ns c)) (report_octets * k + j) 0 ≡ get_or (header_note c k (get_or (readings s places) k None) ∷ part (first_pair k) multiframe_pairs ns) j 0
   report_octet k j h l =
       let r = report_part s places ns c in
       front_at report r w (report_octets * k + j) (omega (arith, length_report s places ns c notes_size))
       ∙ sym (get_or-take report_octets (drop (report_octets * k) r) j 0 l ∙ get_or-drop (report_octets * k) r j 0) ∙ ap (λ (x : List ℕ). get_or x j 0) (report_at s places ns c k notes_size h)
 
-  pub header_note_is : (k : ℕ) → k < length places → header_note_in (over report 0 w (report_part s places ns c)) k ≡ header_note c k (get_or (readings s places) k Lost)
+  pub header_note_is : (k : ℕ) → k < length places → header_note_in (over report 0 w (report_part s places ns c)) k ≡ header_note c k (get_or (readings s places) k None)
   header_note_is k h =
       let z : report_octets * k ≡ report_octets * k + 0 = omega arith in
       ap (λ (i : ℕ). get_or (over report 0 w (report_part s places ns c)) i 0) z ∙ report_octet k 0 h (omega arith)
@@ -145,12 +142,12 @@ module _ (ch : Choices) (s : List ℕ) (m : ℕ) (few : m ≤ most_multiframes) 
       ≡ settled_verdict (length (row_of m)) (bad_pairs (received_notes s (row_of m) tables)) (pair_count (row_of m)) (length index) (length report) (settling ch (readings s (row_of m))))
       (sym (cut_is s m few size syncs)) (rw (ne_eqb (length (row_of m)) 0 (λ e. omega (arith, every_length 0 m)))))
 
-  pub refuses_16 : settling ch (readings s (row_of m)) ≡ S.Unsettled → reading ch s tables index report ≡ outcome (Refused Unsettled) index report
+  pub refuses_16 : settling ch (readings s (row_of m)) ≡ None → reading ch s tables index report ≡ outcome (Err Unsettled) index report
   unfolding reading settled_verdict
   refuses_16 e = rw (settled_next, e)
 
-  pub refuses_20 : (c : ℕ) → settling ch (readings s (row_of m)) ≡ S.Settled c → Usable c → bad_pairs (received_notes s (row_of m) tables) ≡ pair_count (row_of m)
-      → reading ch s tables index report ≡ outcome (Refused AllBad) index report
+  pub refuses_20 : (c : ℕ) → settling ch (readings s (row_of m)) ≡ Some c → Usable c → bad_pairs (received_notes s (row_of m) tables) ≡ pair_count (row_of m)
+      → reading ch s tables index report ≡ outcome (Err AllBad) index report
   unfolding reading settled_verdict room_verdict
   refuses_20 c e u b =
       let k = every_length 0 m in

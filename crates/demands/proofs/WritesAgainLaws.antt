@@ -4,7 +4,7 @@
 use Rattle.std.proofs.Math.Path.{◌≡◌, refl, sym, ap}
 use Rattle.std.proofs.Common.{ap₂, ◌∙◌, ext_get_or, get_or-take, get_or-drop}
 use Rattle.std.proofs.Math.Bool.{Bool}
-use Rattle.std.specs.Prelude.{true, false, ℕ, zero, suc, ◌+◌, ◌*◌, ◌/◌, ◌%◌, ◌≤◌, ◌<◌, length, take, drop, get_or}
+use Rattle.std.specs.Prelude.{true, false, ℕ, zero, suc, ◌+◌, ◌*◌, ◌/◌, ◌%◌, ◌≤◌, ◌<◌, length, take, drop, get_or, None, Ok, Err}
 use mathlib.Core.List.{List}
 use native.Mathlib.Omega.{arith}
 use Rattle.std.proofs.lemmas.List.{take-append-le}
@@ -22,8 +22,7 @@ use Rattle.packet.specs.Packet.{apart, packet_of}
 use Rattle.header_code.specs.Code.{codeword}
 use Rattle.message.specs.Message.{message, settings_of}
 use Rattle.header.specs.Reading as H
-use Rattle.header.specs.declared.Header.{Header}
-use Rattle.header.specs.declared.Header.TheVariants.{Lost}
+use Rattle.header.specs.Types.{Header}
 use Rattle.cutting.specs.Cutting.{cutting}
 use Rattle.cutting.proofs.Laws.{every_at, no_inverse, sound, place_stands}
 use Rattle.header_readings.specs.Readings.{readings}
@@ -39,10 +38,8 @@ use Rattle.reader.specs.Reading.{index_part, verdict, finished, Outcome, reading
 use Rattle.reader.proofs.ReadingLaws.{accepted}
 use Rattle.reader.specs.declared.Summary.{Summary}
 use Rattle.refusals.specs.declared.Reading.{Reading as Refusal}
-use Rattle.deciding.specs.declared.Verdict.{Verdict}
-use Rattle.deciding.specs.declared.Verdict.TheVariants.{Refuse, Accept}
-use Rattle.reader.specs.declared.Answer.{Answer}
-use Rattle.reader.specs.declared.Answer.TheVariants.{Read, Refused}
+use Rattle.deciding.specs.Types.{Verdict}
+use Rattle.reader.specs.Types.{Answer}
 use Rattle.image.specs.Image.{image}
 use Rattle.image.specs.Made.{sync_in, word_in, stream_in, packet_in}
 use Rattle.wrong_frames.specs.WrongFrames.{frame_count}
@@ -69,19 +66,19 @@ module _ (ch : Choices) (s : List ℕ) (tables : Tables) (index report output : 
 
   -- the success answer of an answer
   answered : Summary → Answer → Summary
-  answered d (Read a) = a
-  answered d (Refused r) = d
+  answered d (Ok a) = a
+  answered d (Err r) = d
 
-  pub was_read : result.answer ≡ Read given → WasRead ch s tables index report output given
+  pub was_read : result.answer ≡ Ok given → WasRead ch s tables index report output given
   unfolding reading answered
   was_read e = by (verdict ch s tables (length index) (length report)) refl e
     where
-      by : (v : Verdict) → verdict ch s tables (length index) (length report) ≡ v → (finished s tables index report places v).answer ≡ Read given → WasRead ch s tables index report output given
-      by (Refuse r) f e = absurd (refused r e)
+      by : (v : Verdict) → verdict ch s tables (length index) (length report) ≡ v → (finished s tables index report places v).answer ≡ Ok given → WasRead ch s tables index report output given
+      by (Err r) f e = absurd (refused r e)
         where
-          refused : (r : Refusal) → Refused r ≡ Read given → ⊥
+          refused : (r : Refusal) → Err r ≡ Ok given → ⊥
           refused r e = let z : ◌≡◌ {A = ℕ} 0 1 = cc in omega arith
-      by (Accept c) f e =
+      by (Ok c) f e =
           record {
             common = c;
             reader_accepts = accepted ch s tables (length index) (length report) c f;
@@ -142,10 +139,10 @@ module _ (ch : Choices) (s : List ℕ) (tables : Tables) (index report output : 
     -- its header words
     headers : (k : ℕ) → k < m → word_in s k ≡ codeword (message (settings_of c) (k + 1) 0)
     headers k h =
-        let r : get_or (readings s places) k Lost ≡ H.reading (word_in s k) =
-        ap (λ (l : List ℕ). get_or (readings s l) k Lost) row ∙ ap (λ (l : List Header). get_or l k Lost) (readings_are s m)
-        ∙ each_at (λ k. H.reading (word_in s k)) m k Lost h in
-        let z : header_note c k (get_or (readings s places) k Lost) ≡ 0 =
+        let r : get_or (readings s places) k None ≡ H.reading (word_in s k) =
+        ap (λ (l : List ℕ). get_or (readings s l) k None) row ∙ ap (λ (l : List Header). get_or l k None) (readings_are s m)
+        ∙ each_at (λ k. H.reading (word_in s k)) m k None h in
+        let z : header_note c k (get_or (readings s places) k None) ≡ 0 =
         sym (ap (λ (o : Outcome). header_note_in o.report k) w.result_is ∙ header_note_is s places ns report c (report_octets * m) notes_size k h)
         ∙ p.notes_0 (report_octets * k) (omega (arith, count)) in
         clean_header c k (word_in s k) w.reader_accepts.fitting.usable.exp (ap (header_note c k) (sym r) ∙ z)

@@ -2,15 +2,14 @@
 -- counted, three lose a header, and two that are read settle; where the caller asks for the old rule (02, C-20), an only one that is untouched
 -- does too.
 -- Assumes nothing.
-use Rattle.std.specs.Prelude.{◌≡◌, true, List, ◌⊎◌, ℕ, ◌≤◌, ◌<◌, leb}
+use Rattle.std.specs.Prelude.{◌≡◌, true, List, ◌⊎◌, ℕ, ◌≤◌, ◌<◌, leb, Some, None}
 use Rattle.choices.specs.declared.Choices.{Choices}
 use Rattle.lists.specs.Tests.{when}
 use Rattle.choices.specs.Choices.{one_settles}
 use Rattle.header_code.specs.Code.{flips_to}
 use Rattle.message.specs.Message.{message, common_bits}
 use Rattle.header.specs.Reading as H
-use Rattle.header.specs.declared.Header.{Header}
-use Rattle.header.specs.declared.Header.TheVariants.{Codeword, Lost}
+use Rattle.header.specs.Types.{Header}
 use Rattle.writer.specs.Utterance.{Utterance, multiframes_of, image_of}
 use Rattle.damage.specs.Damage.{header_flips}
 
@@ -20,7 +19,7 @@ sent_common u = common_bits (message u.settings 0 0)
 
 -- what a header is read as whose word came for this message: up to two flips are mended and counted, three lose it
 abbrev pub heard_as : ℕ → ℕ → Header
-heard_as w message = when (leb (flips_to w message) H.mendable) (Codeword (H.decoded_as w message)) Lost
+heard_as w message = when (leb (flips_to w message) H.mendable) (Some (H.decoded_as w message)) None
 
 -- two headers have at most two flips each
 pub record TwoReadable (u : Utterance) (s : List ℕ) : Type 0 where

@@ -5,14 +5,13 @@
 -- More is true, and is said here: note 1 is of the damaged pairs alone, an undamaged pair that the rule makes bad has note 2, and `bad` is the
 -- number of both; and all of it holds where headers have up to three flips, if two of them have at most two (`Wider`).
 -- Assumes nothing.
-use Rattle.std.specs.Prelude.{◌≡◌, List, ◌↔◌, ℕ, ◌*◌, ◌≤◌, ◌<◌, replicate}
+use Rattle.std.specs.Prelude.{◌≡◌, List, ◌↔◌, ℕ, ◌*◌, ◌≤◌, ◌<◌, replicate, Ok}
 use Rattle.lists.specs.Parts.{part}
 use Rattle.layout.specs.Layout.{frame_indices, multiframe_frames, pair_of}
 use Rattle.choices.specs.declared.Choices.{Choices}
 use Rattle.tables.specs.Tables.{Tables}
 use Rattle.reader.specs.Reading.{Outcome, reading}
 use Rattle.reader.specs.declared.Summary.{Summary}
-use Rattle.reader.specs.declared.Answer.TheVariants.{Read}
 use Rattle.wrong_frames.specs.WrongFrames.{frame_count}
 use Rattle.writer.specs.Utterance.{Utterance, multiframes_of, pairs_of, image_of}
 use Rattle.damage.specs.Damage.{DamageUpTo, Damage, Touched, header_flips}
@@ -70,5 +69,5 @@ module _ (ch : Choices) (u : Utterance) (s : List ℕ) (tables : Tables) (index 
   pub record Named : Type 0 where
     -- "the reader succeeds"
     pub given : Summary
-    pub succeeds : result.answer ≡ Read given
+    pub succeeds : result.answer ≡ Ok given
     pub names : Names u s tables given result.index result.report

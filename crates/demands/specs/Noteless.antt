@@ -1,7 +1,7 @@
 -- Octets of whole multiframes whose headers and pairs all have note 0: each header is the codeword sent, each packet the packet of its frames,
 -- so the octets are the image of the settings and the frames read.
 -- Assumes nothing.
-use Rattle.std.specs.Prelude.{◌≡◌, refl, Bool, false, List, ◌++◌, ℕ, zero, suc, ◌+◌, ◌-◌, ◌*◌, ◌/◌, ◌%◌, ◌≤◌, ◌<◌, take, drop}
+use Rattle.std.specs.Prelude.{◌≡◌, refl, Bool, false, List, ◌++◌, ℕ, zero, suc, ◌+◌, ◌-◌, ◌*◌, ◌/◌, ◌%◌, ◌≤◌, ◌<◌, take, drop, Some, None}
 use Rattle.std.proofs.Math.Path.{sym, ap, ap₂}
 use Rattle.std.proofs.Common.{◌∙◌, length-take, ext_get_or}
 use Rattle.std.proofs.Math.Bool.{true}
@@ -26,8 +26,7 @@ use Rattle.message.specs.Message.{message, count_of, exp_of, settings_of}
 use Rattle.message.specs.Message.Laws.{message_back, common_exp, count_mod, common_settings}
 use Rattle.header.specs.Reading as H
 use Rattle.header.proofs.Laws.{flips_counted, reads}
-use Rattle.header.specs.declared.Header.{Header}
-use Rattle.header.specs.declared.Header.TheVariants.{Codeword, Lost}
+use Rattle.header.specs.Types.{Header}
 use Rattle.header_notes.specs.HeaderNotes.{header_note}
 use Rattle.header_notes.specs.Laws.{note_zero, note_lost}
 use Rattle.replacing.specs.Speech.{last_nonzero, speech_of, end_of, place_le, place_stop, zero_behind, nonzero_at}
@@ -43,8 +42,8 @@ module _ (c k w : ℕ) where
   clean_header x e = by (H.reading w) (reads w) e
     where
       by : (h : Header) → H.ReadAs w h → header_note c k h ≡ 0 → w ≡ codeword (message (settings_of c) (k + 1) 0)
-      by Lost r e = absurd (omega (arith, note_lost c k))
-      by (Codeword d) r e =
+      by None r e = absurd (omega (arith, note_lost c k))
+      by (Some d) r e =
           let m = d.message in
           let p = note_zero c k d r.2 e in
           let count = p.1 in

@@ -3,7 +3,7 @@
 -- written and zeros after them." Octets beyond both parts stay. The same holds where only headers were damaged and still settle the
 -- settings, but for their notes.
 -- Assumes nothing.
-use Rattle.std.specs.Prelude.{◌≡◌, List, ◌∷◌, ◌++◌, take}
+use Rattle.std.specs.Prelude.{◌≡◌, List, ◌∷◌, ◌++◌, take, Ok}
 use Prim.Native.Nat.{ℕ, ◌-◌, ◌*◌, ◌≤◌}
 use Rattle.std.proofs.Math.ListN.{length, replicate}
 use Rattle.lists.specs.Parts.{over}
@@ -14,11 +14,9 @@ use Rattle.tables.specs.Tables.{Tables}
 use Rattle.settling.specs.Laws.{Enough}
 use Rattle.reader.specs.Reading.{Outcome, reading}
 use Rattle.reader.specs.declared.Summary.{Summary}
-use Rattle.reader.specs.declared.Answer.TheVariants.{Read}
 use Rattle.wrong_frames.specs.WrongFrames.{frame_count}
 use Rattle.writer.specs.Writing.{needed, writing}
 use Rattle.writer.specs.Writing as W
-use Rattle.writer.specs.declared.Answer.TheVariants.{Written}
 use Rattle.writer.specs.Utterance.{Utterance, multiframes_of, image_of}
 use Rattle.damage.specs.Damage.{header_flips}
 use Rattle.demands.specs.Whole.{Lent}
@@ -52,9 +50,9 @@ module _ (ch : Choices) (u : Utterance) (tables : Tables) (output index report :
   result = reading ch (take (needed u.indices) written.output) tables index report
 
   pub record Back : Type 0 where
-    pub accepted : written.answer ≡ Written (needed u.indices)
+    pub accepted : written.answer ≡ Ok (needed u.indices)
     -- "succeeds with the same settings, m, speech equal to n, no bad pair, end 1"
-    pub succeeds : result.answer ≡ Read (spoken u)
+    pub succeeds : result.answer ≡ Ok (spoken u)
     -- "all notes 0"
     pub notes : result.report ≡ over report 0 (report_octets * multiframes_of u) (replicate (report_octets * multiframes_of u) 0)
     -- "and the index buffer holds the frames as written and zeros after them"

@@ -2,7 +2,7 @@
 -- accepts: writing the settings and the first `speech` frames of the index buffer gives the same octets, all of them, and the same length."
 -- Assumes nothing.
 use Rattle.std.proofs.Math.Path.{◌≡◌}
-use Rattle.std.specs.Prelude.{ℕ, ◌*◌, ◌<◌, length, take, get_or}
+use Rattle.std.specs.Prelude.{ℕ, ◌*◌, ◌<◌, length, take, get_or, Ok}
 use mathlib.Core.List.{List}
 use Rattle.lists.specs.Parts.{over}
 use Rattle.layout.specs.Layout.{frame_indices, multiframe_octets, index_octets, report_octets}
@@ -14,11 +14,9 @@ use Rattle.report.specs.Report.{report_part}
 use Rattle.reader.specs.Reading.{index_part, summary, Outcome, outcome, reading}
 use Rattle.reader.specs.ReadingLaws.{Accepted}
 use Rattle.reader.specs.declared.Summary.{Summary}
-use Rattle.reader.specs.declared.Answer.TheVariants.{Read}
 use Rattle.image.specs.Made.{Small}
 use Rattle.writer.specs.Writing.{multiframes_for, writing}
 use Rattle.writer.specs.Writing as W
-use Rattle.writer.specs.declared.Answer.TheVariants as Done
 
 module _ (ch : Choices) (s : List ℕ) (tables : Tables) (index report output : List ℕ) (given : Summary) where
   abbrev pub result : Outcome
@@ -32,7 +30,7 @@ module _ (ch : Choices) (s : List ℕ) (tables : Tables) (index report output : 
     -- "every image": octets
     pub small : Small s
     -- "that is read"
-    pub succeeds : result.answer ≡ Read given
+    pub succeeds : result.answer ≡ Ok given
     -- "without a note": "all notes 0",
     pub notes_0 : (i : ℕ) → i < report_octets * given.multiframes → get_or result.report i 0 ≡ 0
     -- "end 1",
@@ -41,7 +39,7 @@ module _ (ch : Choices) (s : List ℕ) (tables : Tables) (index report output : 
     pub no_inverses : length s ≡ multiframe_octets * given.multiframes
     -- "and whose reading the writer accepts"
     pub octets : ℕ
-    pub accepts : again.answer ≡ Done.Written octets
+    pub accepts : again.answer ≡ Ok octets
 
   pub record Again (p : Premises) : Type 0 where
     -- "the same length"
@@ -60,6 +58,6 @@ module _ (ch : Choices) (s : List ℕ) (tables : Tables) (index report output : 
     pub common : ℕ
     pub reader_accepts : Accepted ch s tables (length index) (length report) common
     pub result_is : result
-        ≡ outcome (Read (summary s places ns common)) (over index 0 (index_octets * length places) (index_part s places ns))
+        ≡ outcome (Ok (summary s places ns common)) (over index 0 (index_octets * length places) (index_part s places ns))
         (over report 0 (report_octets * length places) (report_part s places ns common))
     pub given_is : given ≡ summary s places ns common

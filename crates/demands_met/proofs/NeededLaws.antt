@@ -1,7 +1,7 @@
 -- Why premises are there: what happens instead of one multiframe by default (02, C-20), where a single header was mended, where every pair is bad, where two flips are 15 apart, where a
 -- header has three flips, and where an image has no end or an inverse sync. Sizes, tables and room are refusals by definition and stand in `page_written` and `page_received`.
 -- Assumes nothing.
-use Rattle.std.specs.Prelude.{◌≡◌, refl, Bool, true, false, List, [], ◌∷◌, ◌++◌, ℕ, suc, ◌+◌, ◌*◌, ◌/◌, ◌%◌, ◌^◌, ◌≤◌, ◌<◌, length, get_or, replicate, take, drop}
+use Rattle.std.specs.Prelude.{◌≡◌, refl, Bool, true, false, List, [], ◌∷◌, ◌++◌, ℕ, suc, ◌+◌, ◌*◌, ◌/◌, ◌%◌, ◌^◌, ◌≤◌, ◌<◌, length, get_or, replicate, take, drop, Ok, Err}
 use Rattle.std.proofs.Math.Path.{sym, ap}
 use Rattle.std.proofs.Common.{ap₂, ◌∙◌, subst, inl, inr, arith, lit<, ne_eqb}
 use Rattle.std.proofs.Math.Bool.{xor}
@@ -50,12 +50,10 @@ use Rattle.cutting.proofs.Laws.{every_length}
 use Rattle.bad_pairs.specs.BadPairs.{bad, bad_pairs}
 use Rattle.reader.specs.Reading.{outcome, reading}
 use Rattle.refusals.specs.declared.Reading.TheVariants.{Unsettled, AllBad}
-use Rattle.reader.specs.declared.Answer.TheVariants.{Read, Refused}
 use Rattle.writer.specs.Writing.{writing}
 use Rattle.writer.proofs.Laws.{few_multiframes}
 use Rattle.writer.specs.Utterance.{Utterance, multiframes_of, pairs_of, image_of}
 use Rattle.writer.proofs.Utterance.{is_accepted, rate_not_2}
-use Rattle.writer.specs.declared.Answer.TheVariants.{Written}
 use Rattle.damage.specs.Damage.{Damage, loosened, header_flips, sent_message, header_near, differs}
 use Rattle.damage.proofs.Damages.{damage_made, unharmed}
 use Rattle.damage.specs.Instances.{lone, says1}
@@ -85,12 +83,12 @@ module _ (ch : Choices) (u : Utterance) (s : List ℕ) (d : Damage (multiframes_
   syncs : (k : ℕ) → k < m → sync_in s k ≡ sync
   syncs k h = d.syncs k h ∙ image_sync u.settings u.indices m k h
 
-  pub mended_unsettles : m ≡ 1 → (header_flips (image_of u) s 0 ≡ 0 → ⊥) → reading ch s tables index report ≡ outcome (Refused Unsettled) index report
+  pub mended_unsettles : m ≡ 1 → (header_flips (image_of u) s 0 ≡ 0 → ⊥) → reading ch s tables index report ≡ outcome (Err Unsettled) index report
   mended_unsettles one touched =
       refuses_16 ch s m few size syncs tables index report (omega arith) lent (touched_unsettles u s (loosened (lit< tt) d).headers ch one touched)
 
   -- ---- BY DEFAULT ONE MULTIFRAME UNSETTLES (02, C-20): touched or not it is refusal 16, and both buffers stay
-  pub default_unsettled : one_settles ch ≡ false → m ≡ 1 → reading ch s tables index report ≡ outcome (Refused Unsettled) index report
+  pub default_unsettled : one_settles ch ≡ false → m ≡ 1 → reading ch s tables index report ≡ outcome (Err Unsettled) index report
   default_unsettled default one = refuses_16 ch s m few size syncs tables index report (omega arith) lent (default_unsettles ch u s default one)
 
   -- ---- ALL PAIRS BAD REFUSES: refusal 20, and both buffers stay
@@ -100,7 +98,7 @@ module _ (ch : Choices) (u : Utterance) (s : List ℕ) (d : Damage (multiframes_
       rw (ne_eqb x 0 (λ e. true_false (sym (h 0 (omega arith)) ∙ ap bad e))) (ap suc (all_counted l (λ k j. h (suc k) (omega arith))))
 
   pub all_bad_refuses : CanSettle ch m (header_flips (image_of u) s 0) → ((q : ℕ) → q < pairs_of u → BadPair u s tables q)
-      → reading ch s tables index report ≡ outcome (Refused AllBad) index report
+      → reading ch s tables index report ≡ outcome (Err AllBad) index report
   all_bad_refuses heads every =
       let ns = received_notes s (row_of m) tables in
       let ln : length ns ≡ pair_count (row_of m) = length_notes (received s (row_of m)) (pair_count (row_of m)) tables in
@@ -227,13 +225,13 @@ mended_1 =
     sym (header_near says1 (hurt_image says1) 0 (lit< tt))
     ∙ ap (λ (x : ℕ). flips_to x (sent_message says1 0)) (made_word (hurt_word says1) (hurt_stream says1) 1 0 (lit< tt) l) ∙ flips_of (sent_message says1 0) 3 ∙ e
 
-pub unsettled_1 : (ch : Choices) → reading ch (hurt_image says1) zero_tables (index_for 1) (report_for 1) ≡ outcome (Refused Unsettled) (index_for 1) (report_for 1)
+pub unsettled_1 : (ch : Choices) → reading ch (hurt_image says1) zero_tables (index_for 1) (report_for 1) ≡ outcome (Err Unsettled) (index_for 1) (report_for 1)
 unsettled_1 ch =
     mended_unsettles ch says1 (hurt_image says1) (hurts says1) zero_tables (index_for 1) (report_for 1) (lent_zeros 1) refl
     (λ e. let z : ◌≡◌ {A = ℕ} 2 0 = sym mended_1 ∙ e in omega arith)
 
 -- AND THE IMAGE OF ONE MULTIFRAME as it was written, by default: demand 2's reading back and demand 3 need two multiframes there
-pub default_1 : reading by_default (image_of says1) zero_tables (index_for 1) (report_for 1) ≡ outcome (Refused Unsettled) (index_for 1) (report_for 1)
+pub default_1 : reading by_default (image_of says1) zero_tables (index_for 1) (report_for 1) ≡ outcome (Err Unsettled) (index_for 1) (report_for 1)
 default_1 = default_unsettled by_default says1 (image_of says1) (unharmed says1) zero_tables (index_for 1) (report_for 1) (lent_zeros 1) refl refl
 
 untouched_1 : header_flips (image_of says1) (all_hurt says1) 0 ≡ 0
@@ -242,7 +240,7 @@ untouched_1 =
     ∙ ap (λ (x : ℕ). flips_to x (sent_message says1 0))
     (made_word (sent_word says1) (all_hit says1) 1 0 (lit< tt) (codeword_lt (sent_message says1 0) (message_lt (settings 0 0) 1 0))) ∙ none_wrong says1 0
 
-pub all_bad_1 : reading by_one_header (all_hurt says1) zero_tables (index_for 1) (report_for 1) ≡ outcome (Refused AllBad) (index_for 1) (report_for 1)
+pub all_bad_1 : reading by_one_header (all_hurt says1) zero_tables (index_for 1) (report_for 1) ≡ outcome (Err AllBad) (index_for 1) (report_for 1)
 all_bad_1 =
     all_bad_refuses by_one_header says1 (all_hurt says1) (all_hurts says1) zero_tables (index_for 1) (report_for 1) (lent_zeros 1) (inr (refl, untouched_1))
     (all_bad_lem says1 zero_tables)
@@ -250,8 +248,8 @@ all_bad_1 =
 -- ---- WRITES AGAIN NEEDS AN END AND NO INVERSE SYNC: of what was read and is accepted, the writer writes as many multiframes as were read if the
 -- end is 1, so whatever stood between them is gone, and one more if it is 0
 module _ (ch : Choices) (s : List ℕ) (tables : Tables) (index report output : List ℕ) (given : Summary)
-    (succeeds : (A.result ch s tables index report output given).answer ≡ Read given) (octets : ℕ)
-    (accepts : (A.again ch s tables index report output given).answer ≡ Written octets) where
+    (succeeds : (A.result ch s tables index report output given).answer ≡ Ok given) (octets : ℕ)
+    (accepts : (A.again ch s tables index report output given).answer ≡ Ok octets) where
   w : A.WasRead ch s tables index report output given
   w = AL.was_read ch s tables index report output given succeeds
 

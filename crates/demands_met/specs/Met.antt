@@ -1,6 +1,6 @@
 -- What meets the premises of the theorems: just enough room, damage to any utterance that leaves a good pair, and an utterance of two multiframes.
 -- Assumes nothing.
-use Rattle.std.specs.Prelude.{◌≡◌, Bool, List, ◌++◌, replicate}
+use Rattle.std.specs.Prelude.{◌≡◌, Bool, List, ◌++◌, replicate, Ok}
 use Rattle.std.proofs.Math.Path.{refl}
 use Rattle.std.proofs.Common.{lit<}
 use Prim.Native.Nat.{ℕ, zero, suc, ◌+◌, ◌*◌}
@@ -16,7 +16,6 @@ use Rattle.image.specs.Made.{Small, made}
 use Rattle.wrong_frames.specs.WrongFrames.{frame_count}
 use Rattle.writer.specs.Writing.{verdict, room_answer, needed}
 use Rattle.writer.specs.Utterance.{Utterance, multiframes_of}
-use Rattle.writer.specs.declared.Answer.TheVariants.{Written}
 use Rattle.damage.specs.Damage.{sent_message}
 
 -- ---- just enough room
@@ -53,7 +52,7 @@ small_ones zero i = lit< tt
 small_ones (suc n) zero = lit< tt
 small_ones (suc n) (suc i) = small_ones n i
 
-written_24 : verdict (settings 0 0) (replicate 168 1) (needed (replicate 168 1)) ≡ Written (needed (replicate 168 1))
+written_24 : verdict (settings 0 0) (replicate 168 1) (needed (replicate 168 1)) ≡ Ok (needed (replicate 168 1))
 unfolding verdict room_answer first_from zero_frame
 written_24 = refl
 

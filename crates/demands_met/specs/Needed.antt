@@ -1,7 +1,7 @@
 -- What shows why premises are there: images where every pair is bad, where two flips are 15 apart, and where a header has three flips, and what
 -- of the last two is so. Sizes, tables and room are refusals by definition and stand in `page_written` and `page_received`.
 -- Assumes nothing.
-use Rattle.std.specs.Prelude.{◌≡◌, refl, Bool, List, [], ◌∷◌, ℕ, zero, suc, ◌+◌, ◌<◌}
+use Rattle.std.specs.Prelude.{◌≡◌, refl, Bool, List, [], ◌∷◌, ℕ, zero, suc, ◌+◌, ◌<◌, Ok}
 use Rattle.std.proofs.Common.{lit<}
 use Rattle.std.specs.Int.Bits.{bit_xor}
 use Rattle.image.specs.Made.{Small, sync_in, word_in, packet_in, made}
@@ -15,7 +15,6 @@ use Rattle.packet.specs.Packet.{packet_of, stream}
 use Rattle.header_code.specs.Code.{codeword}
 use Rattle.writer.specs.Writing.{verdict, room_answer, needed}
 use Rattle.writer.specs.Utterance.{Utterance, multiframes_of, image_of}
-use Rattle.writer.specs.declared.Answer.TheVariants.{Written}
 use Rattle.damage.specs.Damage.{header_flips, sent_message}
 use Rattle.damage.specs.Instances.{lone, small_lone, says1}
 
@@ -45,7 +44,7 @@ small_eighth (suc (suc (suc (suc (suc zero))))) = lit< tt
 small_eighth (suc (suc (suc (suc (suc (suc zero)))))) = lit< tt
 small_eighth (suc (suc (suc (suc (suc (suc (suc i))))))) = lit< tt
 
-pub written_eighth : verdict (settings 0 0) eighth (needed eighth) ≡ Written (needed eighth)
+pub written_eighth : verdict (settings 0 0) eighth (needed eighth) ≡ Ok (needed eighth)
 unfolding verdict room_answer first_from zero_frame
 written_eighth = refl
 
@@ -61,7 +60,7 @@ pub record Passes15 : Type 0 where
 
 -- ---- THREE FLIPS IN A HEADER CONFUSE TWO RATES: the same frames at 8 and at 11 kHz, and octets that are three header flips from the image of
 -- either and otherwise whole. This is how 8 kHz went to the 11 kHz model
-pub written_11 : verdict (settings 1 0) (lone 1) (needed (lone 1)) ≡ Written (needed (lone 1))
+pub written_11 : verdict (settings 1 0) (lone 1) (needed (lone 1)) ≡ Ok (needed (lone 1))
 unfolding verdict room_answer first_from zero_frame
 written_11 = refl
 

@@ -12,13 +12,10 @@ ghost use Rattle.entries.specs.Bits.{hunt_returned, dsr_hunt, dsr_read_bits};
 ghost use Rattle.entries.specs.Settle.{dsr_settle};
 ghost use Rattle.entries.specs.Entries.{header_read, packed, packing, unpacked, unpacking, write_returned, dsr_write, returned, dsr_read};
 
-use choices::Asked;
 use layout::{MultiframeLayout, Pair, ReadingLayout};
 use packing::Frames;
 use refusals::{Refusal, Writing};
 use settings::Settings;
-use writer::Answer;
-use wrong_frames::Found;
 
 // The numbers of a reading's answer, those of a hunting reading's, and those of settings before the end.
 const ANSWER: usize = 6;
@@ -57,8 +54,8 @@ pub extern "C" fn dsr_pack(indices: &[u8], stream: &mut [u8]) -> u32
         return refusals::WRONG_LENGTH;
     }
     match wrong_frames::first_wide(indices) {
-        Found::At(f) => Writing::WideIndex { frame: f }.number(),
-        Found::Nowhere => {
+        Some(f) => Writing::WideIndex { frame: f }.number(),
+        None => {
             streams::put_stream(Frames { octets: indices }, Pair(0), stream, 0);
             refusals::SUCCESS
         }
@@ -98,7 +95,7 @@ pub extern "C" fn dsr_write(
     ensures { write_returned result out.new place.new ≡ dsr_write rate kind indices.now out.old }
 {
     if !answers::fits(rate, kind) {
-        return answers::tell_written(Answer::Refused(Writing::WrongSettings), place);
+        return answers::tell_written(Err(Writing::WrongSettings), place);
     }
     let settings = Settings {
         rate: rate as u8,
@@ -128,7 +125,7 @@ pub extern "C" fn dsr_read(
     if answer.len() < ANSWER {
         return refusals::NO_ROOM;
     }
-    let Asked::For(chosen) = choices::asked_by(choices) else {
+    let Some(chosen) = choices::asked_by(choices) else {
         return refusals::NO_SUCH_CHOICE;
     };
     let read = reader::read(octets, chosen, codebook, thresholds, index, report);
@@ -150,7 +147,7 @@ pub extern "C" fn dsr_settle(
     if answer.len() < SETTLED {
         return refusals::NO_ROOM;
     }
-    let Asked::For(chosen) = choices::asked_by(choices) else {
+    let Some(chosen) = choices::asked_by(choices) else {
         return refusals::NO_SUCH_CHOICE;
     };
     reading_answers::tell_beginning(beginning::read(octets, chosen), answer, place)
@@ -196,7 +193,7 @@ pub extern "C" fn dsr_read_bits(
     if answer.len() < COUNTED {
         return refusals::NO_ROOM;
     }
-    let Asked::For(chosen) = choices::asked_by(choices) else {
+    let Some(chosen) = choices::asked_by(choices) else {
         return refusals::NO_SUCH_CHOICE;
     };
     let read = hunting::read(

@@ -2,7 +2,7 @@
 -- refused with 96. By default, with 0, an only multiframe is refused with 16, whatever its header is; 1 asks for the old rule; and two multiframes
 -- or more are read alike by both.
 -- Assumes nothing.
-use Rattle.std.specs.Prelude.{◌≡◌, List, Bool, ℕ, ◌≤◌, ◌<◌, ltb, length}
+use Rattle.std.specs.Prelude.{◌≡◌, List, Bool, ℕ, ◌≤◌, ◌<◌, ltb, length, Some, None}
 use Rattle.std.proofs.Math.Path.{refl, ap, subst}
 use Rattle.std.proofs.Common.{sym, ◌∙◌, inr, lit≤, ne_eqb, le-ltb, lt-ltb}
 use Rattle.std.proofs.Math.Bool.{true, false}
@@ -12,8 +12,7 @@ use Rattle.lists.specs.Tests.{when}
 use Rattle.choices.specs.Choices.{by_default, by_one_header, asked, choice_number}
 use Rattle.choices.proofs.ChoicesLaws.{asked_for}
 use Rattle.choices.specs.declared.Choices.{Choices}
-use Rattle.choices.specs.declared.Asked.{Asked}
-use Rattle.choices.specs.declared.Asked.TheVariants.{For, NoSuchChoice}
+use Rattle.choices.specs.Types.{Asked}
 use Rattle.layout.specs.Layout.{most_multiframes}
 use Rattle.tables.specs.Tables.{Tables, RightTables, zero_tables}
 use Rattle.bits.specs.Bits.{bits}
@@ -60,27 +59,27 @@ numbers = record {
 }
 
 -- and no other is a choice
-pub no_other : (n : ℕ) → 2 ≤ n → asked n ≡ NoSuchChoice
+pub no_other : (n : ℕ) → 2 ≤ n → asked n ≡ None
 unfolding asked
 no_other n h = rw (ne_eqb n 0 (λ e. omega arith), ne_eqb n 1 (λ e. omega arith))
 
 -- ---- a number that is no choice: with room for the answer it is 96, without 99, and all stays, the place too
 module _ (octets : List ℕ) (tables : Tables) (index report answer : List ℕ) (place : ℕ) where
-  pub c_no_such_choice : answer_numbers ≤ length answer → dsr_read octets NoSuchChoice tables index report answer place ≡ returned no_such_choice index report answer place
+  pub c_no_such_choice : answer_numbers ≤ length answer → dsr_read octets None tables index report answer place ≡ returned no_such_choice index report answer place
   unfolding unchosen
   c_no_such_choice h = rw (le-ltb (length answer) answer_numbers h)
 
-  pub c_no_room_first : length answer < answer_numbers → dsr_read octets NoSuchChoice tables index report answer place ≡ returned no_room index report answer place
+  pub c_no_room_first : length answer < answer_numbers → dsr_read octets None tables index report answer place ≡ returned no_room index report answer place
   unfolding unchosen
   c_no_room_first h = rw (lt-ltb (length answer) answer_numbers h)
 
   pub c_bits_no_such_choice : (from least : ℕ) → counted_numbers ≤ length answer
-      → dsr_read_bits octets from least NoSuchChoice tables index report answer place ≡ returned no_such_choice index report answer place
+      → dsr_read_bits octets from least None tables index report answer place ≡ returned no_such_choice index report answer place
   unfolding unchosen
   c_bits_no_such_choice from least h = rw (le-ltb (length answer) counted_numbers h)
 
   pub c_bits_no_room_first : (from least : ℕ) → length answer < counted_numbers
-      → dsr_read_bits octets from least NoSuchChoice tables index report answer place ≡ returned no_room index report answer place
+      → dsr_read_bits octets from least None tables index report answer place ≡ returned no_room index report answer place
   unfolding unchosen
   c_bits_no_room_first from least h = rw (lt-ltb (length answer) counted_numbers h)
 
@@ -100,14 +99,14 @@ module _ (octets : List ℕ) (tables : Tables) (index report answer : List ℕ) 
   pub c_keeps : (q : Asked) → ((dsr_read octets q tables index report answer place).number ≡ 0 → ⊥)
       → ((dsr_read octets q tables index report answer place).index ≡ index)
       × (((dsr_read octets q tables index report answer place).report ≡ report) × ((dsr_read octets q tables index report answer place).answer ≡ answer))
-  c_keeps (For ch) n = read_keeps ch octets tables index report answer place n
-  c_keeps NoSuchChoice n = kept answer_numbers
+  c_keeps (Some ch) n = read_keeps ch octets tables index report answer place n
+  c_keeps None n = kept answer_numbers
 
   pub c_bits_keep : (from least : ℕ) (q : Asked) → ((dsr_read_bits octets from least q tables index report answer place).number ≡ 0 → ⊥)
       → ((dsr_read_bits octets from least q tables index report answer place).index ≡ index)
       × (((dsr_read_bits octets from least q tables index report answer place).report ≡ report) × ((dsr_read_bits octets from least q tables index report answer place).answer ≡ answer))
-  c_bits_keep from least (For ch) n = bits_kept ch octets from least tables index report answer place n
-  c_bits_keep from least NoSuchChoice n = kept counted_numbers
+  c_bits_keep from least (Some ch) n = bits_kept ch octets from least tables index report answer place n
+  c_bits_keep from least None n = kept counted_numbers
 
   -- and 0 is of a choice only
   never_0 : (w : ℕ) → (unchosen w answer place index report).number ≡ 0 → ⊥
@@ -118,13 +117,13 @@ module _ (octets : List ℕ) (tables : Tables) (index report answer : List ℕ) 
       by true e = omega arith
       by false e = omega arith
 
-  pub c_zero_chose : (q : Asked) → (dsr_read octets q tables index report answer place).number ≡ 0 → (ch : Choices) × (q ≡ For ch)
-  c_zero_chose (For ch) e = (ch, refl)
-  c_zero_chose NoSuchChoice e = absurd (never_0 answer_numbers e)
+  pub c_zero_chose : (q : Asked) → (dsr_read octets q tables index report answer place).number ≡ 0 → (ch : Choices) × (q ≡ Some ch)
+  c_zero_chose (Some ch) e = (ch, refl)
+  c_zero_chose None e = absurd (never_0 answer_numbers e)
 
-  pub c_bits_zero_chose : (from least : ℕ) (q : Asked) → (dsr_read_bits octets from least q tables index report answer place).number ≡ 0 → (ch : Choices) × (q ≡ For ch)
-  c_bits_zero_chose from least (For ch) e = (ch, refl)
-  c_bits_zero_chose from least NoSuchChoice e = absurd (never_0 counted_numbers e)
+  pub c_bits_zero_chose : (from least : ℕ) (q : Asked) → (dsr_read_bits octets from least q tables index report answer place).number ≡ 0 → (ch : Choices) × (q ≡ Some ch)
+  c_bits_zero_chose from least (Some ch) e = (ch, refl)
+  c_bits_zero_chose from least None e = absurd (never_0 counted_numbers e)
 
   -- ---- BY DEFAULT AN ONLY MULTIFRAME IS REFUSED: 16, place 0, and all else stays, whatever its header is, where none of 10 to 15 comes before
   pub c_one_refused : answer_numbers ≤ length answer → CutUp octets tables → length (cutting octets).places ≡ 1
@@ -174,11 +173,11 @@ module _ (octets : List ℕ) (tables : Tables) (index report answer : List ℕ) 
       subst (λ (n : ℕ). 2 ≤ n) (sym (ap (λ (x : Returned). get_or x.answer 2 0) e)) (found_two octets from least tables index report by_default refl z.1.0 z.1.1)
 
   -- ---- THE NUMBER ITSELF: that of a choice is the choice, and every other is refused with 96
-  pub c_by_number : (ch : Choices) → dsr_read octets (asked (choice_number ch)) tables index report answer place ≡ dsr_read octets (For ch) tables index report answer place
+  pub c_by_number : (ch : Choices) → dsr_read octets (asked (choice_number ch)) tables index report answer place ≡ dsr_read octets (Some ch) tables index report answer place
   c_by_number ch = ap (λ (q : Asked). dsr_read octets q tables index report answer place) (asked_for ch)
 
   pub c_bits_by_number : (from least : ℕ) (ch : Choices)
-      → dsr_read_bits octets from least (asked (choice_number ch)) tables index report answer place ≡ dsr_read_bits octets from least (For ch) tables index report answer place
+      → dsr_read_bits octets from least (asked (choice_number ch)) tables index report answer place ≡ dsr_read_bits octets from least (Some ch) tables index report answer place
   c_bits_by_number from least ch = ap (λ (q : Asked). dsr_read_bits octets from least q tables index report answer place) (asked_for ch)
 
   pub c_other_number : (n : ℕ) → 2 ≤ n → answer_numbers ≤ length answer → dsr_read octets (asked n) tables index report answer place ≡ returned 96 index report answer place

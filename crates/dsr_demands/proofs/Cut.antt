@@ -1,11 +1,10 @@
 -- CUT OFF AND SPACED OUT AT dsr_read: inverse syncs change nothing that a caller gets, and what came of an utterance that was cut off tells so.
 -- Assumes nothing.
-use Rattle.std.specs.Prelude.{◌≡◌, List, [], ◌∷◌, ◌++◌, ℕ, ◌+◌, ◌-◌, ◌*◌, ◌/◌, ◌%◌, ◌≤◌, ◌<◌, length, take, get_or}
+use Rattle.std.specs.Prelude.{◌≡◌, List, [], ◌∷◌, ◌++◌, ℕ, ◌+◌, ◌-◌, ◌*◌, ◌/◌, ◌%◌, ◌≤◌, ◌<◌, length, take, get_or, Some}
 use Rattle.std.proofs.Common.{sym, ap, ap₂, ◌∙◌, arith}
 use Rattle.lists.specs.Parts.{over}
 use Rattle.layout.specs.Layout.{multiframe_pairs, multiframe_frames, multiframe_octets, most_multiframes, report_octets, inverse_first, inverse_second}
 use Rattle.choices.specs.declared.Choices.{Choices}
-use Rattle.choices.specs.declared.Asked.TheVariants.{For}
 use Rattle.tables.specs.Tables.{Tables, RightTables}
 use Rattle.cutting.specs.Cutting.{cutting, whole}
 use Rattle.refusals.specs.Refusals.{reading_number, reading_place}
@@ -34,7 +33,7 @@ refused_is a q i r o n p h x =
 
 module _ (ch : Choices) (tables : Tables) (index report answer : List ℕ) (place : ℕ) where
   abbrev c : List ℕ → Returned
-  c s = dsr_read s (For ch) tables index report answer place
+  c s = dsr_read s (Some ch) tables index report answer place
 
   -- INVERSE SYNCS CHANGE NOTHING: one of them between octets that are each cut to their end
   pub c_one_inverse : (a b : List ℕ) → (cutting a).ending ≡ whole → (cutting b).ending ≡ whole → 0 < found a + found b → found a + found b ≤ most_multiframes

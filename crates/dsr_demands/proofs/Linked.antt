@@ -1,11 +1,10 @@
 -- FROM CALL TO CALL: what dsr_write wrote, damaged on its way, and read by dsr_read. The sentences of the yards with nothing between them and the two
 -- entries: what a caller of dsr_read is told of what a caller of dsr_write said.
 -- Assumes nothing.
-use Rattle.std.specs.Prelude.{◌≡◌, List, ℕ, ◌*◌, ◌≤◌, ◌<◌, length, get_or}
+use Rattle.std.specs.Prelude.{◌≡◌, List, ℕ, ◌*◌, ◌≤◌, ◌<◌, length, get_or, Some}
 use Rattle.std.proofs.Common.{sym, ap, ◌∙◌, subst, ⊎_elim, inl, inr}
 use Rattle.layout.specs.Layout.{report_octets}
 use Rattle.choices.specs.declared.Choices.{Choices}
-use Rattle.choices.specs.declared.Asked.TheVariants.{For}
 use Rattle.tables.specs.Tables.{Tables}
 use Rattle.image.specs.Made.{sync_in}
 use Rattle.writer.specs.Utterance.{Utterance, image_of}
@@ -24,7 +23,7 @@ module _ (rate kind : ℕ) (indices out : List ℕ) (call : Call rate kind indic
   u = called rate kind indices out call
 
   abbrev c : (ch : Choices) → Returned
-  c ch = dsr_read s (For ch) tables index report answer place
+  c ch = dsr_read s (Some ch) tables index report answer place
 
   abbrev Spared : Type 0
   Spared = Stated.Spared rate kind indices out call s tables index report answer place

@@ -1,18 +1,16 @@
 -- The premises of the theorems at the entries are met: by every utterance where they can be, and else by one with damage of each kind.
 -- Assumes nothing.
-use Rattle.std.specs.Prelude.{◌≡◌, List, ℕ, ◌+◌, ◌*◌, ◌≤◌, ◌<◌, take, drop, get_or}
+use Rattle.std.specs.Prelude.{◌≡◌, List, ℕ, ◌+◌, ◌*◌, ◌≤◌, ◌<◌, take, drop, get_or, Some, Ok}
 use Rattle.std.proofs.Common.{sym, ap, ap₂, ◌∙◌, subst, le_of_eq, arith, lit<, lit≤, take_at}
 use Rattle.std.proofs.lemmas.List.{length-replicate}
 use Rattle.lists.specs.Parts.{over}
 use Rattle.layout.specs.Layout.{frame_indices, multiframe_octets, report_octets}
 use Rattle.choices.specs.declared.Choices.{Choices}
-use Rattle.choices.specs.declared.Asked.TheVariants.{For}
 use Rattle.hunt.specs.Hunt.{fewest_matches}
 use Rattle.reader.specs.Reading.{reading}
 use Rattle.writer.specs.Writing as W
 use Rattle.image.proofs.Laws.{length_image}
 use Rattle.writer.specs.Writing.{needed, writing}
-use Rattle.writer.specs.declared.Answer.TheVariants.{Written}
 use Rattle.writer.specs.Utterance.{Utterance, multiframes_of, image_of}
 use Rattle.writer.proofs.Utterance.{writes}
 use Rattle.settling.specs.Laws.{Enough}
@@ -42,7 +40,7 @@ module _ (u : Utterance) where
   abbrev room_for : List ℕ
   room_for = Stated.room_for u
 
-  wrote_is : writing u.settings u.indices room_for ≡ W.outcome (Written (needed u.indices)) (over room_for 0 (needed u.indices) (image_of u))
+  wrote_is : writing u.settings u.indices room_for ≡ W.outcome (Ok (needed u.indices)) (over room_for 0 (needed u.indices) (image_of u))
   wrote_is = writes u room_for (le_of_eq (sym (length-replicate (needed u.indices) 0)))
 
   pub call_met : Call u.settings.rate u.settings.kind u.indices room_for
@@ -59,9 +57,9 @@ module _ (u : Utterance) where
       let i = index_for (multiframes_of u) in
       let r = report_for (multiframes_of u) in
       let o = reading ch (image_of u) zero_tables i r in
-      let e : dsr_read (image_of u) (For ch) zero_tables i r six 0 ≡ returned 0 o.index o.report (over six 0 answer_numbers (summary_numbers (spoken u))) 0 =
+      let e : dsr_read (image_of u) (Some ch) zero_tables i r six 0 ≡ returned 0 o.index o.report (over six 0 answer_numbers (summary_numbers (spoken u))) 0 =
       read_success six 0 i r o (lit≤ tt) (spoken u) a.succeeds in
-      let f : (k : ℕ) → get_or (dsr_read (image_of u) (For ch) zero_tables i r six 0).answer k 0 ≡ get_or (over six 0 answer_numbers (summary_numbers (spoken u))) k 0 =
+      let f : (k : ℕ) → get_or (dsr_read (image_of u) (Some ch) zero_tables i r six 0).answer k 0 ≡ get_or (over six 0 answer_numbers (summary_numbers (spoken u))) k 0 =
       λ k. ap (λ (x : Returned). get_or x.answer k 0) e in
       record {
         small = a.small;
@@ -70,7 +68,7 @@ module _ (u : Utterance) where
         ended = f 5;
         no_inverses = a.no_inverses ∙ ap (λ (n : ℕ). multiframe_octets * n) (sym (f 2));
         accepts =
-            ap₂ (λ (x y : ℕ). (dsr_write x y (take (frame_indices * get_or (dsr_read (image_of u) (For ch) zero_tables i r six 0).answer 3 0) (dsr_read (image_of u) (For ch) zero_tables i r six 0).index) room_for).number) (f 0) (f 1)
+            ap₂ (λ (x y : ℕ). (dsr_write x y (take (frame_indices * get_or (dsr_read (image_of u) (Some ch) zero_tables i r six 0).answer 3 0) (dsr_read (image_of u) (Some ch) zero_tables i r six 0).index) room_for).number) (f 0) (f 1)
             ∙ ap₂ (λ (n : ℕ) (l : List ℕ). (dsr_write u.settings.rate u.settings.kind (take (frame_indices * n) l) room_for).number) (f 3) (ap (λ (x : Returned). x.index) e)
             ∙ ap W.number_of a.accepts;
       }
@@ -82,18 +80,18 @@ module _ (u : Utterance) where
 
 -- NAMES THE DAMAGE: two multiframes with two flips in each header, a burst and two flips at distance 14 in packets of each, at dsr_read
 pub named_24 : (ch : Choices) → Tells says24 (hurt_image says24) zero_tables
-    (dsr_read (hurt_image says24) (For ch) zero_tables (index_for (multiframes_of says24)) (report_for (multiframes_of says24)) six 0).number
-    (dsr_read (hurt_image says24) (For ch) zero_tables (index_for (multiframes_of says24)) (report_for (multiframes_of says24)) six 0).answer
-    (dsr_read (hurt_image says24) (For ch) zero_tables (index_for (multiframes_of says24)) (report_for (multiframes_of says24)) six 0).index
-    (dsr_read (hurt_image says24) (For ch) zero_tables (index_for (multiframes_of says24)) (report_for (multiframes_of says24)) six 0).report
+    (dsr_read (hurt_image says24) (Some ch) zero_tables (index_for (multiframes_of says24)) (report_for (multiframes_of says24)) six 0).number
+    (dsr_read (hurt_image says24) (Some ch) zero_tables (index_for (multiframes_of says24)) (report_for (multiframes_of says24)) six 0).answer
+    (dsr_read (hurt_image says24) (Some ch) zero_tables (index_for (multiframes_of says24)) (report_for (multiframes_of says24)) six 0).index
+    (dsr_read (hurt_image says24) (Some ch) zero_tables (index_for (multiframes_of says24)) (report_for (multiframes_of says24)) six 0).report
 named_24 ch = (c_names_the_damage ch says24 (hurt_image says24) zero_tables (index_for (multiframes_of says24)) (report_for (multiframes_of says24)) six 0 (names_says24 ch) (lit≤ tt)).0
 
 -- and at dsr_read_bits, at bit 3, with four flips in each sync besides
 pub aired_24 : (ch : Choices) → Tells says24 (together says24 (aired says24) 3) zero_tables
-    (dsr_read_bits (aired says24) 0 fewest_matches (For ch) zero_tables (index_for (multiframes_of says24)) (report_for (multiframes_of says24)) eight 0).number
-    (dsr_read_bits (aired says24) 0 fewest_matches (For ch) zero_tables (index_for (multiframes_of says24)) (report_for (multiframes_of says24)) eight 0).answer
-    (dsr_read_bits (aired says24) 0 fewest_matches (For ch) zero_tables (index_for (multiframes_of says24)) (report_for (multiframes_of says24)) eight 0).index
-    (dsr_read_bits (aired says24) 0 fewest_matches (For ch) zero_tables (index_for (multiframes_of says24)) (report_for (multiframes_of says24)) eight 0).report
+    (dsr_read_bits (aired says24) 0 fewest_matches (Some ch) zero_tables (index_for (multiframes_of says24)) (report_for (multiframes_of says24)) eight 0).number
+    (dsr_read_bits (aired says24) 0 fewest_matches (Some ch) zero_tables (index_for (multiframes_of says24)) (report_for (multiframes_of says24)) eight 0).answer
+    (dsr_read_bits (aired says24) 0 fewest_matches (Some ch) zero_tables (index_for (multiframes_of says24)) (report_for (multiframes_of says24)) eight 0).index
+    (dsr_read_bits (aired says24) 0 fewest_matches (Some ch) zero_tables (index_for (multiframes_of says24)) (report_for (multiframes_of says24)) eight 0).report
 aired_24 ch =
     (c_names_on_air says24 (aired says24) 0 3 fewest_matches zero_tables (index_for (multiframes_of says24)) (report_for (multiframes_of says24)) eight 0 ch (aired_on_air says24)
     (names_aired_24 ch) (lit≤ tt)).0

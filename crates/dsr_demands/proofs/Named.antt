@@ -1,14 +1,13 @@
 -- DEMAND 3 AT THE ENTRIES, and what the yards are told: each clause of names-the-damage, never-misled, trusted, heard-whole and last-heard, said
 -- in the numbers, octets and buffers that a caller of dsr_read has. A report's octets are counted by multiframe and pair, frames by octet.
 -- Assumes nothing.
-use Rattle.std.specs.Prelude.{◌≡◌, refl, List, [], ◌∷◌, ℕ, ◌+◌, ◌-◌, ◌*◌, ◌/◌, ◌%◌, ◌≤◌, ◌<◌, length, drop, get_or, replicate}
+use Rattle.std.specs.Prelude.{◌≡◌, refl, List, [], ◌∷◌, ℕ, ◌+◌, ◌-◌, ◌*◌, ◌/◌, ◌%◌, ◌≤◌, ◌<◌, length, drop, get_or, replicate, Some, Ok}
 use Rattle.std.proofs.Common.{sym, ap, ap₂, ◌∙◌, subst, arith, get_or-take, get_or-drop}
 use Rattle.std.proofs.Math.ListN.{get_or-eq_default}
 use Rattle.lists.specs.Parts.{part, over}
 use Rattle.lists.specs.Rows.{length_joined, joined_part}
 use Rattle.layout.specs.Layout.{frame_indices, pair_frames, multiframe_pairs, multiframe_frames, index_octets, report_octets}
 use Rattle.choices.specs.declared.Choices.{Choices}
-use Rattle.choices.specs.declared.Asked.TheVariants.{For}
 use Rattle.tables.specs.Tables.{Tables}
 use Rattle.settings.specs.declared.Settings.{Settings}
 use Rattle.cutting.specs.Cutting.{cutting}
@@ -19,8 +18,7 @@ use Rattle.report.specs.Report.{report_part, length_report}
 use Rattle.reader.specs.Reading.{index_part, Outcome, outcome, reading}
 use Rattle.reader.proofs.ReadingLaws.{length_index}
 use Rattle.reader.specs.declared.Summary.{Summary}
-use Rattle.reader.specs.declared.Answer.{Answer}
-use Rattle.reader.specs.declared.Answer.TheVariants.{Read}
+use Rattle.reader.specs.Types.{Answer}
 use Rattle.wrong_frames.specs.WrongFrames.{frame_count}
 use Rattle.writer.specs.Utterance.{Utterance, multiframes_of, pairs_of, image_of}
 use Rattle.writer.proofs.Utterance.{whole_frames}
@@ -77,7 +75,7 @@ module _ (u : Utterance) (s : List ℕ) (tables : Tables) (g : Summary) (answer 
   }
 
 -- octets beyond both parts of a reading are as they came
-pub beyond_both : (ch : Choices) (s : List ℕ) (tables : Tables) (index report : List ℕ) (g : Summary) → (reading ch s tables index report).answer ≡ Read g
+pub beyond_both : (ch : Choices) (s : List ℕ) (tables : Tables) (index report : List ℕ) (g : Summary) → (reading ch s tables index report).answer ≡ Ok g
     → (drop (index_octets * g.multiframes) (reading ch s tables index report).index ≡ drop (index_octets * g.multiframes) index)
     × (drop (report_octets * g.multiframes) (reading ch s tables index report).report ≡ drop (report_octets * g.multiframes) report)
 beyond_both ch s tables index report g e =
@@ -96,7 +94,7 @@ beyond_both ch s tables index report g e =
 
 module _ (ch : Choices) (s : List ℕ) (tables : Tables) (index report answer : List ℕ) (place : ℕ) where
   abbrev got : Returned
-  got = dsr_read s (For ch) tables index report answer place
+  got = dsr_read s (Some ch) tables index report answer place
 
   abbrev o : Outcome
   o = reading ch s tables index report
@@ -104,12 +102,12 @@ module _ (ch : Choices) (s : List ℕ) (tables : Tables) (index report answer : 
   abbrev Stays : Type 0
   Stays = Stated.Stays ch s tables index report answer place
 
-  module _ (room : answer_numbers ≤ length answer) (g : Summary) (e : o.answer ≡ Read g) where
-    pub got_is : dsr_read s (For ch) tables index report answer place
+  module _ (room : answer_numbers ≤ length answer) (g : Summary) (e : o.answer ≡ Ok g) where
+    pub got_is : dsr_read s (Some ch) tables index report answer place
         ≡ returned 0 (reading ch s tables index report).index (reading ch s tables index report).report (over answer 0 answer_numbers (summary_numbers g)) place
     got_is = read_success answer place index report o room g e
 
-    pub at : (k : ℕ) → get_or (dsr_read s (For ch) tables index report answer place).answer k 0 ≡ get_or (over answer 0 answer_numbers (summary_numbers g)) k 0
+    pub at : (k : ℕ) → get_or (dsr_read s (Some ch) tables index report answer place).answer k 0 ≡ get_or (over answer 0 answer_numbers (summary_numbers g)) k 0
     at k = ap (λ (x : Returned). get_or x.answer k 0) got_is
 
     pub stays : Stays
@@ -127,7 +125,7 @@ module _ (ch : Choices) (s : List ℕ) (tables : Tables) (index report answer : 
 -- NAMES THE DAMAGE at dsr_read
 module _ (ch : Choices) (u : Utterance) (s : List ℕ) (tables : Tables) (index report answer : List ℕ) (place : ℕ) where
   abbrev c : Returned
-  c = dsr_read s (For ch) tables index report answer place
+  c = dsr_read s (Some ch) tables index report answer place
 
   abbrev HearsAll : Type 0
   HearsAll = Stated.HearsAll ch u s tables index report answer place
@@ -158,7 +156,7 @@ module _ (ch : Choices) (u : Utterance) (s : List ℕ) (tables : Tables) (index 
       let m = never_misled ch u s p tables index report z.1.0 z.1.1 in
       (f 0 ∙ ap (λ (x : Settings). x.rate) m.settings, (f 1 ∙ ap (λ (x : Settings). x.kind) m.settings, f 2 ∙ m.multiframes))
 
-  hears : (r : List ℕ) → answer_numbers ≤ length answer → reading ch s tables index report ≡ outcome (Read (spoken u)) (over index 0 (index_octets * multiframes_of u) (padded u)) r → HearsAll
+  hears : (r : List ℕ) → answer_numbers ≤ length answer → reading ch s tables index report ≡ outcome (Ok (spoken u)) (over index 0 (index_octets * multiframes_of u) (padded u)) r → HearsAll
   hears r room e =
       let q = got_is ch s tables index report answer place room (spoken u) (ap (λ (x : Outcome). x.answer) e) in
       let octet : (i : ℕ) → i < index_octets * multiframes_of u → get_or c.index i 0 ≡ get_or u.indices i 0 =
@@ -185,8 +183,8 @@ module _ (ch : Choices) (u : Utterance) (s : List ℕ) (tables : Tables) (index 
             ∙ clean i (subst (λ (n : ℕ). i < report_octets * n) (sym (at ch s tables index report answer place z.0 g z.1.1 2)) h);
       }) in
       let e : reading ch s tables index report
-      ≡ outcome (Read (spoken u)) (over index 0 (index_octets * multiframes_of u) (padded u)) (reading ch s tables index report).report =
-      parts (reading ch s tables index report) (z.1.1 ∙ ap Read w.sent) w.frames in
+      ≡ outcome (Ok (spoken u)) (over index 0 (index_octets * multiframes_of u) (padded u)) (reading ch s tables index report).report =
+      parts (reading ch s tables index report) (z.1.1 ∙ ap Ok w.sent) w.frames in
       (w.image, hears (reading ch s tables index report).report z.0 e)
     where
       parts : (x : Outcome) {b : Answer} {i : List ℕ} → x.answer ≡ b → x.index ≡ i → x ≡ outcome b i x.report
@@ -236,7 +234,7 @@ module _ (ch : Choices) (u : Utterance) (s : List ℕ) (tables : Tables) (index 
       (f 3 ∙ l.0, f 5 ∙ l.1)
 
 -- WHAT STAYS of any input that dsr_read answers with 0
-pub c_stays : (ch : Choices) (s : List ℕ) (tables : Tables) (index report answer : List ℕ) (place : ℕ) → (dsr_read s (For ch) tables index report answer place).number ≡ 0
+pub c_stays : (ch : Choices) (s : List ℕ) (tables : Tables) (index report answer : List ℕ) (place : ℕ) → (dsr_read s (Some ch) tables index report answer place).number ≡ 0
     → Stays ch s tables index report answer place
 c_stays ch s tables index report answer place zero =
     let z = read_zero answer place index report (reading ch s tables index report) zero in

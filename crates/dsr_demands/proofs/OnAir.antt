@@ -3,7 +3,7 @@
 -- found there, so the wider limits of the octet reader do not hold (`Missed` in hunting_demands shows it where one header is asked to settle). In the numbers, octets and buffers that a caller
 -- in C has.
 -- Assumes nothing.
-use Rattle.std.specs.Prelude.{◌≡◌, refl, List, ◌∷◌, ℕ, suc, ◌+◌, ◌*◌, ◌≤◌, ◌<◌, length, get_or, drop, replicate}
+use Rattle.std.specs.Prelude.{◌≡◌, refl, List, ◌∷◌, ℕ, suc, ◌+◌, ◌*◌, ◌≤◌, ◌<◌, length, get_or, drop, replicate, Some, Ok}
 use Rattle.std.proofs.Common.{sym, ap, ◌∙◌, subst, inl, inr, arith, lit≤, get_or-take, get_or-drop}
 use Rattle.std.proofs.Math.Decide.{dec_lt}
 use Rattle.std.proofs.Math.ListN.{get_or-eq_default}
@@ -12,19 +12,16 @@ use Rattle.lists.specs.Rows.{joined, length_joined, joined_part}
 use Rattle.lists.specs.Parts.{over}
 use Rattle.layout.specs.Layout.{index_octets, report_octets, multiframe_pairs}
 use Rattle.choices.specs.declared.Choices.{Choices}
-use Rattle.choices.specs.declared.Asked.TheVariants.{For}
 use Rattle.tables.specs.Tables.{Tables}
 use Rattle.settings.specs.declared.Settings.{Settings}
 use Rattle.bits.specs.Bits.{bits}
 use Rattle.reader.specs.Reading as R
 use Rattle.reader.specs.declared.Summary.{Summary}
-use Rattle.reader.specs.declared.Answer.TheVariants as Ra
 use Rattle.gathering.specs.Gathering.{image_of as foundImage, outside_of}
 use Rattle.hunting.specs.Hunting as G
 use Rattle.hunting.specs.Hunting.{hunting_reading}
 use Rattle.hunting.proofs.Says as F
 use Rattle.hunting.specs.declared.Counted.{Counted}
-use Rattle.hunting.specs.declared.Answer.TheVariants.{Read}
 use Rattle.writer.specs.Utterance.{Utterance, multiframes_of, image_of}
 use Rattle.writer.proofs.Utterance.{whole_frames}
 use Rattle.entries.specs.Entries.{Returned}
@@ -52,7 +49,7 @@ use Rattle.dsr_demands.specs.OnAir as Stated
 
 module _ (u : Utterance) (s : List ℕ) (from at least : ℕ) (tables : Tables) (index report answer : List ℕ) (place : ℕ) where
   abbrev c : (ch : Choices) → Returned
-  c ch = dsr_read_bits s from least (For ch) tables index report answer place
+  c ch = dsr_read_bits s from least (Some ch) tables index report answer place
 
   abbrev o : (ch : Choices) → G.Outcome
   o ch = hunting_reading ch s from least tables index report
@@ -82,7 +79,7 @@ module _ (u : Utterance) (s : List ℕ) (from at least : ℕ) (tables : Tables) 
         (stood a.caught, record { outside = f 6 ∙ n.outside; tested = f 7 ∙ n.tested; place_stays = ap (λ (x : Returned). x.place) e }),
       )
 
-  hears : (ch : Choices) → counted_numbers ≤ length answer → (g : Counted) → (o ch).answer ≡ Read g → g.summary ≡ spoken u → (o ch).index ≡ over index 0 (index_octets * multiframes_of u) (padded u) → HearsAll ch
+  hears : (ch : Choices) → counted_numbers ≤ length answer → (g : Counted) → (o ch).answer ≡ Ok g → g.summary ≡ spoken u → (o ch).index ≡ over index 0 (index_octets * multiframes_of u) (padded u) → HearsAll ch
   hears ch room g eg es ei =
       let e = bits_success answer place index report (o ch) room g eg in
       let f : (k : ℕ) → get_or (c ch).answer k 0 ≡ get_or (over answer 0 counted_numbers (numbers_of g)) k 0 = λ k. ap (λ (x : Returned). get_or x.answer k 0) e in
@@ -108,7 +105,7 @@ module _ (u : Utterance) (s : List ℕ) (from at least : ℕ) (tables : Tables) 
   c_hunts_back ch p room =
       let q = BL.hunts_back ch u s from at least tables index report p in
       let g : Counted = record { summary = spoken u; outside = outside_of (bits s) from (multiframes_of u); tested = tested_in_row (bits s) from at (multiframes_of u) } in
-      let r : (o ch).answer ≡ Read g = ap (λ (x : G.Outcome). x.answer) q in
+      let r : (o ch).answer ≡ Ok g = ap (λ (x : G.Outcome). x.answer) q in
       let e = bits_success answer place index report (o ch) room g r in (
         hears ch room g r refl (ap (λ (x : G.Outcome). x.index) q),
         (
@@ -149,7 +146,7 @@ module _ (u : Utterance) (s : List ℕ) (from at least : ℕ) (tables : Tables) 
       let z = bits_zero answer place index report (o ch) zero in
       let g = z.1.0 in
       let e = bits_success answer place index report (o ch) z.0 g z.1.1 in
-      let y : R.reading ch (together u s at) tables index report ≡ R.outcome (Ra.Read g.summary) (o ch).index (o ch).report =
+      let y : R.reading ch (together u s at) tables index report ≡ R.outcome (Ok g.summary) (o ch).index (o ch).report =
       ap (λ (ps : List ℕ). R.reading ch (foundImage s ps) tables index report) (sym (found_on_air u s from at least a.caught))
       ∙ (F.success ch s from least tables index report g z.1.1).as_01_says in
       let w = trusted ch u (together u s at) (on_air ch u s from at least a) tables index report g.summary
@@ -169,7 +166,7 @@ module _ (u : Utterance) (s : List ℕ) (from at least : ℕ) (tables : Tables) 
       let z = bits_zero answer place index report (o ch) zero in
       let g = z.1.0 in
       let e = bits_success answer place index report (o ch) z.0 g z.1.1 in
-      let y : R.reading ch (together u s at) tables index report ≡ R.outcome (Ra.Read g.summary) (o ch).index (o ch).report =
+      let y : R.reading ch (together u s at) tables index report ≡ R.outcome (Ok g.summary) (o ch).index (o ch).report =
       ap (λ (ps : List ℕ). R.reading ch (foundImage s ps) tables index report) (sym (found_on_air u s from at least a))
       ∙ (F.success ch s from least tables index report g z.1.1).as_01_says in
       let w = never_misled ch u (together u s at) premises tables index report g.summary (ap (λ (x : R.Outcome). x.answer) y) in
@@ -191,7 +188,7 @@ module _ (u : Utterance) (s : List ℕ) (from at least : ℕ) (tables : Tables) 
 
 -- WHAT STAYS of any input that dsr_read_bits answers with 0
 pub c_bits_stay : (ch : Choices) (s : List ℕ) (from least : ℕ) (tables : Tables) (index report answer : List ℕ) (place : ℕ)
-    → (dsr_read_bits s from least (For ch) tables index report answer place).number ≡ 0 → BitsStay ch s from least tables index report answer place
+    → (dsr_read_bits s from least (Some ch) tables index report answer place).number ≡ 0 → BitsStay ch s from least tables index report answer place
 c_bits_stay ch s from least tables index report answer place zero =
     let o = hunting_reading ch s from least tables index report in
     let z = bits_zero answer place index report o zero in
@@ -199,11 +196,11 @@ c_bits_stay ch s from least tables index report answer place zero =
     let e = bits_success answer place index report o z.0 g z.1.1 in
     let y = (F.success ch s from least tables index report g z.1.1).as_01_says in
     let b = beyond_both ch (foundImage s (G.all ch s from least tables index report).places) tables index report g.summary (ap (λ (x : R.Outcome). x.answer) y) in
-    let m : get_or (dsr_read_bits s from least (For ch) tables index report answer place).answer 2 0 ≡ g.summary.multiframes = ap (λ (x : Returned). get_or x.answer 2 0) e in
+    let m : get_or (dsr_read_bits s from least (Some ch) tables index report answer place).answer 2 0 ≡ g.summary.multiframes = ap (λ (x : Returned). get_or x.answer 2 0) e in
     record {
-      index_beyond = subst (λ (n : ℕ). drop (index_octets * n) (dsr_read_bits s from least (For ch) tables index report answer place).index ≡ drop (index_octets * n) index) (sym m)
+      index_beyond = subst (λ (n : ℕ). drop (index_octets * n) (dsr_read_bits s from least (Some ch) tables index report answer place).index ≡ drop (index_octets * n) index) (sym m)
           (ap (λ (x : Returned). drop (index_octets * g.summary.multiframes) x.index) e ∙ sym (ap (λ (x : R.Outcome). drop (index_octets * g.summary.multiframes) x.index) y) ∙ b.0);
-      report_beyond = subst (λ (n : ℕ). drop (report_octets * n) (dsr_read_bits s from least (For ch) tables index report answer place).report ≡ drop (report_octets * n) report) (sym m)
+      report_beyond = subst (λ (n : ℕ). drop (report_octets * n) (dsr_read_bits s from least (Some ch) tables index report answer place).report ≡ drop (report_octets * n) report) (sym m)
           (ap (λ (x : Returned). drop (report_octets * g.summary.multiframes) x.report) e ∙ sym (ap (λ (x : R.Outcome). drop (report_octets * g.summary.multiframes) x.report) y) ∙ b.1);
       answer_beyond = ap (λ (x : Returned). drop counted_numbers x.answer) e ∙ beyond answer (numbers_of g) counted_numbers z.0 refl;
       place_stays = ap (λ (x : Returned). x.place) e;

@@ -1,18 +1,16 @@
 -- Calls that answer 0, for never misled, trusted, if it is read, heard whole, cut off, call to call and on air; the other sentences have their
 -- examples below the entries, in promises and hunting_demands.
 -- Assumes nothing.
-use Rattle.std.specs.Prelude.{◌≡◌, Bool, List, [], ◌∷◌, ℕ, ◌+◌, ◌*◌, ◌/◌, ◌%◌, ◌≤◌, ◌<◌, length, take, get_or}
+use Rattle.std.specs.Prelude.{◌≡◌, Bool, List, [], ◌∷◌, ℕ, ◌+◌, ◌*◌, ◌/◌, ◌%◌, ◌≤◌, ◌<◌, length, take, get_or, Some, Ok}
 use Rattle.std.proofs.Common.{sym, ap, ◌∙◌, subst, arith, lit<, lit≤}
 use Rattle.std.specs.Int.Count.{ones}
 use Rattle.lists.specs.Parts.{over}
 use Rattle.layout.specs.Layout.{packet_bits, multiframe_pairs, multiframe_octets, report_octets}
 use Rattle.choices.specs.Choices.{by_one_header}
 use Rattle.choices.specs.declared.Choices.{Choices}
-use Rattle.choices.specs.declared.Asked.TheVariants.{For}
 use Rattle.hunt.specs.Hunt.{fewest_matches}
 use Rattle.reader.specs.Reading.{reading}
 use Rattle.reader.specs.declared.Summary.{Summary}
-use Rattle.reader.specs.declared.Answer.TheVariants.{Read}
 use Rattle.writer.specs.Utterance.{Utterance, multiframes_of, image_of}
 use Rattle.settling.specs.Laws.{Enough}
 use Rattle.entries.specs.Entries.{answer_numbers, Returned, dsr_read}
@@ -47,8 +45,8 @@ use Rattle.dsr_demands.proofs.MetLaws.{call_met}
 use Rattle.tables.specs.Tables.{zero_tables}
 
 -- a reading with tables of zeros and just enough room that succeeds is answered with 0
-answers_0 : (ch : Choices) (s : List ℕ) (m : ℕ) (g : Summary) → (reading ch s zero_tables (index_for m) (report_for m)).answer ≡ Read g
-    → (dsr_read s (For ch) zero_tables (index_for m) (report_for m) six 0).number ≡ 0
+answers_0 : (ch : Choices) (s : List ℕ) (m : ℕ) (g : Summary) → (reading ch s zero_tables (index_for m) (report_for m)).answer ≡ Ok g
+    → (dsr_read s (Some ch) zero_tables (index_for m) (report_for m) six 0).number ≡ 0
 answers_0 ch s m g e = ap (λ (x : Returned). x.number) (read_success six 0 (index_for m) (report_for m) (reading ch s zero_tables (index_for m) (report_for m)) (lit≤ tt) g e)
 
 abbrev index48 : List ℕ
@@ -59,8 +57,8 @@ report48 = report_for (multiframes_of P.says48)
 
 -- NEVER MISLED: the incident. Three multiframes at 8 kHz, the second header is that of 11 kHz, and a packet is any 92 bits: the rate is 0
 pub incident_told : (ch : Choices) (p : List Bool) → length p ≡ packet_bits
-    → ((dsr_read (flipped P.says48 (P.in_second rate_bits 3) (but_one P.says48 0 p)) (For ch) zero_tables index48 report48 six 0).number ≡ 0)
-    × (get_or (dsr_read (flipped P.says48 (P.in_second rate_bits 3) (but_one P.says48 0 p)) (For ch) zero_tables index48 report48 six 0).answer 0 0 ≡ 0)
+    → ((dsr_read (flipped P.says48 (P.in_second rate_bits 3) (but_one P.says48 0 p)) (Some ch) zero_tables index48 report48 six 0).number ≡ 0)
+    × (get_or (dsr_read (flipped P.says48 (P.in_second rate_bits 3) (but_one P.says48 0 p)) (Some ch) zero_tables index48 report48 six 0).answer 0 0 ≡ 0)
 incident_told ch p size =
     let h = PM.incident_48 ch p size in
     let s = flipped P.says48 (P.in_second rate_bits 3) (but_one P.says48 0 p) in
@@ -93,7 +91,7 @@ trusted_told ch u enough =
 
 -- HEARD WHOLE: three multiframes, headers with two, three and one flips; the second is lost, and its note is 3
 pub heard_told : (ch : Choices) → HearsAll ch P.says48 (P.lost_one P.says48) zero_tables index48 report48 six 0
-    × ((k : ℕ) → k < multiframes_of P.says48 → header_note_at (dsr_read (P.lost_one P.says48) (For ch) zero_tables index48 report48 six 0).report k ≡ header_flips (image_of P.says48) (P.lost_one P.says48) k)
+    × ((k : ℕ) → k < multiframes_of P.says48 → header_note_at (dsr_read (P.lost_one P.says48) (Some ch) zero_tables index48 report48 six 0).report k ≡ header_flips (image_of P.says48) (P.lost_one P.says48) k)
 heard_told ch =
     let s = P.lost_one P.says48 in
     let three : multiframes_of P.says48 ≡ 3 = P.three_multiframes in
@@ -105,14 +103,14 @@ heard_told ch =
     ∙ PM.none_named ch P.says48 (omega arith) zero_tables index48 report48 (lent_zeros (multiframes_of P.says48)) (multiframe_pairs * k + j) (omega arith))
 
 -- CUT OFF: the first of two multiframes alone, if the old rule is asked for, is answered with 0 and end 0
-pub cut_told : (dsr_read (take (multiframe_octets * 1) (image_of ones24)) (For by_one_header) zero_tables (index_for 1) (report_for 1) six 0).answer ≡ over six 0 answer_numbers (0 ∷ 0 ∷ 1 ∷ 24 ∷ 0 ∷ 0 ∷ [])
+pub cut_told : (dsr_read (take (multiframe_octets * 1) (image_of ones24)) (Some by_one_header) zero_tables (index_for 1) (report_for 1) six 0).answer ≡ over six 0 answer_numbers (0 ∷ 0 ∷ 1 ∷ 24 ∷ 0 ∷ 0 ∷ [])
 cut_told =
     c_cut_off by_one_header zero_tables (index_for 1) (report_for 1) six 0 ones24 1 (omega arith)
     (answers_0 by_one_header (take (multiframe_octets * 1) (image_of ones24)) 1 _ first_of_24)
 
 -- ON AIR: two multiframes at bit 3 with four flips in each sync, two in each header, and damaged packets: the settings are those sent
-pub air_told : (ch : Choices) → ((dsr_read_bits (aired says24) 0 fewest_matches (For ch) zero_tables (index_for (multiframes_of says24)) (report_for (multiframes_of says24)) eight 0).number ≡ 0)
-    × (get_or (dsr_read_bits (aired says24) 0 fewest_matches (For ch) zero_tables (index_for (multiframes_of says24)) (report_for (multiframes_of says24)) eight 0).answer 0 0 ≡ says24.settings.rate)
+pub air_told : (ch : Choices) → ((dsr_read_bits (aired says24) 0 fewest_matches (Some ch) zero_tables (index_for (multiframes_of says24)) (report_for (multiframes_of says24)) eight 0).number ≡ 0)
+    × (get_or (dsr_read_bits (aired says24) 0 fewest_matches (Some ch) zero_tables (index_for (multiframes_of says24)) (report_for (multiframes_of says24)) eight 0).answer 0 0 ≡ says24.settings.rate)
 air_told ch =
     let i = index_for (multiframes_of says24) in
     let r = report_for (multiframes_of says24) in
@@ -128,8 +126,8 @@ air_back ch u enough =
 
 -- IF IT IS READ: three multiframes, the second header lost, two packets damaged: the notes are told
 pub read_told : (ch : Choices) → Tells P.says48 (P.all_hurt P.says48) zero_tables
-    (dsr_read (P.all_hurt P.says48) (For ch) zero_tables index48 report48 six 0).number (dsr_read (P.all_hurt P.says48) (For ch) zero_tables index48 report48 six 0).answer
-    (dsr_read (P.all_hurt P.says48) (For ch) zero_tables index48 report48 six 0).index (dsr_read (P.all_hurt P.says48) (For ch) zero_tables index48 report48 six 0).report
+    (dsr_read (P.all_hurt P.says48) (Some ch) zero_tables index48 report48 six 0).number (dsr_read (P.all_hurt P.says48) (Some ch) zero_tables index48 report48 six 0).answer
+    (dsr_read (P.all_hurt P.says48) (Some ch) zero_tables index48 report48 six 0).index (dsr_read (P.all_hurt P.says48) (Some ch) zero_tables index48 report48 six 0).report
 read_told ch =
     let three : multiframes_of P.says48 ≡ 3 = P.three_multiframes in
     let w = PM.wider_met ch P.says48 (omega arith) in
@@ -145,16 +143,16 @@ module _ (ch : Choices) (u : Utterance) (enough : Enough ch (multiframes_of u)) 
   sent_is : octets_of u.settings.rate u.settings.kind u.indices (room_for u) ≡ image_of u
   sent_is = octets_are u.settings.rate u.settings.kind u.indices (room_for u) (call_met u)
 
-  zero : (dsr_read sent (For ch) zero_tables (index_for (multiframes_of u)) (report_for (multiframes_of u)) six 0).number ≡ 0
+  zero : (dsr_read sent (Some ch) zero_tables (index_for (multiframes_of u)) (report_for (multiframes_of u)) six 0).number ≡ 0
   zero =
-      ap (λ (l : List ℕ). (dsr_read l (For ch) zero_tables (index_for (multiframes_of u)) (report_for (multiframes_of u)) six 0).number) sent_is
+      ap (λ (l : List ℕ). (dsr_read l (Some ch) zero_tables (index_for (multiframes_of u)) (report_for (multiframes_of u)) six 0).number) sent_is
       ∙ answers_0 ch (image_of u) (multiframes_of u) (spoken u) (PM.without_warning ch u enough zero_tables (index_for (multiframes_of u)) (report_for (multiframes_of u)) (lent_zeros (multiframes_of u))).succeeds
 
   pub link_told : Tells (called u.settings.rate u.settings.kind u.indices (room_for u) (call_met u)) sent zero_tables
-      (dsr_read sent (For ch) zero_tables (index_for (multiframes_of u)) (report_for (multiframes_of u)) six 0).number
-      (dsr_read sent (For ch) zero_tables (index_for (multiframes_of u)) (report_for (multiframes_of u)) six 0).answer
-      (dsr_read sent (For ch) zero_tables (index_for (multiframes_of u)) (report_for (multiframes_of u)) six 0).index
-      (dsr_read sent (For ch) zero_tables (index_for (multiframes_of u)) (report_for (multiframes_of u)) six 0).report
+      (dsr_read sent (Some ch) zero_tables (index_for (multiframes_of u)) (report_for (multiframes_of u)) six 0).number
+      (dsr_read sent (Some ch) zero_tables (index_for (multiframes_of u)) (report_for (multiframes_of u)) six 0).answer
+      (dsr_read sent (Some ch) zero_tables (index_for (multiframes_of u)) (report_for (multiframes_of u)) six 0).index
+      (dsr_read sent (Some ch) zero_tables (index_for (multiframes_of u)) (report_for (multiframes_of u)) six 0).report
   link_told =
       c_link_names u.settings.rate u.settings.kind u.indices (room_for u) (call_met u) sent zero_tables (index_for (multiframes_of u)) (report_for (multiframes_of u)) six 0 ch
       (subst (λ (l : List ℕ). DamageUpTo 3 (count_of u.indices) l l) (sym sent_is) (loosened (lit≤ tt) (unharmed u))) zero

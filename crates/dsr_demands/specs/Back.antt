@@ -1,7 +1,7 @@
 -- DEMAND 2 AT THE ENTRIES: what dsr_write wrote, dsr_read reads back, and what dsr_read read without a note, dsr_write writes again octet for
 -- octet. Said in the numbers, octets and buffers that a caller in C has, of any octets that dsr_write answers with 0.
 -- Assumes nothing.
-use Rattle.std.specs.Prelude.{◌≡◌, List, ◌∷◌, [], ℕ, ◌*◌, ◌≤◌, ◌<◌, length, take, drop, get_or, replicate}
+use Rattle.std.specs.Prelude.{◌≡◌, List, ◌∷◌, [], ℕ, ◌*◌, ◌≤◌, ◌<◌, length, take, drop, get_or, replicate, Some, Ok}
 use Rattle.std.proofs.Common.{sym, ap₂, ◌∙◌, subst, arith}
 use Rattle.std.proofs.Math.Path.{ap}
 use Rattle.std.proofs.lemmas.List.{length-replicate}
@@ -9,7 +9,6 @@ use Rattle.std.proofs.Math.ListN.{get_or-eq_default}
 use Rattle.lists.specs.Parts.{over}
 use Rattle.layout.specs.Layout.{frame_indices, multiframe_octets, index_octets, report_octets}
 use Rattle.choices.specs.declared.Choices.{Choices}
-use Rattle.choices.specs.declared.Asked.TheVariants.{For}
 use Rattle.tables.specs.Tables.{Tables}
 use Rattle.image.specs.Made.{Small}
 use Rattle.wrong_frames.specs.WrongFrames.{frame_count}
@@ -18,7 +17,6 @@ use Rattle.writer.specs.Utterance.{Utterance}
 use Rattle.writer.proofs.Utterance.{whole_frames}
 use Rattle.reader.specs.Reading.{Outcome, reading}
 use Rattle.reader.specs.declared.Summary.{Summary}
-use Rattle.reader.specs.declared.Answer.TheVariants.{Read}
 use Rattle.settling.specs.Laws.{Enough}
 use Rattle.entries.specs.Entries.{answer_numbers, summary_numbers, Returned, returned, WriteReturned, dsr_write, dsr_read}
 use Rattle.demands.specs.Whole.{Lent}
@@ -39,7 +37,7 @@ module _ (ch : Choices) (rate kind : ℕ) (indices out : List ℕ) (tables : Tab
 
   -- the octets written are read
   abbrev pub back : Returned
-  back = dsr_read (take wrote.place wrote.output) (For ch) tables index report answer place
+  back = dsr_read (take wrote.place wrote.output) (Some ch) tables index report answer place
 
   pub record BackPremises : Type 0 where
     -- what a caller lends are octets
@@ -127,7 +125,7 @@ c_reads_back ch = proof ch
 -- ---- WRITES AGAIN
 module _ (ch : Choices) (s : List ℕ) (tables : Tables) (index report answer : List ℕ) (place : ℕ) (output : List ℕ) where
   abbrev pub got : Returned
-  got = dsr_read s (For ch) tables index report answer place
+  got = dsr_read s (Some ch) tables index report answer place
 
   -- the settings and the first `speech` frames of the index buffer, written
   abbrev pub again : WriteReturned
@@ -147,7 +145,7 @@ module _ (ch : Choices) (s : List ℕ) (tables : Tables) (index report answer : 
     pub same_octets : again.output ≡ over output 0 (length s) s
 
   module _ (p : AgainPremises) where
-    z : (answer_numbers ≤ length answer) × ((g : Summary) × ((reading ch s tables index report).answer ≡ Read g))
+    z : (answer_numbers ≤ length answer) × ((g : Summary) × ((reading ch s tables index report).answer ≡ Ok g))
     z = read_zero answer place index report (reading ch s tables index report) p.number
 
     abbrev g : Summary

@@ -1,6 +1,6 @@
 -- A call of dsr_write that answered 0 is of an accepted utterance, and what it wrote is the utterance's image.
 -- Assumes nothing.
-use Rattle.std.specs.Prelude.{◌≡◌, List, ℕ, ◌+◌, ◌*◌, length, take, drop}
+use Rattle.std.specs.Prelude.{◌≡◌, List, ℕ, ◌+◌, ◌*◌, length, take, drop, Ok, Err}
 use Rattle.std.proofs.Common.{sym, ap, ◌∙◌, arith, take_at}
 use Rattle.layout.specs.Layout.{multiframe_octets}
 use Rattle.settings.specs.Settings.{settings}
@@ -14,20 +14,18 @@ use Rattle.writer.proofs.Laws.{accepts}
 use Rattle.writer.proofs.Laws as L
 use Rattle.writer.specs.Utterance.{Utterance, image_of}
 use Rattle.writer.proofs.Utterance.{success}
-use Rattle.writer.specs.declared.Answer as WA
-use Rattle.writer.specs.declared.Answer.TheVariants.{Written}
-use Rattle.writer.specs.declared.Answer.TheVariants as WV
+use Rattle.writer.specs.Types as WA
 use Rattle.entries.specs.Entries.{dsr_write}
 use Rattle.dsr_demands.specs.Calls.{beyond, write_zero}
 
 -- dsr_write's success is the writer's
-accepted : (rate kind : ℕ) (indices out : List ℕ) (n : ℕ) → (writing (settings rate kind) indices out).answer ≡ Written n → verdict (settings rate kind) indices (length out) ≡ Written n
+accepted : (rate kind : ℕ) (indices out : List ℕ) (n : ℕ) → (writing (settings rate kind) indices out).answer ≡ Ok n → verdict (settings rate kind) indices (length out) ≡ Ok n
 unfolding writing
 accepted rate kind indices out n e = by (verdict (settings rate kind) indices (length out)) e
   where
-    by : (v : WA.Answer) → (W.finished (settings rate kind) indices out v).answer ≡ Written n → v ≡ Written n
-    by (Written k) e = e
-    by (WV.Refused r) e = e
+    by : (v : WA.Answer) → (W.finished (settings rate kind) indices out v).answer ≡ Ok n → v ≡ Ok n
+    by (Ok k) e = e
+    by (Err r) e = e
 
 -- a call of dsr_write that answered 0, of octets
 pub record Call (rate kind : ℕ) (indices out : List ℕ) : Type 0 where
@@ -45,7 +43,7 @@ module _ (rate kind : ℕ) (indices out : List ℕ) (c : Call rate kind indices 
   abbrev n : ℕ
   n = (dsr_write rate kind indices out).place
 
-  ok : (writing (settings rate kind) indices out).answer ≡ Written n
+  ok : (writing (settings rate kind) indices out).answer ≡ Ok n
   ok = write_zero rate kind indices out c.written
 
   pub took : Accepted (settings rate kind) indices (length out) n

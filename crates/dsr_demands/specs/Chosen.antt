@@ -2,9 +2,8 @@
 -- refused with 96. By default, with 0, an only multiframe is refused with 16, whatever its header is; 1 asks for the old rule; and two multiframes
 -- or more are read alike by both.
 -- Assumes nothing.
-use Rattle.std.specs.Prelude.{◌≡◌, [], ◌∷◌, replicate}
+use Rattle.std.specs.Prelude.{◌≡◌, [], ◌∷◌, replicate, Some, None}
 use Rattle.choices.specs.Choices.{by_default, by_one_header, asked}
-use Rattle.choices.specs.declared.Asked.TheVariants.{For, NoSuchChoice}
 use Rattle.tables.specs.Tables.{zero_tables}
 use Rattle.entries.specs.Entries.{dsr_read}
 use Rattle.entries.specs.Bits.{dsr_read_bits}
@@ -16,16 +15,16 @@ use Rattle.dsr_demands.specs.Met.{six, eight}
 
 -- ---- the numbers, literally
 pub record Numbers : Type 0 where
-  pub number_0 : asked 0 ≡ For by_default
-  pub number_1 : asked 1 ≡ For by_one_header
+  pub number_0 : asked 0 ≡ Some by_default
+  pub number_1 : asked 1 ≡ Some by_one_header
   -- none is cut to a right one
-  pub number_2 : asked 2 ≡ NoSuchChoice
-  pub number_3 : asked 3 ≡ NoSuchChoice
-  pub number_256 : asked 256 ≡ NoSuchChoice
-  pub number_257 : asked 257 ≡ NoSuchChoice
-  pub above_32_bits : asked 0x100000000 ≡ NoSuchChoice
-  pub above_32_bits_and_1 : asked 0x100000001 ≡ NoSuchChoice
-  pub largest : asked 0xFFFFFFFFFFFFFFFF ≡ NoSuchChoice
+  pub number_2 : asked 2 ≡ None
+  pub number_3 : asked 3 ≡ None
+  pub number_256 : asked 256 ≡ None
+  pub number_257 : asked 257 ≡ None
+  pub above_32_bits : asked 0x100000000 ≡ None
+  pub above_32_bits_and_1 : asked 0x100000001 ≡ None
+  pub largest : asked 0xFFFFFFFFFFFFFFFF ≡ None
 
 -- ---- both sides, literally: 01's frame 1 alone, in one multiframe
 pub record OneMultiframe : Type 0 where

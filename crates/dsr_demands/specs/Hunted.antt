@@ -1,15 +1,14 @@
 -- THE HUNT AT dsr_hunt: 0 gives the smallest place from the first bit on that passes the test, and how many were tested; 21 comes exactly if T is not 12
 -- to 16, and else 22 exactly if none does. What is not named stays.
 -- Assumes nothing.
-use Rattle.std.specs.Prelude.{◌≡◌, refl, Bool, true, false, List, ℕ, suc, ◌+◌, ◌-◌, ◌≤◌, ◌<◌}
+use Rattle.std.specs.Prelude.{◌≡◌, refl, Bool, true, false, List, ℕ, suc, ◌+◌, ◌-◌, ◌≤◌, ◌<◌, Err, Ok}
 use Rattle.std.proofs.Common.{sym, ap, ◌∙◌, subst}
 use Rattle.lists.specs.Tests.{true_false}
 use Rattle.bits.specs.Bits.{bits}
 use Rattle.hunt.specs.Hunt.{multiframe_bits, in_range, passes, searched, places_left, hunted, hunted_from}
 use Rattle.hunt.specs.Laws.{Says}
 use Rattle.hunt.proofs.Laws.{range_says, in_range_lem, says, range_exactly, hunts}
-use Rattle.hunt.specs.declared.Hunted.{Hunted}
-use Rattle.hunt.specs.declared.Hunted.TheVariants.{Found, Refused}
+use Rattle.hunt.specs.Types.{Hunted, found_at}
 use Rattle.refusals.specs.declared.Hunt.TheVariants.{MatchRange, Nowhere}
 use Rattle.entries.specs.Bits.{HuntReturned, hunt_returning, dsr_hunt}
 
@@ -54,9 +53,9 @@ module _ (s : List ℕ) (from least found place : ℕ) where
   c_hunt = by_range (in_range least) refl
     where
       found_case : (h : Hunted) → hunted s from least ≡ h → Says least (bits s) from h → in_range least ≡ true → HuntEnds
-      found_case (Found p n) e x r =
-          let q : c ≡ hunt_returning found place (Found p n) = ap (hunt_returning found place) e in
-          let f : c.found ≡ p = ap (λ (w : HuntReturned). w.found) q in
+      found_case (Ok w) e x r =
+          let q : c ≡ hunt_returning found place (found_at w.place w.tested) = ap (hunt_returning found place) e in
+          let f : c.found ≡ w.place = ap (λ (w : HuntReturned). w.found) q in
           at_once (ap (λ (w : HuntReturned). w.number) q)
           (record {
             low = (range_says least r).0;
@@ -68,8 +67,8 @@ module _ (s : List ℕ) (from least found place : ℕ) where
             tested = ap (λ (w : HuntReturned). w.tested) q ∙ x.4 ∙ ap (λ (i : ℕ). suc i - from) (sym f);
             place_stays = ap (λ (w : HuntReturned). w.place) q;
           })
-      found_case (Refused (Nowhere f n)) e x r =
-          let q : c ≡ hunt_returning found place (Refused (Nowhere f n)) = ap (hunt_returning found place) e in
+      found_case (Err (Nowhere f n)) e x r =
+          let q : c ≡ hunt_returning found place (Err (Nowhere f n)) = ap (hunt_returning found place) e in
           nowhere
           (record {
             number = ap (λ (w : HuntReturned). w.number) q;
@@ -78,13 +77,13 @@ module _ (s : List ℕ) (from least found place : ℕ) where
             place_is = ap (λ (w : HuntReturned). w.place) q ∙ x.0;
             found_stays = ap (λ (w : HuntReturned). w.found) q;
           })
-      found_case (Refused (MatchRange t)) e x r = absurd x
+      found_case (Err (MatchRange t)) e x r = absurd x
 
       by_range : (b : Bool) → in_range least ≡ b → HuntEnds
       by_range true r = found_case (hunted_from (bits s) from least) (hunts s from least r) (says least (bits s) from) r
       by_range false r =
-          let e : hunted s from least ≡ Refused (MatchRange least) = (range_exactly s from least).1 r in
-          let q : c ≡ hunt_returning found place (Refused (MatchRange least)) = ap (hunt_returning found place) e in
+          let e : hunted s from least ≡ Err (MatchRange least) = (range_exactly s from least).1 r in
+          let q : c ≡ hunt_returning found place (Err (MatchRange least)) = ap (hunt_returning found place) e in
           bad_range
           (record {
             number = ap (λ (w : HuntReturned). w.number) q;

@@ -1,11 +1,10 @@
 -- DEMAND 3 AT THE ENTRIES, and what the yards are told: each clause of names-the-damage, never-misled, trusted, heard-whole and last-heard, said
 -- in the numbers, octets and buffers that a caller of dsr_read has. A report's octets are counted by multiframe and pair, frames by octet.
 -- Assumes nothing.
-use Rattle.std.specs.Prelude.{◌≡◌, List, [], ◌∷◌, ◌↔◌, ℕ, ◌+◌, ◌*◌, ◌/◌, ◌%◌, ◌≤◌, ◌<◌, length, drop, get_or}
+use Rattle.std.specs.Prelude.{◌≡◌, List, [], ◌∷◌, ◌↔◌, ℕ, ◌+◌, ◌*◌, ◌/◌, ◌%◌, ◌≤◌, ◌<◌, length, drop, get_or, Some}
 use Rattle.lists.specs.Parts.{over}
 use Rattle.layout.specs.Layout.{frame_indices, pair_frames, multiframe_pairs, multiframe_frames, index_octets, report_octets}
 use Rattle.choices.specs.declared.Choices.{Choices}
-use Rattle.choices.specs.declared.Asked.TheVariants.{For}
 use Rattle.tables.specs.Tables.{Tables}
 use Rattle.wrong_frames.specs.WrongFrames.{frame_count}
 use Rattle.writer.specs.Utterance.{Utterance, multiframes_of, pairs_of, image_of}
@@ -43,7 +42,7 @@ pub record Tells (u : Utterance) (s : List ℕ) (tables : Tables) (number : ℕ)
 -- ---- dsr_read
 module _ (ch : Choices) (s : List ℕ) (tables : Tables) (index report answer : List ℕ) (place : ℕ) where
   abbrev pub got : Returned
-  got = dsr_read s (For ch) tables index report answer place
+  got = dsr_read s (Some ch) tables index report answer place
 
   -- octets beyond both parts, numbers beyond the six and the place are as they came
   pub record Stays : Type 0 where
@@ -54,7 +53,7 @@ module _ (ch : Choices) (s : List ℕ) (tables : Tables) (index report answer : 
 
 module _ (ch : Choices) (u : Utterance) (s : List ℕ) (tables : Tables) (index report answer : List ℕ) (place : ℕ) where
   abbrev c : Returned
-  c = dsr_read s (For ch) tables index report answer place
+  c = dsr_read s (Some ch) tables index report answer place
 
   -- what a caller hears of all of an utterance: its six numbers, every frame octet for octet and zeros after them
   pub record HearsAll : Type 0 where

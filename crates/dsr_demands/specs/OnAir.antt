@@ -3,12 +3,11 @@
 -- found there, so the wider limits of the octet reader do not hold (`Missed` in hunting_demands shows it where one header is asked to settle). In the numbers, octets and buffers that a caller
 -- in C has.
 -- Assumes nothing.
-use Rattle.std.specs.Prelude.{◌≡◌, List, ℕ, ◌*◌, ◌≤◌, ◌<◌, length, get_or, drop}
+use Rattle.std.specs.Prelude.{◌≡◌, List, ℕ, ◌*◌, ◌≤◌, ◌<◌, length, get_or, drop, Some}
 use Rattle.hunting_demands.specs.HuntsBack.{received_flips}
 use Rattle.image.specs.Made.{packet_in}
 use Rattle.layout.specs.Layout.{index_octets, report_octets}
 use Rattle.choices.specs.declared.Choices.{Choices}
-use Rattle.choices.specs.declared.Asked.TheVariants.{For}
 use Rattle.tables.specs.Tables.{Tables}
 use Rattle.bits.specs.Bits.{bits}
 use Rattle.gathering.specs.Gathering.{outside_of}
@@ -22,7 +21,7 @@ use Rattle.hunting_demands.specs.Radio.{together, received_packet}
 
 module _ (u : Utterance) (s : List ℕ) (from at least : ℕ) (tables : Tables) (index report answer : List ℕ) (place : ℕ) where
   abbrev c : (ch : Choices) → Returned
-  c ch = dsr_read_bits s from least (For ch) tables index report answer place
+  c ch = dsr_read_bits s from least (Some ch) tables index report answer place
 
   -- the bits outside, the places tested, and the place as it came
   pub record Counts (ch : Choices) : Type 0 where
@@ -50,7 +49,7 @@ module _ (u : Utterance) (s : List ℕ) (from at least : ℕ) (tables : Tables) 
 -- WHAT STAYS of any input that dsr_read_bits answers with 0: octets beyond both parts, numbers beyond the eight, and the place
 module _ (ch : Choices) (s : List ℕ) (from least : ℕ) (tables : Tables) (index report answer : List ℕ) (place : ℕ) where
   abbrev gives : Returned
-  gives = dsr_read_bits s from least (For ch) tables index report answer place
+  gives = dsr_read_bits s from least (Some ch) tables index report answer place
 
   pub record BitsStay : Type 0 where
     pub index_beyond : drop (index_octets * get_or gives.answer 2 0) gives.index ≡ drop (index_octets * get_or gives.answer 2 0) index

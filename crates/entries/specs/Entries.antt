@@ -1,26 +1,23 @@
 -- What the entries for C and Rust answer, in numbers, and what they leave in lent memory. Assumes nothing.
-use Rattle.std.specs.Prelude.{◌≡◌, List, [], ◌∷◌, ℕ, eqb, ltb, length}
+use Rattle.std.specs.Prelude.{◌≡◌, List, [], ◌∷◌, ℕ, eqb, ltb, length, Some, None, Ok, Err}
 use Rattle.lists.specs.Tests.{when}
 use Rattle.lists.specs.Parts.{over}
 use Rattle.lists.specs.Search.{Search, at, nowhere}
 use Rattle.layout.specs.Layout.{stream_octets, index_octets, multiframe_pairs}
 use Rattle.choices.specs.declared.Choices.{Choices}
-use Rattle.choices.specs.declared.Asked.{Asked}
-use Rattle.choices.specs.declared.Asked.TheVariants.{For, NoSuchChoice}
+use Rattle.choices.specs.Types.{Asked}
 use Rattle.tables.specs.Tables.{Tables}
 use Rattle.settings.specs.Settings.{settings}
 use Rattle.bits.specs.Bits.{bits, octets}
 use Rattle.carrier.specs.Carrier.{stream_packet}
 use Rattle.packet.specs.Packet.{stream}
 use Rattle.notes.specs.Notes.{all_frames, crc_notes}
-use Rattle.header.specs.declared.Header.{Header}
-use Rattle.header.specs.declared.Header.TheVariants.{Codeword, Lost}
+use Rattle.header.specs.Types.{Header}
 use Rattle.refusals.specs.Refusals.{success, no_such_choice, unreadable, wrong_length, no_room, writing_number, reading_number, reading_place}
 use Rattle.refusals.specs.declared.Writing.TheVariants.{WideIndex}
 use Rattle.reader.specs.Reading.{Outcome, reading}
 use Rattle.reader.specs.declared.Summary.{Summary}
-use Rattle.reader.specs.declared.Answer.{Answer}
-use Rattle.reader.specs.declared.Answer.TheVariants.{Read, Refused}
+use Rattle.reader.specs.Types.{Answer}
 use Rattle.writer.specs.Writing as W
 use Rattle.wrong_frames.specs.WrongFrames.{first_wide}
 use Rattle.writer.specs.Writing.{writing}
@@ -29,8 +26,8 @@ use Rattle.writer.specs.Writing.{writing}
 
 -- a header's reading: the answer and the two lent numbers, as they are and as they came
 abbrev pub header_read : ℕ → ℕ → ℕ → ℕ → ℕ → Header → Type 0
-header_read r m f m₀ f₀ (Codeword d) = (r ≡ success) × (m ≡ d.message) × (f ≡ d.flips)
-header_read r m f m₀ f₀ Lost = (r ≡ unreadable) × (m ≡ m₀) × (f ≡ f₀)
+header_read r m f m₀ f₀ (Some d) = (r ≡ success) × (m ≡ d.message) × (f ≡ d.flips)
+header_read r m f m₀ f₀ None = (r ≡ unreadable) × (m ≡ m₀) × (f ≡ f₀)
 
 -- ---- a multiframe's stream, packed
 pub record Packing : Type 0 where
@@ -117,13 +114,13 @@ unchosen w a p i r = when (ltb (length a) w) (returned no_room i r a p) (returne
 
 -- g is what a reading gives by each choice, of which one was asked for
 abbrev pub choosing : ℕ → List ℕ → ℕ → List ℕ → List ℕ → (Choices → Given) → Asked → Returned
-choosing w a p i r g (For ch) = returning w a p i r (g ch)
-choosing w a p i r g NoSuchChoice = unchosen w a p i r
+choosing w a p i r g (Some ch) = returning w a p i r (g ch)
+choosing w a p i r g None = unchosen w a p i r
 
 -- 01's reading in numbers
 abbrev pub told_of : Answer → Told
-told_of (Read s) = numbers (summary_numbers s)
-told_of (Refused x) = refusal (reading_number x) (reading_place x)
+told_of (Ok s) = numbers (summary_numbers s)
+told_of (Err x) = refusal (reading_number x) (reading_place x)
 
 abbrev pub given_of : Outcome → Given
 given_of o = given (told_of o.answer) o.index o.report

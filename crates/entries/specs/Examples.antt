@@ -1,20 +1,17 @@
 -- Literal examples of the entries: which number stands where, and what stays, which no law would notice if definition and code were changed alike.
 -- Assumes nothing.
-use Rattle.std.specs.Prelude.{◌≡◌, refl, List, [], ◌∷◌, ◌++◌, ℕ, ℤ, pos, negsuc, replicate}
+use Rattle.hunt.specs.Types.{found_at}
+use Rattle.std.specs.Prelude.{◌≡◌, refl, List, [], ◌∷◌, ◌++◌, ℕ, ℤ, pos, negsuc, replicate, Ok, Err}
 use Rattle.std.proofs.Common.{subst}
 use Rattle.std.proofs.Math.Bool.{xor}
 use Rattle.lists.specs.Search.{first_from}
 use Rattle.settings.specs.Settings.{settings}
-use Rattle.hunt.specs.declared.Hunted.TheVariants as HA
 use Rattle.refusals.specs.declared.Hunt.TheVariants as HR
 use Rattle.refusals.specs.declared.Reading.TheVariants as RR
 use Rattle.reader.specs.Reading as R
-use Rattle.reader.specs.declared.Answer.TheVariants as Ra
-use Rattle.until_settled.specs.declared.Answer.TheVariants as SA
 use Rattle.writer.specs.Writing.{verdict, writing}
 use Rattle.hunting.specs.Hunting.{Outcome, outcome}
 use Rattle.refusals.specs.declared.Hunting.TheVariants.{Octets, MatchRange, Nowhere, TooMany}
-use Rattle.hunting.specs.declared.Answer.TheVariants.{Read, Refused}
 use Rattle.bits.specs.Bits.{numbers, value, fields, field, laid, total}
 use Rattle.crc.specs.Crc.{after, crc, alike, right}
 use Rattle.packet.specs.Packet.{apart, row, stream, packet_of, packet, guarded}
@@ -33,20 +30,20 @@ use Rattle.entries.specs.Bits.{hunt_returning, bits_given, dsr_hunt, dsr_read_bi
 -- 16 kHz, noise robust, 2 multiframes, 30 frames of speech, 4 bad pairs, no end; 32 bits outside, 21 places tested
 abbrev pub talk : Outcome
 talk =
-    outcome (Read (record { summary = record { settings = settings 3 1; multiframes = 2; speech = 30; bad = 4; end = 0 }; outside = 32; tested = 21 })) (1 ∷ []) (2 ∷ [])
+    outcome (Ok (record { summary = record { settings = settings 3 1; multiframes = 2; speech = 30; bad = 4; end = 0 }; outside = 32; tested = 21 })) (1 ∷ []) (2 ∷ [])
 
 -- the same, read from octets
 abbrev pub heard : R.Outcome
-heard = R.outcome (Ra.Read (record { settings = settings 3 1; multiframes = 2; speech = 30; bad = 4; end = 0 })) (1 ∷ []) (2 ∷ [])
+heard = R.outcome (Ok (record { settings = settings 3 1; multiframes = 2; speech = 30; bad = 4; end = 0 })) (1 ∷ []) (2 ∷ [])
 
 abbrev pub nine : List ℕ
 nine = 90 ∷ 91 ∷ 92 ∷ 93 ∷ 94 ∷ 95 ∷ 96 ∷ 97 ∷ 98 ∷ []
 
 pub record Table : Type 0 where
   -- found came as 7, the place as 8
-  pub hunt_found : hunt_returning 7 8 (HA.Found 19 20) ≡ record { number = 0; found = 19; tested = 20; place = 8 }
-  pub hunt_21 : hunt_returning 7 8 (HA.Refused (HR.MatchRange 11)) ≡ record { number = 21; found = 7; tested = 0; place = 11 }
-  pub hunt_22 : hunt_returning 7 8 (HA.Refused (HR.Nowhere 6 3)) ≡ record { number = 22; found = 7; tested = 3; place = 6 }
+  pub hunt_found : hunt_returning 7 8 (found_at 19 20) ≡ record { number = 0; found = 19; tested = 20; place = 8 }
+  pub hunt_21 : hunt_returning 7 8 (Err (HR.MatchRange 11)) ≡ record { number = 21; found = 7; tested = 0; place = 11 }
+  pub hunt_22 : hunt_returning 7 8 (Err (HR.Nowhere 6 3)) ≡ record { number = 22; found = 7; tested = 3; place = 6 }
   -- eight numbers, a ninth stays; index and report came as 5 and 6
   pub eight : returning 8 nine 8 (5 ∷ []) (6 ∷ []) (bits_given talk)
       ≡ record { number = 0; index = 1 ∷ []; report = 2 ∷ []; answer = 3 ∷ 1 ∷ 2 ∷ 30 ∷ 4 ∷ 0 ∷ 32 ∷ 21 ∷ 98 ∷ []; place = 8 }
@@ -54,27 +51,27 @@ pub record Table : Type 0 where
   pub six : returning 6 nine 8 (5 ∷ []) (6 ∷ []) (given_of heard)
       ≡ record { number = 0; index = 1 ∷ []; report = 2 ∷ []; answer = 3 ∷ 1 ∷ 2 ∷ 30 ∷ 4 ∷ 0 ∷ 96 ∷ 97 ∷ 98 ∷ []; place = 8 }
   pub five : returning 6 (replicate 5 90) 8 (5 ∷ []) (6 ∷ []) (given_of heard) ≡ record { number = 99; index = 5 ∷ []; report = 6 ∷ []; answer = replicate 5 90; place = 8 }
-  pub octets_16 : returning 6 nine 8 (5 ∷ []) (6 ∷ []) (given_of (R.outcome (Ra.Refused RR.Unsettled) (5 ∷ []) (6 ∷ [])))
+  pub octets_16 : returning 6 nine 8 (5 ∷ []) (6 ∷ []) (given_of (R.outcome (Err RR.Unsettled) (5 ∷ []) (6 ∷ [])))
       ≡ record { number = 16; index = 5 ∷ []; report = 6 ∷ []; answer = nine; place = 0 }
-  pub octets_13 : returning 6 nine 8 (5 ∷ []) (6 ∷ []) (given_of (R.outcome (Ra.Refused (RR.CutShort 290)) (5 ∷ []) (6 ∷ [])))
+  pub octets_13 : returning 6 nine 8 (5 ∷ []) (6 ∷ []) (given_of (R.outcome (Err (RR.CutShort 290)) (5 ∷ []) (6 ∷ [])))
       ≡ record { number = 13; index = 5 ∷ []; report = 6 ∷ []; answer = nine; place = 290 }
   -- dsr_settle's three: rate, type and multiframes read, and the rest stays; no buffer is lent
-  pub three : returning 3 nine 8 [] [] (settle_given (SA.Read (record { settings = settings 3 1; multiframes = 5 })))
+  pub three : returning 3 nine 8 [] [] (settle_given (Ok (record { settings = settings 3 1; multiframes = 5 })))
       ≡ record { number = 0; index = []; report = []; answer = 3 ∷ 1 ∷ 5 ∷ 93 ∷ 94 ∷ 95 ∷ 96 ∷ 97 ∷ 98 ∷ []; place = 8 }
-  pub settle_12 : returning 3 nine 8 [] [] (settle_given (SA.Refused (RR.Unknown 144))) ≡ record { number = 12; index = []; report = []; answer = nine; place = 144 }
-  pub two : returning 3 (replicate 2 90) 8 [] [] (settle_given (SA.Refused (RR.Unknown 144))) ≡ record { number = 99; index = []; report = []; answer = replicate 2 90; place = 8 }
+  pub settle_12 : returning 3 nine 8 [] [] (settle_given (Err (RR.Unknown 144))) ≡ record { number = 12; index = []; report = []; answer = nine; place = 144 }
+  pub two : returning 3 (replicate 2 90) 8 [] [] (settle_given (Err (RR.Unknown 144))) ≡ record { number = 99; index = []; report = []; answer = replicate 2 90; place = 8 }
   -- no room for eight: 99 comes before all, and all stays
   pub seven : returning 8 (replicate 7 90) 8 (5 ∷ []) (6 ∷ []) (bits_given talk) ≡ record { number = 99; index = 5 ∷ []; report = 6 ∷ []; answer = replicate 7 90; place = 8 }
-  pub seven_11 : returning 8 (replicate 7 90) 8 (5 ∷ []) (6 ∷ []) (bits_given (outcome (Refused (Octets RR.WrongTables)) (5 ∷ []) (6 ∷ [])))
+  pub seven_11 : returning 8 (replicate 7 90) 8 (5 ∷ []) (6 ∷ []) (bits_given (outcome (Err (Octets RR.WrongTables)) (5 ∷ []) (6 ∷ [])))
       ≡ record { number = 99; index = 5 ∷ []; report = 6 ∷ []; answer = replicate 7 90; place = 8 }
   -- a refusal leaves the answer and has a place of its own
-  pub bits_15 : returning 8 nine 8 (5 ∷ []) (6 ∷ []) (bits_given (outcome (Refused (TooMany 293763)) (5 ∷ []) (6 ∷ [])))
+  pub bits_15 : returning 8 nine 8 (5 ∷ []) (6 ∷ []) (bits_given (outcome (Err (TooMany 293763)) (5 ∷ []) (6 ∷ [])))
       ≡ record { number = 15; index = 5 ∷ []; report = 6 ∷ []; answer = nine; place = 293763 }
-  pub bits_18 : returning 8 nine 8 (5 ∷ []) (6 ∷ []) (bits_given (outcome (Refused (Octets (RR.IndexShort 336))) (5 ∷ []) (6 ∷ [])))
+  pub bits_18 : returning 8 nine 8 (5 ∷ []) (6 ∷ []) (bits_given (outcome (Err (Octets (RR.IndexShort 336))) (5 ∷ []) (6 ∷ [])))
       ≡ record { number = 18; index = 5 ∷ []; report = 6 ∷ []; answer = nine; place = 336 }
-  pub bits_21 : returning 8 nine 8 (5 ∷ []) (6 ∷ []) (bits_given (outcome (Refused (MatchRange 17)) (5 ∷ []) (6 ∷ [])))
+  pub bits_21 : returning 8 nine 8 (5 ∷ []) (6 ∷ []) (bits_given (outcome (Err (MatchRange 17)) (5 ∷ []) (6 ∷ [])))
       ≡ record { number = 21; index = 5 ∷ []; report = 6 ∷ []; answer = nine; place = 17 }
-  pub bits_22 : returning 8 nine 8 (5 ∷ []) (6 ∷ []) (bits_given (outcome (Refused (Nowhere 4 3)) (5 ∷ []) (6 ∷ [])))
+  pub bits_22 : returning 8 nine 8 (5 ∷ []) (6 ∷ []) (bits_given (outcome (Err (Nowhere 4 3)) (5 ∷ []) (6 ∷ [])))
       ≡ record { number = 22; index = 5 ∷ []; report = 6 ∷ []; answer = nine; place = 4 }
 
 pub table : Table

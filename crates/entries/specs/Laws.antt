@@ -1,10 +1,9 @@
 -- The entries' ends as facts over lists: each refusal leaves all as it came. Assumes nothing.
-use Rattle.std.specs.Prelude.{◌≡◌, refl, Bool, true, false, List, [], ℕ, ◌≤◌, ◌<◌, ltb, length}
+use Rattle.std.specs.Prelude.{◌≡◌, refl, Bool, true, false, List, [], ℕ, ◌≤◌, ◌<◌, ltb, length, Some, None}
 use Rattle.std.proofs.Common.{sym, ap, ap₂, ◌∙◌, arith}
 use borrow.Author.Tests.{eq-eqb, ne_eqb, lt-ltb, le-ltb, ltb-false}
 use Rattle.choices.specs.declared.Choices.{Choices}
-use Rattle.choices.specs.declared.Asked.{Asked}
-use Rattle.choices.specs.declared.Asked.TheVariants.{For, NoSuchChoice}
+use Rattle.choices.specs.Types.{Asked}
 use Rattle.lists.specs.Tests.{when, true_false}
 use Rattle.lists.specs.Parts.{over}
 use Rattle.lists.specs.Search.{at, nowhere}
@@ -69,14 +68,14 @@ module _ (s i n : List ℕ) where
 module _ (w : ℕ) (a : List ℕ) (p : ℕ) (i r : List ℕ) (g : Choices → Given) where
   pub returns_no_room : length a < w → (q : Asked) → returned no_room i r a p ≡ choosing w a p i r g q
   unfolding returning unchosen
-  returns_no_room h (For ch) = rw (lt-ltb (length a) w h)
-  returns_no_room h NoSuchChoice = rw (lt-ltb (length a) w h)
+  returns_no_room h (Some ch) = rw (lt-ltb (length a) w h)
+  returns_no_room h None = rw (lt-ltb (length a) w h)
 
-  pub returns_unchosen : w ≤ length a → (q : Asked) → q ≡ NoSuchChoice → returned no_such_choice i r a p ≡ choosing w a p i r g q
+  pub returns_unchosen : w ≤ length a → (q : Asked) → q ≡ None → returned no_such_choice i r a p ≡ choosing w a p i r g q
   unfolding unchosen
   returns_unchosen h q e = rw (e, le-ltb (length a) w h)
 
-  pub returns_chosen : (q : Asked) (ch : Choices) → q ≡ For ch → (x : Returned) → x ≡ returning w a p i r (g ch) → x ≡ choosing w a p i r g q
+  pub returns_chosen : (q : Asked) (ch : Choices) → q ≡ Some ch → (x : Returned) → x ≡ returning w a p i r (g ch) → x ≡ choosing w a p i r g q
   returns_chosen q ch e x ex = ex ∙ ap (choosing w a p i r g) (sym e)
 
 -- an answer told of w numbers, once it is known what it tells; a refusal has its number and its place

@@ -4,7 +4,6 @@
 
 use choices::Choices;
 use layout::{FrameLayout, MultiframeLayout, ReadingLayout, UtteranceLayout};
-use reader::Answer;
 use refusals::Refusal;
 use settings::Settings;
 use std::io;
@@ -76,8 +75,8 @@ fn show_reading(rt: &impl Print, name: &str, octets: &[u8], choices: Choices) ->
         &mut index,
         &mut report,
     ) {
-        Answer::Read(s) => print_numbers(rt, name, 0, s.speech as u64),
-        Answer::Refused(r) => print_numbers(rt, name, r.number() as u64, r.place() as u64),
+        Ok(s) => print_numbers(rt, name, 0, s.speech as u64),
+        Err(r) => print_numbers(rt, name, r.number() as u64, r.place() as u64),
     }
 }
 

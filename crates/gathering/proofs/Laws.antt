@@ -1,7 +1,7 @@
 -- What a reader of 02 would ask of finding the multiframes.
 -- Assumes nothing.
 use Prim.Native.Nat.{ℕ, zero, suc, ◌+◌, ◌-◌, ◌*◌, ◌≤◌, ◌<◌}
-use Rattle.std.specs.Prelude.{◌≡◌, refl, ◌⊎◌, Bool, true, length}
+use Rattle.std.specs.Prelude.{◌≡◌, refl, ◌⊎◌, Bool, true, length, Err, Ok}
 use Rattle.std.proofs.Common.{sym, ap, ◌∙◌, inl, inr, arith, length-append}
 use mathlib.Core.List.{List, [], ◌∷◌, ◌++◌, append_assoc}
 use Rattle.std.proofs.Math.Decide.{dec_lt, ℕ_discrete}
@@ -11,8 +11,7 @@ use Rattle.bits.proofs.Laws.{length_octets}
 use Rattle.hunt.specs.Hunt.{multiframe_bits, searched, passes, hunted_from}
 use Rattle.hunt.specs.Laws.{Says}
 use Rattle.hunt.proofs.Laws.{says}
-use Rattle.hunt.specs.declared.Hunted.{Hunted}
-use Rattle.hunt.specs.declared.Hunted.TheVariants as H
+use Rattle.hunt.specs.Types.{Hunted}
 use Rattle.refusals.specs.declared.Hunt.TheVariants as HR
 use Rattle.gathering.specs.Laws.{Among, Overlapped, Ends, Apart}
 use Rattle.gathering.specs.Gathering.{Gathering, step, last, gathering, aligned, image_of}
@@ -21,30 +20,30 @@ module _ (l : List Bool) (least t : ℕ) (room : t + multiframe_bits ≤ searche
   met : (at : ℕ) (h : Hunted) (on : ℕ → Gathering) → at ≤ t → Says least l at h
       → ((p : ℕ) → p + multiframe_bits ≤ t → Ends (on p).ending → Among t (on p).places ⊎ Overlapped t (on p).places)
       → Ends (step h on).ending → Among t (step h on).places ⊎ Overlapped t (step h on).places
-  met at (H.Found p n) on le s next e =
-      elim (ℕ_discrete p t) [
+  met at (Ok w) on le s next e =
+      elim (ℕ_discrete w.place t) [
         | yes q ↦ inl (inl q)
         | no d ↦
-            elim (dec_lt t p) [
+            elim (dec_lt t w.place) [
               | yes y ↦ absurd (true_false (sym own ∙ s.3 t le y))
               | no y ↦
-                  elim (dec_lt t (p + multiframe_bits)) [
+                  elim (dec_lt t (w.place + multiframe_bits)) [
                     | yes z ↦ inr (inl (omega arith, z))
-                    | no z ↦ beyond (next p (omega arith) e)
+                    | no z ↦ beyond (next w.place (omega arith) e)
                   ]
             ]
       ]
     where
-      beyond : Among t (on p).places ⊎ Overlapped t (on p).places → Among t (p ∷ (on p).places) ⊎ Overlapped t (p ∷ (on p).places)
+      beyond : Among t (on w.place).places ⊎ Overlapped t (on w.place).places → Among t (w.place ∷ (on w.place).places) ⊎ Overlapped t (w.place ∷ (on w.place).places)
       beyond (inl a) = inl (inr a)
       beyond (inr a) = inr (inr a)
-  met at (H.Refused (HR.Nowhere f n)) on le s next e = absurd (true_false (sym own ∙ s.1 t le room))
-  met at (H.Refused (HR.MatchRange k)) on le s next e = absurd s
+  met at (Err (HR.Nowhere f n)) on le s next e = absurd (true_false (sym own ∙ s.1 t le room))
+  met at (Err (HR.MatchRange k)) on le s next e = absurd s
 
   met_last : (at : ℕ) (h : Hunted) → at ≤ t → Says least l at h → Ends (last h).ending → ⊥
-  met_last at (H.Found p n) le s e = e
-  met_last at (H.Refused (HR.Nowhere f n)) le s e = absurd (true_false (sym own ∙ s.1 t le room))
-  met_last at (H.Refused (HR.MatchRange k)) le s e = s
+  met_last at (Ok w) le s e = e
+  met_last at (Err (HR.Nowhere f n)) le s e = absurd (true_false (sym own ∙ s.1 t le room))
+  met_last at (Err (HR.MatchRange k)) le s e = s
 
   -- A WHOLE MULTIFRAME whose own place passes the test IS TAKEN, or an earlier one that was taken overlaps it
   pub taken : (k at : ℕ) → at ≤ t → Ends (gathering l least k at).ending → Among t (gathering l least k at).places ⊎ Overlapped t (gathering l least k at).places
@@ -57,12 +56,12 @@ module _ (l : List Bool) (least t : ℕ) (room : t + multiframe_bits ≤ searche
 -- ---- the multiframes taken stand apart, inside the bits searched, and pass the test
 module _ (l : List Bool) (least : ℕ) where
   apart_step : (at : ℕ) (h : Hunted) (on : ℕ → Gathering) → Says least l at h → ((p : ℕ) → Apart l least (p + multiframe_bits) (on p).places) → Apart l least at (step h on).places
-  apart_step at (H.Found p n) on s next = (s.0, s.1, s.2, next p)
-  apart_step at (H.Refused r) on s next = tt
+  apart_step at (Ok w) on s next = (s.0, s.1, s.2, next w.place)
+  apart_step at (Err r) on s next = tt
 
   apart_last : (at : ℕ) (h : Hunted) → Apart l least at (last h).places
-  apart_last at (H.Found p n) = tt
-  apart_last at (H.Refused r) = tt
+  apart_last at (Ok w) = tt
+  apart_last at (Err r) = tt
 
   pub apart : (k at : ℕ) → Apart l least at (gathering l least k at).places
   unfolding gathering
@@ -88,12 +87,12 @@ image_more s (q ∷ ps) p = ap (λ (x : List ℕ). aligned s q ++ x) (image_more
 -- ---- how many there are
 module _ (l : List Bool) (least : ℕ) where
   at_most_step : (k : ℕ) (h : Hunted) (on : ℕ → Gathering) → ((p : ℕ) → length (on p).places ≤ k) → length (step h on).places ≤ suc k
-  at_most_step k (H.Found p n) on next = let i = next p in omega arith
-  at_most_step k (H.Refused r) on next = omega arith
+  at_most_step k (Ok w) on next = let i = next w.place in omega arith
+  at_most_step k (Err r) on next = omega arith
 
   at_most_last : (h : Hunted) → length (last h).places ≤ 0
-  at_most_last (H.Found p n) = omega arith
-  at_most_last (H.Refused r) = omega arith
+  at_most_last (Ok w) = omega arith
+  at_most_last (Err r) = omega arith
 
   pub at_most : (k at : ℕ) → length (gathering l least k at).places ≤ k
   unfolding gathering

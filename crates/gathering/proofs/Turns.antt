@@ -1,5 +1,7 @@
 -- The turns of `gather`: what is still to be found, laid behind the multiframes already taken, makes the whole.
 -- Assumes nothing.
+use Rattle.gathering.specs.Types.{whole_of, too_many_at}
+use Rattle.std.specs.Prelude.{Err}
 use Prim.Native.Nat.{ℕ, zero, suc, ◌+◌, ◌-◌, ◌*◌, ◌≤◌, ◌<◌}
 use mathlib.Core.Path.{◌≡◌, refl, sym, ap, ap₂, ◌∙◌, subst}
 use mathlib.Core.List.{List, [], ◌∷◌, ◌++◌, append_assoc, append-nil}
@@ -13,28 +15,26 @@ use Rattle.hunt.specs.Hunt.{multiframe_bits, searched, hunted_from}
 use Rattle.refusals.specs.Refusals.{hunt_tested}
 use Rattle.hunt.specs.Laws.{Says}
 use Rattle.hunt.proofs.Laws.{says}
-use Rattle.hunt.specs.declared.Hunted.{Hunted}
-use Rattle.hunt.specs.declared.Hunted.TheVariants as H
+use Rattle.hunt.specs.Types.{Hunted, found_at}
 use Rattle.refusals.specs.declared.Hunt.{Hunt as Refusal}
 use Rattle.refusals.specs.declared.Hunt.TheVariants as HR
 use Rattle.gathering.specs.Gathering.{Ending, whole, too_many, Gathering, ended, prepend, step, last, gathering, aligned, image_of, answered_by, answered, LaidBy, Laid}
 use Rattle.gathering.proofs.Laws.{length_aligned, image_more}
-use Rattle.gathering.specs.declared.Gathered.TheVariants as G
 
 -- ---- the recursion, by what the hunt answers
 module _ (l : List Bool) (least at : ℕ) where
-  gathering_found : (k p n : ℕ) → H.Found p n ≡ hunted_from l at least → 0 < k → gathering l least k at ≡ prepend p n (gathering l least (k - 1) (p + multiframe_bits))
+  gathering_found : (k p n : ℕ) → found_at p n ≡ hunted_from l at least → 0 < k → gathering l least k at ≡ prepend p n (gathering l least (k - 1) (p + multiframe_bits))
   unfolding gathering
   gathering_found zero p n e h = absurd (omega arith)
   gathering_found (suc k) p n e h =
       let z : k ≡ suc k - 1 = omega arith in
       ap (λ (x : Hunted). step x (λ p. gathering l least k (p + multiframe_bits))) (sym e) ∙ ap (λ (j : ℕ). prepend p n (gathering l least j (p + multiframe_bits))) z
 
-  gathering_full : (p n : ℕ) → H.Found p n ≡ hunted_from l at least → gathering l least 0 at ≡ ended (too_many p) n
+  gathering_full : (p n : ℕ) → found_at p n ≡ hunted_from l at least → gathering l least 0 at ≡ ended (too_many p) n
   unfolding gathering
   gathering_full p n e = ap last (sym e)
 
-  gathering_done : (k : ℕ) (r : Refusal) → H.Refused r ≡ hunted_from l at least → gathering l least k at ≡ ended whole (hunt_tested r)
+  gathering_done : (k : ℕ) (r : Refusal) → Err r ≡ hunted_from l at least → gathering l least k at ≡ ended whole (hunt_tested r)
   unfolding gathering
   gathering_done zero r e = ap last (sym e)
   gathering_done (suc k) r e = ap (λ (x : Hunted). step x (λ p. gathering l least k (p + multiframe_bits))) (sym e)
@@ -70,8 +70,8 @@ module _ (s : List ℕ) (from least : ℕ) where
 
   module _ (image : List ℕ) (m at tested : ℕ) (g : Going image m at tested) where
     -- a multiframe more
-    module _ (p n : ℕ) (e : H.Found p n ≡ hunted_from (bits s) at least) where
-      found_says : Says least (bits s) at (H.Found p n)
+    module _ (p n : ℕ) (e : found_at p n ≡ hunted_from (bits s) at least) where
+      found_says : Says least (bits s) at (found_at p n)
       found_says = subst (Says least (bits s) at) (sym e) (says least (bits s) at)
 
       pub in_bits : p + multiframe_bits ≤ searched (bits s)
@@ -106,7 +106,7 @@ module _ (s : List ℕ) (from least : ℕ) where
           }
 
       -- one too many
-      pub too_many_lem : (out : List ℕ) → m ≡ most_multiframes → (G.TooMany p ≡ answered all) × Laid s all out
+      pub too_many_lem : (out : List ℕ) → m ≡ most_multiframes → (too_many_at p ≡ answered all) × Laid s all out
       too_many_lem out z =
           let k : most_multiframes - m ≡ 0 = omega arith in
           let w : all.ending ≡ too_many p =
@@ -114,7 +114,7 @@ module _ (s : List ℕ) (from least : ℕ) where
           (sym (ap (answered_by (length all.places) all.tested) w), subst (λ (x : Ending). LaidBy s all.places x out) (sym w) tt)
 
     -- no more
-    module _ (r : Refusal) (e : H.Refused r ≡ hunted_from (bits s) at least) where
+    module _ (r : Refusal) (e : Err r ≡ hunted_from (bits s) at least) where
       nothing_left : left m at ≡ ended whole (hunt_tested r)
       nothing_left = gathering_done (bits s) least at (most_multiframes - m) r e
 
@@ -127,15 +127,15 @@ module _ (s : List ℕ) (from least : ℕ) where
       pub few_tested_last : tested + hunt_tested r ≤ searched (bits s) + 1
       few_tested_last = by r (subst (Says least (bits s) at) (sym e) (says least (bits s) at))
         where
-          by : (q : Refusal) → Says least (bits s) at (H.Refused q) → tested + hunt_tested q ≤ searched (bits s) + 1
+          by : (q : Refusal) → Says least (bits s) at (Err q) → tested + hunt_tested q ≤ searched (bits s) + 1
           by (HR.MatchRange t) h = absurd h
           by (HR.Nowhere f n) h = omega (arith, h.2, g.spent, g.countable)
 
-      pub finished : (n : ℕ) → n ≡ hunt_tested r → (G.Whole m (tested + n) ≡ answered all) × Laid s all image
+      pub finished : (n : ℕ) → n ≡ hunt_tested r → (whole_of m (tested + n) ≡ answered all) × Laid s all image
       finished n en =
           let c : length all.places ≡ m = ap length all_places ∙ g.count in
           let t : all.tested ≡ tested + n = g.total ∙ ap (λ (v : Gathering). tested + v.tested) nothing_left ∙ ap (λ (k : ℕ). tested + k) (sym en) in (
-            sym (ap (answered_by (length all.places) all.tested) all_ended ∙ ap₂ G.Whole c t),
+            sym (ap (answered_by (length all.places) all.tested) all_ended ∙ ap₂ whole_of c t),
             subst (λ (x : Ending). LaidBy s all.places x image) (sym all_ended)
                 (ap (λ (k : ℕ). take (multiframe_octets * k) image) c ∙ g.front ∙ ap (image_of s) (sym all_places)),
           )

@@ -1,15 +1,13 @@
 -- The multiframes found (02, C-13): one after another, the bits outside them, and what they are, put together on octets.
 -- Assumes nothing.
-use Rattle.std.specs.Prelude.{ℕ, zero, suc, ◌+◌, ◌-◌, ◌*◌, ◌≡◌, List, [], ◌∷◌, ◌++◌, Bool, length, take}
+use Rattle.std.specs.Prelude.{ℕ, zero, suc, ◌+◌, ◌-◌, ◌*◌, ◌≡◌, List, [], ◌∷◌, ◌++◌, Bool, length, take, Err, Ok}
 use Rattle.lists.specs.Parts.{part}
 use Rattle.layout.specs.Layout.{sync_octets, multiframe_octets, sync_first, sync_second}
 use Rattle.bits.specs.Bits.{bits, octets}
 use Rattle.hunt.specs.Hunt.{sync_bits, multiframe_bits, searched, hunted_from}
-use Rattle.hunt.specs.declared.Hunted.{Hunted}
-use Rattle.hunt.specs.declared.Hunted.TheVariants as H
+use Rattle.hunt.specs.Types.{Hunted}
 use Rattle.refusals.specs.Refusals.{hunt_tested}
-use Rattle.gathering.specs.declared.Gathered.{Gathered}
-use Rattle.gathering.specs.declared.Gathered.TheVariants as G
+use Rattle.gathering.specs.Types.{Gathered, whole_of, too_many_at}
 
 -- ---- the multiframes found
 
@@ -32,12 +30,12 @@ prepend p n w = record { places = p ∷ w.places; ending = w.ending; tested = n 
 
 -- how it goes on after a hunt: at the multiframe found, if one more may be taken
 abbrev pub step : Hunted → (ℕ → Gathering) → Gathering
-step (H.Found p n) on = prepend p n (on p)
-step (H.Refused r) on = ended whole (hunt_tested r)
+step (Ok w) on = prepend w.place w.tested (on w.place)
+step (Err r) on = ended whole (hunt_tested r)
 
 abbrev pub last : Hunted → Gathering
-last (H.Found p n) = ended (too_many p) n
-last (H.Refused r) = ended whole (hunt_tested r)
+last (Ok w) = ended (too_many w.place) w.tested
+last (Err r) = ended whole (hunt_tested r)
 
 -- from bit `at` on, where k multiframes more may be taken: behind a multiframe the next place is tested, and from there the hunt goes on
 unfoldable pub gathering : List Bool → ℕ → ℕ → ℕ → Gathering
@@ -60,8 +58,8 @@ image_of s (p ∷ ps) = aligned s p ++ image_of s ps
 
 -- ---- the code's steps
 abbrev pub answered_by : ℕ → ℕ → Ending → Gathered
-answered_by m n whole = G.Whole m n
-answered_by m n (too_many p) = G.TooMany p
+answered_by m n whole = whole_of m n
+answered_by m n (too_many p) = too_many_at p
 
 abbrev pub answered : Gathering → Gathered
 answered w = answered_by (length w.places) w.tested w.ending

@@ -1,3 +1,4 @@
+pub mod Types
 pub mod Gathering
 pub mod Laws
 pub mod Says

@@ -8,7 +8,7 @@ ghost use Rattle.bits.specs.Bits.{bits};
 ghost use Rattle.hunt.specs.Hunt.{sync_bits, multiframe_bits, searched};
 ghost use Rattle.gathering.specs.Gathering.{aligned, gathering, answered, Laid, outside_of};
 
-use hunt::Hunted;
+use hunt::Found;
 use layout::{Multiframe, MultiframeLayout, UtteranceLayout};
 
 // A sync and a multiframe in bits, and what stands behind the sync in octets.
@@ -18,11 +18,17 @@ const BITS: usize = 8 * MultiframeLayout::OCTETS;
 
 const BEHIND: usize = MultiframeLayout::OCTETS - MultiframeLayout::SYNC;
 
-// How finding the multiframes ended.
+// How many multiframes were found, to the end of the bits, and how many places were tested.
 #[derive(Clone, Copy)]
-pub enum Gathered {
-    Whole { count: usize, tested: usize },
-    TooMany { place: usize },
+pub struct Whole {
+    pub count: usize,
+    pub tested: usize,
+}
+
+// A match after as many multiframes as an utterance may have, and its bit.
+#[derive(Clone, Copy)]
+pub struct TooMany {
+    pub place: usize,
 }
 
 // The multiframe found at a place goes to the image as its k-th, with a whole sync.
@@ -44,7 +50,7 @@ fn put_found(octets: &[u8], place: usize, image: &mut [u8], k: Multiframe)
 }
 
 // gather finds one multiframe after another and puts them into the image.
-pub fn gather(octets: &[u8], from: usize, least: usize, image: &mut [u8]) -> Gathered
+pub fn gather(octets: &[u8], from: usize, least: usize, image: &mut [u8]) -> Result<Whole, TooMany>
     requires { (least ≤ sync_bits) × (length image.old ≡ multiframe_octets * most_multiframes) }
     ensures answer { result ≡ answered (gathering (bits octets.now) least most_multiframes from) }
     ensures image { Laid octets.now (gathering (bits octets.now) least most_multiframes from) image.new }
@@ -54,23 +60,25 @@ pub fn gather(octets: &[u8], from: usize, least: usize, image: &mut [u8]) -> Gat
     let mut tested = 0;
     loop {
         match hunt::seek(octets, at, least) {
-            Hunted::Found {
-                place,
-                tested: more,
-            } => {
+            Ok(
+                Found {
+                    place,
+                    tested: more,
+                },
+            ) => {
                 if m == UtteranceLayout::MULTIFRAMES {
-                    return Gathered::TooMany { place };
+                    return Err(TooMany { place });
                 }
                 put_found(octets, place, image, Multiframe(m));
                 m += 1;
                 at = place + BITS;
                 tested += more;
             }
-            Hunted::Refused(r) => {
-                return Gathered::Whole {
+            Err(r) => {
+                return Ok(Whole {
                     count: m,
                     tested: tested + r.tested(),
-                }
+                })
             }
         }
     }

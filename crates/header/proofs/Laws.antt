@@ -1,7 +1,7 @@
 -- The reading is the one answer that 01's sentence admits; up to two flips are mended and counted, three are always lost. Proved once of a
 -- reading that mends at most `most` flips, where that is no more than two; of 01's reading each law is the instance.
 -- Assumes nothing.
-use Rattle.std.specs.Prelude.{◌≡◌, Bool, true, false}
+use Rattle.std.specs.Prelude.{◌≡◌, Bool, true, false, Some, None}
 use Rattle.std.proofs.Math.Path.{refl, subst}
 use Rattle.std.proofs.Common.{sym, ap, ◌∙◌, mod-lt, pow_pos}
 use Prim.Native.Nat.{ℕ, ◌+◌, ◌%◌, ◌^◌, ◌≤◌, ◌<◌}
@@ -18,23 +18,22 @@ use Rattle.header_code.specs.Code.Distance.{codeword_low, far_from_one, nearest,
 use Rattle.header.specs.Reading.{mendable, decoded_as, ReadUpTo, ReadAs, within, reading_up_to, reading}
 use Rattle.header.specs.Reading.Laws.{Among, among, all_messages, is_upto}
 use Rattle.header.specs.declared.Decoded.{Decoded}
-use Rattle.header.specs.declared.Header.{Header}
-use Rattle.header.specs.declared.Header.TheVariants.{Codeword, Lost}
+use Rattle.header.specs.Types.{Header}
 
 -- ---- a header that is read, and one that is lost
 is_read : Header → Bool
-is_read (Codeword d) = true
-is_read Lost = false
+is_read (Some d) = true
+is_read None = false
 
-pub lost_not_read : (d : Decoded) → Lost ≡ Codeword d → ⊥
+pub lost_not_read : (d : Decoded) → None ≡ Some d → ⊥
 unfolding is_read
 lost_not_read d e = true_false (sym (ap is_read e))
 
 message_in : Header → ℕ
-message_in (Codeword d) = d.message
-message_in Lost = 0
+message_in (Some d) = d.message
+message_in None = 0
 
-pub same_message : (a b : Decoded) → Codeword a ≡ Codeword b → a.message ≡ b.message
+pub same_message : (a b : Decoded) → Some a ≡ Some b → a.message ≡ b.message
 unfolding message_in
 same_message a b e = ap message_in e
 
@@ -46,8 +45,8 @@ flips_counted w d e = ap (λ (x : Decoded). x.flips) e
 module _ (most w : ℕ) where
   as_read : (h : Header) → Among most w (2 ^ 16) h → ReadUpTo most w h
   unfolding Among
-  as_read (Codeword d) a = a
-  as_read Lost a = a
+  as_read (Some d) a = a
+  as_read None a = a
 
   -- READS: the reading is what 01's sentence says of that many flips
   pub reads_upto : ReadUpTo most w (reading_up_to most w)
@@ -56,25 +55,25 @@ module _ (most w : ℕ) where
   module _ (few : most ≤ mendable) where
     -- ONCE: a word is read in one way
     pub once_upto : (r s : Header) → ReadUpTo most w r → ReadUpTo most w s → r ≡ s
-    once_upto (Codeword a) (Codeword b) p q =
+    once_upto (Some a) (Some b) p q =
         let f = flips_counted w a p.1 in
         let g = flips_counted w b q.1 in
         let e : a.message ≡ b.message = nearest w a.message b.message p.0 q.0 (omega (arith, f, p.2)) (omega (arith, g, q.2)) in
-        ap Codeword (p.1 ∙ ap (decoded_as w) e ∙ sym q.1)
-    once_upto (Codeword a) Lost p q = absurd (omega (arith, flips_counted w a p.1, p.2, q a.message p.0))
-    once_upto Lost (Codeword b) p q = absurd (omega (arith, flips_counted w b q.1, q.2, p b.message q.0))
-    once_upto Lost Lost p q = refl
+        ap Some (p.1 ∙ ap (decoded_as w) e ∙ sym q.1)
+    once_upto (Some a) None p q = absurd (omega (arith, flips_counted w a p.1, p.2, q a.message p.0))
+    once_upto None (Some b) p q = absurd (omega (arith, flips_counted w b q.1, q.2, p b.message q.0))
+    once_upto None None p q = refl
 
     pub only_upto : (r : Header) → ReadUpTo most w r → r ≡ reading_up_to most w
     only_upto r p = once_upto r (reading_up_to most w) p reads_upto
 
     -- within so many bits of a codeword, the word is read as it
-    pub near_upto : (m : ℕ) → m < 2 ^ 16 → flips_to w m ≤ most → reading_up_to most w ≡ Codeword (decoded_as w m)
-    near_upto m h l = sym (only_upto (Codeword (decoded_as w m)) (h, refl, l))
+    pub near_upto : (m : ℕ) → m < 2 ^ 16 → flips_to w m ≤ most → reading_up_to most w ≡ Some (decoded_as w m)
+    near_upto m h l = sym (only_upto (Some (decoded_as w m)) (h, refl, l))
 
     -- farther from a codeword, but not so far that another may be near, the word is lost: two codewords are six apart
-    pub beyond_upto : (m : ℕ) → m < 2 ^ 16 → most < flips_to w m → flips_to w m + most < 6 → reading_up_to most w ≡ Lost
-    beyond_upto m hm more less = sym (only_upto Lost far)
+    pub beyond_upto : (m : ℕ) → m < 2 ^ 16 → most < flips_to w m → flips_to w m + most < 6 → reading_up_to most w ≡ None
+    beyond_upto m hm more less = sym (only_upto None far)
       where
         far : (k : ℕ) → k < 2 ^ 16 → most < flips_to w k
         far k hk =
@@ -84,11 +83,11 @@ module _ (most w : ℕ) where
             ]
 
 -- with no flip mended a word is read exactly if it is a codeword, and then as itself
-pub upto_zero : (w : ℕ) → reading_up_to 0 w ≡ when (is_codeword w) (Codeword (decoded_as w (w % 2 ^ 16))) Lost
+pub upto_zero : (w : ℕ) → reading_up_to 0 w ≡ when (is_codeword w) (Some (decoded_as w (w % 2 ^ 16))) None
 upto_zero w =
     by_test (λ (h : Header). reading_up_to 0 w ≡ h) (is_codeword w)
     (λ t. near_upto 0 w (omega arith) m small (subst (λ (n : ℕ). n ≤ 0) (sym (itself_near w m (eqb-true (codeword m) w t))) (omega arith)))
-    (λ t. sym (only_upto 0 w (omega arith) Lost (far (eqb-false (codeword m) w t))))
+    (λ t. sym (only_upto 0 w (omega arith) None (far (eqb-false (codeword m) w t))))
   where
     m : ℕ
     m = w % 2 ^ 16
@@ -119,11 +118,11 @@ module _ (w : ℕ) where
   reading_only r p = only_upto mendable w (omega arith) r p ∙ sym (is_upto w)
 
   -- within two bits of a codeword, the word is read as it, with that distance
-  pub near : (m : ℕ) → m < 2 ^ 16 → flips_to w m ≤ 2 → reading w ≡ Codeword (decoded_as w m)
+  pub near : (m : ℕ) → m < 2 ^ 16 → flips_to w m ≤ 2 → reading w ≡ Some (decoded_as w m)
   near m h l = is_upto w ∙ near_upto mendable w (omega arith) m h l
 
   -- three bits from a codeword, the word is near no other
-  pub lost_at_three : (m : ℕ) → m < 2 ^ 16 → flips_to w m ≡ 3 → reading w ≡ Lost
+  pub lost_at_three : (m : ℕ) → m < 2 ^ 16 → flips_to w m ≡ 3 → reading w ≡ None
   lost_at_three m h e = is_upto w ∙ beyond_upto mendable w (omega arith) m h (omega arith) (omega arith)
 
 -- ---- the same over the pattern of the flipped bits
@@ -134,11 +133,11 @@ flips_of m e =
 
 -- MENDED: a codeword with up to two flips is read as that codeword, with their number
 pub mended : (m e : ℕ) → m < 2 ^ 16 → ones e ≤ 2
-    → (reading (bit_xor (codeword m) e) ≡ Codeword (decoded_as (bit_xor (codeword m) e) m)) × ((decoded_as (bit_xor (codeword m) e) m).flips ≡ ones e)
+    → (reading (bit_xor (codeword m) e) ≡ Some (decoded_as (bit_xor (codeword m) e) m)) × ((decoded_as (bit_xor (codeword m) e) m).flips ≡ ones e)
 mended m e h l =
     let f = flips_of m e in
     (near (bit_xor (codeword m) e) m h (omega arith), f)
 
 -- THREE: three flips of a codeword are always lost
-pub three_lost : (m e : ℕ) → m < 2 ^ 16 → ones e ≡ 3 → reading (bit_xor (codeword m) e) ≡ Lost
+pub three_lost : (m e : ℕ) → m < 2 ^ 16 → ones e ≡ 3 → reading (bit_xor (codeword m) e) ≡ None
 three_lost m e h l = lost_at_three (bit_xor (codeword m) e) m h (flips_of m e ∙ l)

@@ -1,6 +1,6 @@
 -- What the search over none, one and two flipped places shows: a pattern whose syndrome is the word's mends it, and where no pattern of at
 -- most two bits has it the word is lost. Assumes nothing.
-use Rattle.std.specs.Prelude.{◌≡◌, refl, ℕ, zero, suc, ◌+◌, ◌*◌, ◌/◌, ◌%◌, ◌^◌, ◌≤◌, ◌<◌}
+use Rattle.std.specs.Prelude.{◌≡◌, refl, ℕ, zero, suc, ◌+◌, ◌*◌, ◌/◌, ◌%◌, ◌^◌, ◌≤◌, ◌<◌, Some, None}
 use Rattle.std.proofs.Common.{sym, ap, ap₂, ◌∙◌, subst, one-mul, add-zero, pow-suc, arith, lit<, pow_pos}
 use Rattle.std.proofs.Math.Decide.{dec_le}
 use Rattle.std.proofs.Math.Arith.{lt-one}
@@ -15,7 +15,6 @@ use Rattle.header_code.specs.Code.Syndrome.{syndrome_xor, syndrome_zero, syndrom
 use Rattle.header.specs.Reading.{decoded_as, reading}
 use Rattle.header.proofs.Laws.{reading_only}
 use Rattle.header.specs.declared.Decoded.{Decoded}
-use Rattle.header.specs.declared.Header.TheVariants.{Codeword, Lost}
 use Rattle.header.specs.Reading.Search.{Misses, Fit}
 
 -- ---- the words with at most two ones are none, one flip, or two
@@ -74,9 +73,9 @@ between_syndrome w m h =
     syndrome_xor w (codeword m) ∙ ap (bit_xor (syndrome w)) (syndrome_codeword m h) ∙ xor_zero_r (syndrome w)
 
 pub lost : (w : ℕ) → w < 2 ^ 32 → Misses w 0 → ((i : ℕ) → i < 32 → Misses w (2 ^ i))
-    → ((i j : ℕ) → i < j → j < 32 → Misses w (bit_xor (2 ^ i) (2 ^ j))) → Lost ≡ reading w
+    → ((i j : ℕ) → i < j → j < 32 → Misses w (bit_xor (2 ^ i) (2 ^ j))) → None ≡ reading w
 unfolding flips_to
-lost w h z s d = reading_only w Lost far
+lost w h z s d = reading_only w None far
   where
     far : (m : ℕ) → m < 2 ^ 16 → 2 < flips_to w m
     far m hm =
@@ -88,9 +87,9 @@ lost w h z s d = reading_only w Lost far
         ]
 
 -- what the code puts together from the word and the pattern
-pub found : (w e : ℕ) (d : Decoded) → w < 2 ^ 32 → Fit w e → d.message ≡ bit_xor w e % 2 ^ 16 → d.flips ≡ ones (bit_xor w (bit_xor w e)) → Codeword d ≡ reading w
+pub found : (w e : ℕ) (d : Decoded) → w < 2 ^ 32 → Fit w e → d.message ≡ bit_xor w e % 2 ^ 16 → d.flips ≡ ones (bit_xor w (bit_xor w e)) → Some d ≡ reading w
 unfolding flips_to
-found w e d h f em ef = reading_only w (Codeword d) (omega arith, taken, omega (arith, ef, ap ones (back w e), f.few))
+found w e d h f em ef = reading_only w (Some d) (omega arith, taken, omega (arith, ef, ap ones (back w e), f.few))
   where
     none : syndrome (bit_xor w e) ≡ 0
     none = syndrome_xor w e ∙ ap (bit_xor (syndrome w)) f.fits ∙ xor_self (syndrome w)
@@ -127,7 +126,7 @@ fit_two w e x y i j a b s hi hj p q r es ea eb t =
     }
 
 -- no flip at all: a codeword is read as it stands
-pub clean : (w s : ℕ) (d : Decoded) → w < 2 ^ 32 → s ≡ syndrome w → s ≡ 0 → d.message ≡ w % 2 ^ 16 → d.flips ≡ 0 → Codeword d ≡ reading w
+pub clean : (w s : ℕ) (d : Decoded) → w < 2 ^ 32 → s ≡ syndrome w → s ≡ 0 → d.message ≡ w % 2 ^ 16 → d.flips ≡ 0 → Some d ≡ reading w
 clean w s d h es z em ef =
     let none : ones (bit_xor w (bit_xor w 0)) ≡ 0 = ap ones (back w 0) ∙ omega (arith, ones-le 0 0 (lit< tt)) in
     found w 0 d h (fit_none w 0 s refl es z) (em ∙ ap (λ (x : ℕ). x % 2 ^ 16) (sym (xor_zero_r w))) (ef ∙ sym none)

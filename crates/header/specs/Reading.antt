@@ -1,12 +1,11 @@
 -- What a received header is read as (01, "Headers"; where this departs from ES 201 108, which claims that three flips can be mended: the
 -- printed code has words six bits apart, so two can be mended and three cannot).
 -- Assumes nothing.
-use Rattle.std.specs.Prelude.{◌≡◌, ℕ, zero, suc, ◌^◌, ◌≤◌, ◌<◌, leb}
+use Rattle.std.specs.Prelude.{◌≡◌, ℕ, zero, suc, ◌^◌, ◌≤◌, ◌<◌, leb, Some, None}
 use Rattle.lists.specs.Tests.{when}
 use Rattle.header_code.specs.Code.{flips_to}
 use Rattle.header.specs.declared.Decoded.{Decoded}
-use Rattle.header.specs.declared.Header.{Header}
-use Rattle.header.specs.declared.Header.TheVariants.{Codeword, Lost}
+use Rattle.header.specs.Types.{Header}
 pub mod Laws
 pub mod Search
 pub mod Examples
@@ -21,8 +20,8 @@ decoded_as w m = record { message = m; flips = flips_to w m }
 
 -- as the codeword that differs from the word in at most `most` bits, and lost exactly if no codeword does
 abbrev pub ReadUpTo : ℕ → ℕ → Header → Type 0
-ReadUpTo most w (Codeword d) = (d.message < 2 ^ 16) × (d ≡ decoded_as w d.message) × (d.flips ≤ most)
-ReadUpTo most w Lost = (m : ℕ) → m < 2 ^ 16 → most < flips_to w m
+ReadUpTo most w (Some d) = (d.message < 2 ^ 16) × (d ≡ decoded_as w d.message) × (d.flips ≤ most)
+ReadUpTo most w None = (m : ℕ) → m < 2 ^ 16 → most < flips_to w m
 
 -- "as the codeword that differs from it in at most two bits, and lost exactly if no codeword does"
 abbrev pub ReadAs : ℕ → Header → Type 0
@@ -30,8 +29,8 @@ ReadAs = ReadUpTo mendable
 
 -- a message below n whose codeword is that near to the word
 pub within : ℕ → ℕ → ℕ → Header
-within most w zero = Lost
-within most w (suc m) = when (leb (flips_to w m) most) (Codeword (decoded_as w m)) (within most w m)
+within most w zero = None
+within most w (suc m) = when (leb (flips_to w m) most) (Some (decoded_as w m)) (within most w m)
 
 -- the reading of a word that mends at most `most` flips: among all messages
 pub reading_up_to : ℕ → ℕ → Header

@@ -13,13 +13,6 @@ pub struct Decoded {
     pub flips: u32,
 }
 
-// What a received header is read as: a codeword, or lost.
-#[derive(Clone, Copy)]
-pub enum Header {
-    Codeword(Decoded),
-    Lost,
-}
-
 // The sixteen words of matrix 6.2: P1 to P15 of each message bit alone, P1 the least significant. It is the only table.
 const WORDS: [u32; 16] = [
     20737, 29443, 14087, 28174, 3357, 6714, 13428, 26856, 209, 418, 836, 1672, 3344, 6688, 13376,
@@ -76,15 +69,16 @@ fn bit(place: u32) -> u32
     1u32 << place
 }
 
-// The codeword that differs from the word in at most two bits, with their number, or lost exactly if no codeword does. No flip is tried first.
-pub fn read(word: u32) -> Header
+// The codeword that differs from the word in at most two bits, with their number, or none, lost, exactly if no codeword does. No flip is tried
+// first.
+pub fn read(word: u32) -> Option<Decoded>
     ensures { result ≡ reading word }
 {
     let wrong = syndrome_of(word);
     if wrong != 0 {
         return read_damaged(word, wrong);
     }
-    Header::Codeword(Decoded {
+    Some(Decoded {
         message: (word & 0xffff) as u16,
         flips: 0,
     })
@@ -92,7 +86,7 @@ pub fn read(word: u32) -> Header
 
 // The reading of a word that is no codeword. Tried are each place from 0 up, then two places, the lower first and then the higher; the first
 // pattern that fits ends the search. It stands apart so that a clean header, the common case, is read without it.
-fn read_damaged(word: u32, wrong: u32) -> Header
+fn read_damaged(word: u32, wrong: u32) -> Option<Decoded>
     requires { (wrong ≡ syndrome word) × (wrong ≢ 0) }
     ensures { result ≡ reading word }
 {
@@ -111,10 +105,10 @@ fn read_damaged(word: u32, wrong: u32) -> Header
                 }
             }
         }
-        return Header::Lost;
+        return None;
     };
     let codeword = word ^ pattern;
-    Header::Codeword(Decoded {
+    Some(Decoded {
         message: (codeword & 0xffff) as u16,
         flips: u32::count_ones(word ^ codeword),
     })

@@ -6,7 +6,7 @@ ghost use Rattle.header_notes.specs.HeaderNotes.{header_note};
 ghost use Rattle.header_readings.specs.Stored.{opened, Mended};
 ghost use Rattle.header_notes.specs.Steps.{step_note, common_note};
 
-use header::Header;
+use header::Decoded;
 use layout::Multiframe;
 use message::Fields;
 
@@ -42,11 +42,11 @@ fn common_note(found: u16, common: u16) -> u8
 }
 
 // The note of a reading of multiframe k's header. It asks for a reading as header::read gives it.
-fn note_of(h: Header, k: Multiframe, common: u16) -> u8
+fn note_of(h: Option<Decoded>, k: Multiframe, common: u16) -> u8
     requires { Mended h × (k.0 < 65536) }
     ensures { result ≡ header_note common k.0 h }
 {
-    let Header::Codeword(d) = h else {
+    let Some(d) = h else {
         return LOST;
     };
     let step = step_note(Fields::from(d.message).count, k);

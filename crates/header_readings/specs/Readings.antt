@@ -4,7 +4,7 @@ use Rattle.std.specs.Prelude.{ℕ, List, length}
 use Rattle.lists.specs.Rows.{each}
 use Rattle.carrier.specs.Carrier.{word_at, in_places}
 use Rattle.header.specs.Reading.{reading}
-use Rattle.header.specs.declared.Header.{Header}
+use Rattle.header.specs.Types.{Header}
 
 -- every header's reading, in order
 unfoldable pub readings : List ℕ → List ℕ → List Header

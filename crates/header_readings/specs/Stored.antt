@@ -1,40 +1,39 @@
 -- How the code keeps the readings of headers in an array of numbers. Nothing that 01 says stands here.
 -- Assumes nothing.
-use Rattle.std.specs.Prelude.{ℕ, ◌+◌, ◌*◌, ◌/◌, ◌%◌, ◌^◌, ◌≤◌, ◌<◌, ◌≡◌, refl, List, eqb, length, get_or}
+use Rattle.std.specs.Prelude.{ℕ, ◌+◌, ◌*◌, ◌/◌, ◌%◌, ◌^◌, ◌≤◌, ◌<◌, ◌≡◌, refl, List, eqb, length, get_or, Some, None}
 use Rattle.std.proofs.Common.{ap, ◌∙◌, arith, ne_eqb}
 use Rattle.lists.specs.Tests.{when}
 use Rattle.carrier.specs.Carrier.{word_at, in_places}
 use Rattle.lists.specs.Rows.{each, length_each, each_at, same_each}
 use Rattle.header.specs.Reading.{mendable, ReadAs, reading}
 use Rattle.header.proofs.Laws.{reads}
-use Rattle.header.specs.declared.Header.{Header}
-use Rattle.header.specs.declared.Header.TheVariants.{Codeword, Lost}
+use Rattle.header.specs.Types.{Header}
 use Rattle.header_readings.specs.Readings.{readings}
 
 -- ---- a reading as one number: the message, and above it the flips, of which a lost header has three
 abbrev pub packed : Header → ℕ
-packed Lost = 3 * 2 ^ 16
-packed (Codeword d) = d.flips * 2 ^ 16 + d.message
+packed None = 3 * 2 ^ 16
+packed (Some d) = d.flips * 2 ^ 16 + d.message
 
 unfoldable pub opened : ℕ → Header
-opened x = when (eqb (x / 2 ^ 16) 3) Lost (Codeword (record { message = x % 2 ^ 16; flips = x / 2 ^ 16 }))
+opened x = when (eqb (x / 2 ^ 16) 3) None (Some (record { message = x % 2 ^ 16; flips = x / 2 ^ 16 }))
 
 -- what every reading keeps to
 abbrev pub Mended : Header → Type 0
-Mended Lost = Unit
-Mended (Codeword d) = (d.message < 2 ^ 16) × (d.flips ≤ mendable)
+Mended None = Unit
+Mended (Some d) = (d.message < 2 ^ 16) × (d.flips ≤ mendable)
 
 pub mended : (w : ℕ) → Mended (reading w)
 mended w = from (reading w) (reads w)
   where
     from : (h : Header) → ReadAs w h → Mended h
-    from Lost r = tt
-    from (Codeword d) r = (r.0, r.2)
+    from None r = tt
+    from (Some d) r = (r.0, r.2)
 
 pub opened_packed : (h : Header) → Mended h → opened (packed h) ≡ h
 unfolding opened
-opened_packed Lost h = refl
-opened_packed (Codeword d) h =
+opened_packed None h = refl
+opened_packed (Some d) h =
     let l = h.0 in
     let n = h.1 in
     let f : (d.flips * 2 ^ 16 + d.message) / 2 ^ 16 ≡ d.flips = omega arith in

@@ -9,32 +9,32 @@ ghost use Rattle.carrier.specs.Carrier.{header_word};
 ghost use Rattle.header.specs.Reading.{reading};
 ghost use Rattle.header_readings.specs.Stored.{packed, opened, Mended, pack_all};
 
-use header::{Decoded, Header};
+use header::Decoded;
 
 // In an array a reading is one number: the message, and above it the flips, of which a lost header has three.
 const ABOVE: u32 = 0x10000;
 
 const LOST_FLIPS: u32 = 3;
 
-fn pack_reading(h: Header) -> u32
+fn pack_reading(h: Option<Decoded>) -> u32
     requires { Mended h }
     ensures { result ≡ packed h }
 {
-    let Header::Codeword(d) = h else {
+    let Some(d) = h else {
         return LOST_FLIPS * ABOVE;
     };
     d.flips * ABOVE + d.message as u32
 }
 
 // open_reading gives the reading that a number stands for.
-pub fn open_reading(x: u32) -> Header
+pub fn open_reading(x: u32) -> Option<Decoded>
     ensures { result ≡ opened x }
 {
     let flips = x / ABOVE;
     if flips == LOST_FLIPS {
-        return Header::Lost;
+        return None;
     }
-    Header::Codeword(Decoded {
+    Some(Decoded {
         message: (x % ABOVE) as u16,
         flips,
     })

@@ -2,7 +2,7 @@
 -- many places are tested.
 -- Assumes nothing.
 use Prim.Native.Nat.{ℕ, zero, suc, ◌+◌, ◌-◌, ◌*◌, ◌^◌, ◌≤◌, ◌<◌}
-use Rattle.std.specs.Prelude.{◌≡◌, Bool, List, ◌↔◌, length, ltb, leb}
+use Rattle.std.specs.Prelude.{◌≡◌, Bool, List, ◌↔◌, length, ltb, leb, Err, Ok}
 use Rattle.std.proofs.Math.Path.{refl, ap}
 use Rattle.std.proofs.Common.{sym, ap₂, ◌∙◌, subst, le-leb, leb-true, le-ltb, ltb-true, ltb-false}
 use Rattle.std.proofs.Math.Bool.{true, false}
@@ -13,8 +13,7 @@ use Rattle.bits.proofs.Laws.{length_bits}
 use Rattle.lists.specs.Tests.{when, both, by_test, true_false}
 use Rattle.hunt.specs.Laws.{Says}
 use Rattle.hunt.specs.Hunt.{multiframe_bits, in_range, passes, places_left, searched, misses, found, hunted_from, hunted}
-use Rattle.hunt.specs.declared.Hunted.{Hunted}
-use Rattle.hunt.specs.declared.Hunted.TheVariants.{Found, Refused}
+use Rattle.hunt.specs.Types.{Hunted, found_at}
 use Rattle.refusals.specs.declared.Hunt.TheVariants.{MatchRange, Nowhere}
 
 -- T may be what 02 says: 12 to 16
@@ -109,39 +108,39 @@ says least l from =
 
 -- and only one answer says so
 pub once : (least : ℕ) (l : List Bool) (from : ℕ) (r s : Hunted) → Says least l from r → Says least l from s → r ≡ s
-once least l from (Found p n) (Found q m) a b =
-    let e : p ≡ q = same (dec_lt p q) (dec_lt q p) in
-    let f : n ≡ m = a.4 ∙ ap (λ (x : ℕ). suc x - from) e ∙ sym b.4 in
-    ap₂ Found e f
+once least l from (Ok w) (Ok v) a b =
+    let e : w.place ≡ v.place = same (dec_lt w.place v.place) (dec_lt v.place w.place) in
+    let f : w.tested ≡ v.tested = a.4 ∙ ap (λ (x : ℕ). suc x - from) e ∙ sym b.4 in
+    ap₂ found_at e f
   where
-    same : Dec (p < q) → Dec (q < p) → p ≡ q
-    same (yes h) y = absurd (true_false (sym a.2 ∙ b.3 p a.0 h))
-    same (no h) (yes i) = absurd (true_false (sym b.2 ∙ a.3 q b.0 i))
+    same : Dec (w.place < v.place) → Dec (v.place < w.place) → w.place ≡ v.place
+    same (yes h) y = absurd (true_false (sym a.2 ∙ b.3 w.place a.0 h))
+    same (no h) (yes i) = absurd (true_false (sym b.2 ∙ a.3 v.place b.0 i))
     same (no h) (no i) = omega arith
-once least l from (Found p n) (Refused (Nowhere f m)) a b = absurd (true_false (sym a.2 ∙ b.1 p a.0 a.1))
-once least l from (Found p n) (Refused (MatchRange t)) a b = absurd b
-once least l from (Refused (Nowhere f m)) (Found p n) a b = absurd (true_false (sym b.2 ∙ a.1 p b.0 b.1))
-once least l from (Refused (Nowhere f m)) (Refused (Nowhere g n)) a b = ap₂ (λ (x y : ℕ). Refused (Nowhere x y)) (a.0 ∙ sym b.0) (a.2 ∙ sym b.2)
-once least l from (Refused (Nowhere f m)) (Refused (MatchRange t)) a b = absurd b
-once least l from (Refused (MatchRange t)) s a b = absurd a
+once least l from (Ok w) (Err (Nowhere f m)) a b = absurd (true_false (sym a.2 ∙ b.1 w.place a.0 a.1))
+once least l from (Ok w) (Err (MatchRange t)) a b = absurd b
+once least l from (Err (Nowhere f m)) (Ok w) a b = absurd (true_false (sym b.2 ∙ a.1 w.place b.0 b.1))
+once least l from (Err (Nowhere f m)) (Err (Nowhere g n)) a b = ap₂ (λ (x y : ℕ). Err (Nowhere x y)) (a.0 ∙ sym b.0) (a.2 ∙ sym b.2)
+once least l from (Err (Nowhere f m)) (Err (MatchRange t)) a b = absurd b
+once least l from (Err (MatchRange t)) s a b = absurd a
 
 -- 22 EXACTLY IF NO PLACE PASSES, and then all places were tested
 pub nowhere_exactly : (least : ℕ) (l : List Bool) (from : ℕ)
-    → (hunted_from l from least ≡ Refused (Nowhere from (places_left l from))) ↔ ((t : ℕ) → from ≤ t → t + multiframe_bits ≤ searched l → passes least l t ≡ false)
+    → (hunted_from l from least ≡ Err (Nowhere from (places_left l from))) ↔ ((t : ℕ) → from ≤ t → t + multiframe_bits ≤ searched l → passes least l t ≡ false)
 nowhere_exactly least l from = (
   λ e t h i. (subst (Says least l from) e (says least l from)).1 t h i,
-  λ none. once least l from (hunted_from l from least) (Refused (Nowhere from (places_left l from))) (says least l from) (refl, none, refl),
+  λ none. once least l from (hunted_from l from least) (Err (Nowhere from (places_left l from))) (says least l from) (refl, none, refl),
 )
 
 -- 21 EXACTLY IF T IS OUTSIDE ITS RANGE, and else the hunt is what was said above
-pub range_exactly : (s : List ℕ) (from least : ℕ) → (hunted s from least ≡ Refused (MatchRange least)) ↔ (in_range least ≡ false)
+pub range_exactly : (s : List ℕ) (from least : ℕ) → (hunted s from least ≡ Err (MatchRange least)) ↔ (in_range least ≡ false)
 unfolding hunted
 range_exactly s from least = (by (in_range least) refl, λ e. rw e)
   where
-    other : (h : Hunted) → Says least (bits s) from h → h ≡ Refused (MatchRange least) → ⊥
+    other : (h : Hunted) → Says least (bits s) from h → h ≡ Err (MatchRange least) → ⊥
     other h a e = subst (Says least (bits s) from) e a
 
-    by : (b : Bool) → in_range least ≡ b → when b (hunted_from (bits s) from least) (Refused (MatchRange least)) ≡ Refused (MatchRange least) → b ≡ false
+    by : (b : Bool) → in_range least ≡ b → when b (hunted_from (bits s) from least) (Err (MatchRange least)) ≡ Err (MatchRange least) → b ≡ false
     by true r e = absurd (other (hunted_from (bits s) from least) (says least (bits s) from) e)
     by false r e = refl
 

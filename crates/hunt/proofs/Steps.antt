@@ -1,5 +1,6 @@
 -- The last step of each function, as a law over lists and numbers.
 -- Assumes nothing.
+use Rattle.std.specs.Prelude.{Err}
 use Prim.Native.Nat.{ℕ, zero, suc, ◌+◌, ◌-◌, ◌*◌, ◌/◌, ◌%◌, ◌^◌, ◌≤◌, ◌<◌, min}
 use mathlib.Core.Path.{◌≡◌, refl, sym, ap, ap₂, ◌∙◌, subst}
 use mathlib.Core.Bool.{Bool, true, false}
@@ -23,8 +24,7 @@ use Rattle.bits.proofs.Laws.{length_bits, length_field, field_value, in_word}
 use Rattle.header.specs.Reading.{reading}
 use Rattle.hunt.specs.Hunt.{sync_bits, multiframe_bits, sync, fewest_matches, in_range, alike, matches, readable, passes, head_passes, at_once, fewest_off, all_far, searched, places_left, misses, found, hunted_from, hunted}
 use Rattle.hunt.proofs.Laws.{searched_le, misses_none, misses_hit, misses_on}
-use Rattle.hunt.specs.declared.Hunted.{Hunted}
-use Rattle.hunt.specs.declared.Hunted.TheVariants.{Found, Refused}
+use Rattle.hunt.specs.Types.{Hunted, found_at}
 use Rattle.refusals.specs.declared.Hunt.TheVariants.{MatchRange, Nowhere}
 
 -- ---- how many matching bits may be asked for
@@ -40,7 +40,7 @@ pub hunted_in : (s : List ℕ) (from least : ℕ) (h : Hunted) → in_range leas
 unfolding hunted
 hunted_in s from least h e k = rw e k
 
-pub hunted_out : (s : List ℕ) (from least : ℕ) → in_range least ≡ false → Refused (MatchRange least) ≡ hunted s from least
+pub hunted_out : (s : List ℕ) (from least : ℕ) → in_range least ≡ false → Err (MatchRange least) ≡ hunted s from least
 unfolding hunted
 hunted_out s from least e = rw e
 
@@ -238,22 +238,22 @@ module _ (l : List Bool) (from least : ℕ) where
         let c : misses test (places_left l t - 1) (t + 1) ≡ misses test (places_left l (t + 1)) (t + 1) = ap (λ (k : ℕ). misses test k (t + 1)) n in
         record { past = omega arith; within = omega arith; missed = s.missed ∙ omega arith }
 
-    pub seeking_found : 0 < places_left l t → test t ≡ true → Found t (t - from + 1) ≡ hunted_from l from least
+    pub seeking_found : 0 < places_left l t → test t ≡ true → found_at t (t - from + 1) ≡ hunted_from l from least
     unfolding found
     seeking_found h e =
         let p = s.past in
         let z : misses test (places_left l from) from ≡ t - from = s.missed ∙ ap (λ (k : ℕ). t - from + k) (misses_hit test (places_left l t) t h e) ∙ omega arith in
         let y : t ≡ from + (t - from) = omega arith in
-        rw (z, lt-ltb (t - from) (places_left l from) (omega arith)) (ap (λ (k : ℕ). Found k (t - from + 1)) y)
+        rw (z, lt-ltb (t - from) (places_left l from) (omega arith)) (ap (λ (k : ℕ). found_at k (t - from + 1)) y)
 
-    pub seeking_done : places_left l t ≡ 0 → Refused (Nowhere from (t - from)) ≡ hunted_from l from least
+    pub seeking_done : places_left l t ≡ 0 → Err (Nowhere from (t - from)) ≡ hunted_from l from least
     unfolding found
     seeking_done h =
         let p = s.past in
         let z : misses test (places_left l from) from ≡ t - from =
         s.missed ∙ ap (λ (k : ℕ). t - from + misses test k t) h ∙ ap (λ (k : ℕ). t - from + k) (misses_none test t) ∙ omega arith in
         let y : t - from ≡ places_left l from = omega (arith, s.within) in
-        rw (z, le-ltb (t - from) (places_left l from) (omega arith)) (ap (λ (k : ℕ). Refused (Nowhere from k)) y)
+        rw (z, le-ltb (t - from) (places_left l from) (omega arith)) (ap (λ (k : ℕ). Err (Nowhere from k)) y)
 
   -- n places more
   pub seeking_past : (n t : ℕ) → Seeking t → n ≤ places_left l t → ((k : ℕ) → k < n → test (t + k) ≡ false) → Seeking (t + n)

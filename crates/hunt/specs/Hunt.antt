@@ -1,16 +1,14 @@
 -- The hunt for a multiframe at any bit (02, C-13). Bits are numbered from 0 as 01 numbers those of a field of octets.
 -- Assumes nothing.
-use Rattle.std.specs.Prelude.{ℕ, zero, suc, ◌+◌, ◌-◌, ◌*◌, ◌/◌, ◌%◌, ◌^◌, min, List, [], ◌∷◌, Bool, true, false, length, ltb, leb}
+use Rattle.std.specs.Prelude.{ℕ, zero, suc, ◌+◌, ◌-◌, ◌*◌, ◌/◌, ◌%◌, ◌^◌, min, List, [], ◌∷◌, Bool, true, false, length, ltb, leb, Some, None, Err}
 use Rattle.lists.specs.Tests.{when, both}
 use Rattle.lists.specs.Parts.{part}
 use Rattle.layout.specs.Layout.{sync_octets, header_octets, multiframe_octets, sync_first, sync_second}
 use Rattle.bits.specs.Bits.{field, value, bits}
 use Rattle.header.specs.Reading.{reading}
-use Rattle.header.specs.declared.Header.{Header}
-use Rattle.header.specs.declared.Header.TheVariants.{Codeword, Lost}
+use Rattle.header.specs.Types.{Header}
 use Rattle.refusals.specs.declared.Hunt.TheVariants.{MatchRange, Nowhere}
-use Rattle.hunt.specs.declared.Hunted.{Hunted}
-use Rattle.hunt.specs.declared.Hunted.TheVariants.{Found, Refused}
+use Rattle.hunt.specs.Types.{Hunted, found_at}
 
 -- ---- sizes in bits: sync 16, header 32, multiframe 1,152
 abbrev pub sync_bits : ℕ
@@ -50,8 +48,8 @@ matches (a ∷ l) (b ∷ m) = alike a b + matches l m
 
 -- a header is readable if it is not lost
 abbrev pub readable : Header → Bool
-readable (Codeword d) = true
-readable Lost = false
+readable (Some d) = true
+readable None = false
 
 -- "at least T of the 16 bits match the sync and the header that follows is readable", of bits l at place t
 unfoldable pub passes : ℕ → List Bool → ℕ → Bool
@@ -75,14 +73,14 @@ misses test (suc n) t = when (test t) 0 (suc (misses test n (t + 1)))
 
 -- the place found after so many misses of n places, and how many were tested
 unfoldable pub found : ℕ → ℕ → ℕ → Hunted
-found from n k = when (ltb k n) (Found (from + k) (k + 1)) (Refused (Nowhere from n))
+found from n k = when (ltb k n) (found_at (from + k) (k + 1)) (Err (Nowhere from n))
 
 abbrev pub hunted_from : List Bool → ℕ → ℕ → Hunted
 hunted_from l from least = found from (places_left l from) (misses (passes least l) (places_left l from) from)
 
 -- the hunt of octets. 21: T outside 12 to 16. 22: no such place
 unfoldable pub hunted : List ℕ → ℕ → ℕ → Hunted
-hunted octets from least = when (in_range least) (hunted_from (bits octets) from least) (Refused (MatchRange least))
+hunted octets from least = when (in_range least) (hunted_from (bits octets) from least) (Err (MatchRange least))
 
 -- ---- how the code tests a place: by the numbers of the sixteen bits and of the 32 behind them
 unfoldable pub head_passes : ℕ → ℕ → ℕ → Bool

@@ -1,3 +1,4 @@
+pub mod Types
 pub mod Hunt
 pub mod Laws
 pub mod Examples

@@ -7,7 +7,6 @@ ghost use Rattle.bits.specs.Bits.{field, bits};
 ghost use Rattle.header.specs.Reading.{reading};
 ghost use Rattle.hunt.specs.Hunt.{sync_bits, header_bits, sync, in_range, matches, readable, head_passes, at_once, fewest_off, all_far, searched, places_left, hunted_from, hunted};
 
-use header::Header;
 use layout::MultiframeLayout;
 
 // The sync's sixteen bits as a number, first sent least significant, and how many they are.
@@ -23,21 +22,18 @@ const FEWEST: usize = 12;
 // The number of bits has to fit 64 bits: octets beyond these are not searched.
 const MOST: usize = 0x1fffffffffffffff;
 
-// The place found and how many places were tested, it among them; or refused.
+// The place found and how many places were tested, it among them.
 #[derive(Clone, Copy)]
-pub enum Hunted {
-    Found { place: usize, tested: usize },
-    Refused(refusals::Hunt),
+pub struct Found {
+    pub place: usize,
+    pub tested: usize,
 }
 
 // Whether a header is readable.
 fn is_readable(word: u32) -> bool
     ensures { result ≡ readable (reading word) }
 {
-    match header::read(word) {
-        Header::Codeword(_) => true,
-        Header::Lost => false,
-    }
+    header::read(word).is_some()
 }
 
 // How many of the first sixteen bits do not match the sync: the rest of the sixteen do.
@@ -109,7 +105,7 @@ fn places(octets: &[u8]) -> usize
 }
 
 // seek is the hunt itself. It asks for a number of matching bits that there can be, which hunt has tested.
-pub fn seek(octets: &[u8], from: usize, least: usize) -> Hunted
+pub fn seek(octets: &[u8], from: usize, least: usize) -> Result<Found, refusals::Hunt>
     requires { least ≤ sync_bits }
     ensures { result ≡ hunted_from (bits octets.now) from least }
 {
@@ -121,15 +117,15 @@ pub fn seek(octets: &[u8], from: usize, least: usize) -> Hunted
             t += AT_ONCE;
         } else {
             if passes(head, least) {
-                return Hunted::Found {
+                return Ok(Found {
                     place: t,
                     tested: t - from + 1,
-                };
+                });
             }
             t += 1;
         }
     }
-    Hunted::Refused(refusals::Hunt::Nowhere {
+    Err(refusals::Hunt::Nowhere {
         from,
         tested: t - from,
     })
@@ -147,11 +143,11 @@ pub fn in_range(least: usize) -> bool
 
 // hunt gives the smallest place from bit from on with a whole multiframe's bits left, where at least least bits of the sync match and the
 // header behind it is readable, and how many places were tested. Nothing is asked of the caller.
-pub fn hunt(octets: &[u8], from: usize, least: usize) -> Hunted
+pub fn hunt(octets: &[u8], from: usize, least: usize) -> Result<Found, refusals::Hunt>
     ensures { result ≡ hunted octets.now from least }
 {
     if in_range(least) {
         return seek(octets, from, least);
     }
-    Hunted::Refused(refusals::Hunt::MatchRange { least })
+    Err(refusals::Hunt::MatchRange { least })
 }

@@ -1,6 +1,6 @@
 -- What the choice changes in a hunting reading (02, C-20): an only multiframe found, which by default is refused with 16, and nothing else.
 -- Assumes nothing.
-use Rattle.std.specs.Prelude.{ℕ, ◌≤◌, ◌≡◌, true, false}
+use Rattle.std.specs.Prelude.{ℕ, ◌≤◌, ◌≡◌, true, false, Ok, Err}
 use Rattle.std.proofs.Common.{arith, sym, ◌∙◌, subst}
 use Rattle.std.proofs.Math.Path.{refl, ap}
 use mathlib.Core.List.{List, [], ◌∷◌}
@@ -26,7 +26,6 @@ use Rattle.refusals.specs.declared.Hunting.TheVariants.{Octets, MatchRange}
 use Rattle.hunting.specs.Hunting.{Outcome, outcome, counted, reading_by, reading_found, hunting_reading}
 use Rattle.hunting.proofs.Says.{image_cut, success}
 use Rattle.hunting.specs.declared.Counted.{Counted}
-use Rattle.hunting.specs.declared.Answer.TheVariants.{Read, Refused}
 
 module _ (s : List ℕ) (from least : ℕ) (tables : Tables) (index report : List ℕ) where
   abbrev found : Gathering
@@ -43,7 +42,7 @@ module _ (s : List ℕ) (from least : ℕ) (tables : Tables) (index report : Lis
   unfolding hunting_reading reading_found
   found_alike ch dh two =
       ap
-      (λ (o : Outcome). if_admitted (admission tables) (λ (r : OctetRefusal). outcome (Refused (Octets r)) index report) (when (in_range least) o (outcome (Refused (MatchRange least)) index report)))
+      (λ (o : Outcome). if_admitted (admission tables) (λ (r : OctetRefusal). outcome (Err (Octets r)) index report) (when (in_range least) o (outcome (Err (MatchRange least)) index report)))
       (by found.places found.ending refl)
     where
       by : (ps : List ℕ) (e : Ending) → found.places ≡ ps → reading_by ch s from least tables index report ps found.tested e ≡ reading_by dh s from least tables index report ps found.tested e
@@ -59,11 +58,11 @@ module _ (s : List ℕ) (from least : ℕ) (tables : Tables) (index report : Lis
     -- BY DEFAULT AN ONLY MULTIFRAME FOUND IS REFUSED, 16, whatever its header is, where none of 11, 10, 21, 22 and 15 comes before
     pub found_refused : RightTables tables → in_range least ≡ true → (gathering (bits s) least most_multiframes from).ending ≡ whole
         → length (gathering (bits s) least most_multiframes from).places ≡ 1
-        → hunting_reading ch s from least tables index report ≡ outcome (Refused (Octets Unsettled)) index report
+        → hunting_reading ch s from least tables index report ≡ outcome (Err (Octets Unsettled)) index report
     unfolding hunting_reading reading_found
     found_refused right range ends one = rw (right_passes tables right, range, ends) (by found.places refl)
       where
-        by : (ps : List ℕ) → found.places ≡ ps → reading_by ch s from least tables index report ps found.tested whole ≡ outcome (Refused (Octets Unsettled)) index report
+        by : (ps : List ℕ) → found.places ≡ ps → reading_by ch s from least tables index report ps found.tested whole ≡ outcome (Err (Octets Unsettled)) index report
         by [] q = absurd (omega (arith, one, ap length q))
         by (p ∷ ps) q =
             let c : (cutting (image_of s (p ∷ ps))).places ≡ (cutting (image_of s found.places)).places = ap (λ (l : List ℕ). (cutting (image_of s l)).places) (sym q) in
@@ -76,7 +75,7 @@ module _ (s : List ℕ) (from least : ℕ) (tables : Tables) (index report : Lis
             (ap length c ∙ cut_count ∙ one))
 
     -- so what is read by default has two multiframes or more
-    pub found_two : (c : Counted) → (hunting_reading ch s from least tables index report).answer ≡ Read c → 2 ≤ c.summary.multiframes
+    pub found_two : (c : Counted) → (hunting_reading ch s from least tables index report).answer ≡ Ok c → 2 ≤ c.summary.multiframes
     found_two c e =
         default_two (image_of s found.places) tables index report ch default c.summary
         (ap (λ (o : R.Outcome). o.answer) (success ch s from least tables index report c e).as_01_says)

@@ -1,5 +1,7 @@
 -- How a hunting reading ends: the first tests, and what `gather` answered.
 -- Assumes nothing.
+use Rattle.gathering.specs.Types.{Gathered, whole_of, too_many_at}
+use Rattle.std.specs.Prelude.{Ok, Err}
 use Prim.Native.Nat.{ℕ, ◌+◌, ◌*◌, ◌≤◌, ◌<◌}
 use mathlib.Core.Path.{◌≡◌, refl, sym, ap, ap₂, ◌∙◌, subst}
 use mathlib.Core.Bool.{true, false}
@@ -13,32 +15,42 @@ use Rattle.tables.specs.declared.Admission.TheVariants as A
 use Rattle.bits.specs.Bits.{bits}
 use Rattle.hunt.specs.Hunt.{multiframe_bits, in_range, searched}
 use Rattle.reader.specs.Reading as R
-use Rattle.reader.specs.declared.Answer.{Answer as OctetAnswer}
+use Rattle.reader.specs.Types.{Answer as OctetAnswer}
 use Rattle.refusals.specs.declared.Reading.{Reading as OctetRefusal}
 use Rattle.gathering.specs.Gathering.{Ending, whole, too_many, Gathering, gathering, outside_of, image_of, answered_by, answered, LaidBy, Laid}
 use Rattle.gathering.proofs.Laws.{room_for, at_most, apart}
-use Rattle.gathering.specs.declared.Gathered.TheVariants as G
 use Rattle.hunting.specs.Hunting.{Outcome, outcome, with_counts, counted, reading_by, reading_found, hunting_reading}
 use Rattle.refusals.specs.declared.Hunting.TheVariants.{Octets, MatchRange, Nowhere, TooMany}
-use Rattle.hunting.specs.declared.Answer.TheVariants.{Refused}
 
 -- ---- the octet reader's answer
 pub read_counted : (a b : OctetAnswer) (i r : List ℕ) (o : R.Outcome) (n t : ℕ) → R.outcome a i r ≡ o → a ≡ b → outcome (with_counts b n t) i r ≡ counted o n t
 read_counted a b i r o n t e f = ap (λ (x : OctetAnswer). outcome (with_counts x n t) i r) (sym f) ∙ ap (λ (x : R.Outcome). counted x n t) e
 
 -- ---- what gather answered
-answered_many : (w : Gathering) (p : ℕ) → G.TooMany p ≡ answered w → w.ending ≡ too_many p
+abbrev counted_of : Gathered → ℕ
+counted_of (Ok w) = w.count
+counted_of (Err t) = 0
+
+abbrev tested_of : Gathered → ℕ
+tested_of (Ok w) = w.tested
+tested_of (Err t) = 0
+
+abbrev place_of : Gathered → ℕ
+place_of (Ok w) = 0
+place_of (Err t) = t.place
+
+answered_many : (w : Gathering) (p : ℕ) → too_many_at p ≡ answered w → w.ending ≡ too_many p
 answered_many w p e = by w.ending refl e
   where
-    by : (x : Ending) → w.ending ≡ x → G.TooMany p ≡ answered_by (length w.places) w.tested x → w.ending ≡ too_many p
+    by : (x : Ending) → w.ending ≡ x → too_many_at p ≡ answered_by (length w.places) w.tested x → w.ending ≡ too_many p
     by whole a q = let z : ◌≡◌ {A = ℕ} 0 1 = cc in absurd (omega arith)
-    by (too_many k) a q = a ∙ cc
+    by (too_many k) a q = a ∙ ap too_many (sym (ap place_of q))
 
-answered_whole : (w : Gathering) (m n : ℕ) → G.Whole m n ≡ answered w → (w.ending ≡ whole) × (m ≡ length w.places) × (n ≡ w.tested)
+answered_whole : (w : Gathering) (m n : ℕ) → whole_of m n ≡ answered w → (w.ending ≡ whole) × (m ≡ length w.places) × (n ≡ w.tested)
 answered_whole w m n e = by w.ending refl e
   where
-    by : (x : Ending) → w.ending ≡ x → G.Whole m n ≡ answered_by (length w.places) w.tested x → (w.ending ≡ whole) × (m ≡ length w.places) × (n ≡ w.tested)
-    by whole a q = (a, cc, cc)
+    by : (x : Ending) → w.ending ≡ x → whole_of m n ≡ answered_by (length w.places) w.tested x → (w.ending ≡ whole) × (m ≡ length w.places) × (n ≡ w.tested)
+    by whole a q = (a, ap counted_of q, ap tested_of q)
     by (too_many k) a q = let z : ◌≡◌ {A = ℕ} 0 1 = cc in absurd (omega arith)
 
 module _ (ch : Choices) (s : List ℕ) (from least : ℕ) where
@@ -46,7 +58,7 @@ module _ (ch : Choices) (s : List ℕ) (from least : ℕ) where
   found = gathering (bits s) least most_multiframes from
 
   -- the multiframes found have room behind the first bit searched
-  pub some_room : (m n : ℕ) → G.Whole m n ≡ answered found → (m ≡ 0 → ⊥) → (from + multiframe_bits * m ≤ searched (bits s)) × (m ≤ most_multiframes)
+  pub some_room : (m n : ℕ) → whole_of m n ≡ answered found → (m ≡ 0 → ⊥) → (from + multiframe_bits * m ≤ searched (bits s)) × (m ≤ most_multiframes)
   some_room m n e z =
       let w = answered_whole found m n e in
       let few = at_most (bits s) least most_multiframes from in
@@ -66,20 +78,20 @@ module _ (ch : Choices) (s : List ℕ) (from least : ℕ) where
     gone_on ps n e ep en ee = rw (ep, en, ee)
 
     -- ---- the reading of what is found
-    pub ends_many : (p : ℕ) → G.TooMany p ≡ answered found → outcome (Refused (TooMany p)) index report ≡ reading_found ch s from least tables index report
+    pub ends_many : (p : ℕ) → too_many_at p ≡ answered found → outcome (Err (TooMany p)) index report ≡ reading_found ch s from least tables index report
     ends_many p e = from_list found.places ∙ gone_on found.places found.tested (too_many p) refl refl (answered_many found p e)
       where
-        from_list : (ps : List ℕ) → outcome (Refused (TooMany p)) index report ≡ by_ending ps found.tested (too_many p)
+        from_list : (ps : List ℕ) → outcome (Err (TooMany p)) index report ≡ by_ending ps found.tested (too_many p)
         from_list [] = refl
         from_list (q ∷ ps) = refl
 
-    module _ (m n : ℕ) (e : G.Whole m n ≡ answered found) where
-      pub ends_nowhere : m ≡ 0 → outcome (Refused (Nowhere from n)) index report ≡ reading_found ch s from least tables index report
+    module _ (m n : ℕ) (e : whole_of m n ≡ answered found) where
+      pub ends_nowhere : m ≡ 0 → outcome (Err (Nowhere from n)) index report ≡ reading_found ch s from least tables index report
       ends_nowhere z =
           let w = answered_whole found m n e in
           none found.places (sym w.1 ∙ z) ∙ gone_on found.places n whole refl (sym w.2) w.0
         where
-          none : (ps : List ℕ) → length ps ≡ 0 → outcome (Refused (Nowhere from n)) index report ≡ by_ending ps n whole
+          none : (ps : List ℕ) → length ps ≡ 0 → outcome (Err (Nowhere from n)) index report ≡ by_ending ps n whole
           none [] h = refl
           none (p ∷ ps) h = absurd (omega arith)
 
@@ -99,12 +111,12 @@ module _ (ch : Choices) (s : List ℕ) (from least : ℕ) where
           some (p ∷ ps) h = refl
 
     -- ---- the first tests
-    pub not_admitted : (r : OctetRefusal) → admission tables ≡ A.Refused r → outcome (Refused (Octets r)) index report ≡ hunting_reading ch s from least tables index report
+    pub not_admitted : (r : OctetRefusal) → admission tables ≡ A.Refused r → outcome (Err (Octets r)) index report ≡ hunting_reading ch s from least tables index report
     unfolding hunting_reading
     not_admitted r e = rw e
 
     module _ (right : admission tables ≡ A.Admitted) where
-      pub out_of_range : in_range least ≡ false → outcome (Refused (MatchRange least)) index report ≡ hunting_reading ch s from least tables index report
+      pub out_of_range : in_range least ≡ false → outcome (Err (MatchRange least)) index report ≡ hunting_reading ch s from least tables index report
       unfolding hunting_reading
       out_of_range e = rw (right, e)
 

@@ -1,7 +1,7 @@
 -- What a hunting reading's answer says, case by case: which refusals occur and when, how many multiframes, bits outside and places tested there
 -- are, and that every whole multiframe whose place passes is read.
 -- Assumes nothing.
-use Rattle.std.specs.Prelude.{ℕ, zero, suc, ◌+◌, ◌*◌, ◌≤◌, ◌<◌, ◌↔◌, List, [], ◌∷◌, ◌++◌, Bool, true, false, eqb, ltb, length, get_or}
+use Rattle.std.specs.Prelude.{ℕ, zero, suc, ◌+◌, ◌*◌, ◌≤◌, ◌<◌, ◌↔◌, List, [], ◌∷◌, ◌++◌, Bool, true, false, eqb, ltb, length, get_or, Some, None, Ok, Err}
 use Rattle.std.proofs.Math.Path.{◌≡◌, refl, sym}
 use Rattle.std.proofs.Common.{ap, ap₂, ◌∙◌, subst, inl, inr, arith, get_or-append-add, ne_eqb}
 use Rattle.lists.specs.Tests.{by_test, true_false}
@@ -16,19 +16,16 @@ use Rattle.bits.specs.Bits.{bits}
 use Rattle.cutting.specs.Cutting.{Cutting, cutting, whole as uncut}
 use Rattle.cutting.specs.Laws.{every}
 use Rattle.cutting.proofs.Laws.{every_length, whole_image}
-use Rattle.settling.specs.declared.Settlement.{Settlement}
-use Rattle.settling.specs.declared.Settlement.TheVariants as S
+use Rattle.settling.specs.Types.{Settlement}
 use Rattle.unfit.specs.Unfit.{unfit}
 use Rattle.hunt.specs.Hunt.{in_range, places_left}
 use Rattle.reader.specs.Reading as R
 use Rattle.deciding.specs.Deciding.{received_notes, room_verdict, settled_verdict, whole_verdict}
-use Rattle.deciding.specs.declared.Verdict.{Verdict}
-use Rattle.deciding.specs.declared.Verdict.TheVariants.{Refuse, Accept}
+use Rattle.deciding.specs.Types.{Verdict}
 use Rattle.refusals.specs.declared.Reading.{Reading as OctetRefusal}
 use Rattle.refusals.specs.declared.Reading.TheVariants as RR
 use Rattle.reader.specs.declared.Summary.{Summary}
-use Rattle.reader.specs.declared.Answer.{Answer as OctetAnswer}
-use Rattle.reader.specs.declared.Answer.TheVariants as Ra
+use Rattle.reader.specs.Types.{Answer as OctetAnswer}
 use Rattle.gathering.specs.Gathering.{Ending, whole, too_many, Gathering, gathering, outside_of, aligned, image_of}
 use Rattle.gathering.specs.Laws.{Ends}
 use Rattle.gathering.proofs.Laws.{taken, apart, at_most, room_for, length_aligned, length_image}
@@ -41,7 +38,6 @@ use Rattle.refusals.proofs.Laws.{hunting_one_case}
 use Rattle.hunting.specs.declared.Counted.{Counted}
 use Rattle.refusals.specs.declared.Hunting.{Hunting as Refusal}
 use Rattle.refusals.specs.declared.Hunting.TheVariants.{Octets, MatchRange, Nowhere, TooMany}
-use Rattle.hunting.specs.declared.Answer.TheVariants.{Read, Refused}
 use Rattle.hunting.specs.Says.{Late}
 use Rattle.hunting.specs.Says.{wrong_tables, negative_threshold, range, nowhere, many, read}
 use Rattle.hunting.specs.Says as Stated
@@ -64,13 +60,13 @@ pub image_cut : (s ps : List ℕ) → length ps ≤ most_multiframes → cutting
 image_cut s ps few = whole_image (image_of s ps) (length ps) few (length_image s ps) (sync_at_lem s ps)
 
 abbrev LateVerdict : Verdict → Type 0
-LateVerdict (Refuse r) = Late r
-LateVerdict (Accept c) = Unit
+LateVerdict (Err r) = Late r
+LateVerdict (Ok c) = Unit
 
 late_settled : (m bad pairs index report : ℕ) (s : Settlement) → LateVerdict (settled_verdict m bad pairs index report s)
 unfolding settled_verdict room_verdict
-late_settled m bad pairs index report S.Unsettled = tt
-late_settled m bad pairs index report (S.Settled c) =
+late_settled m bad pairs index report None = tt
+late_settled m bad pairs index report (Some c) =
     by_test LateVerdict (unfit c) (λ e. tt) (λ e.
     by_test LateVerdict (ltb index (index_octets * m)) (λ e. tt) (λ e.
     by_test LateVerdict (ltb report (report_octets * m)) (λ e. tt) (λ e. by_test LateVerdict (eqb bad pairs) (λ e. tt) (λ e. tt))))
@@ -97,34 +93,34 @@ module _ (ch : Choices) (s ps : List ℕ) (some : 0 < length ps) (few : length p
   late_whole =
       rw (ne_eqb (length rows) 0 (λ e. omega (arith, every_length 0 (length ps)))) (late_settled (length rows) _ _ (length index) (length report) _)
 
-  pub image_late : (r : OctetRefusal) → (R.reading ch image tables index report).answer ≡ Ra.Refused r → Late r
+  pub image_late : (r : OctetRefusal) → (R.reading ch image tables index report).answer ≡ Err r → Late r
   image_late r e = by (whole_verdict ch image tables (length index) (length report) rows) late_whole (sym (ap (λ (o : R.Outcome). o.answer) decided) ∙ e)
     where
-      by : (v : Verdict) → LateVerdict v → (R.finished image tables index report rows v).answer ≡ Ra.Refused r → Late r
-      by (Refuse q) l f = let z : q ≡ r = cc in subst Late z l
-      by (Accept c) l f = let z : ◌≡◌ {A = ℕ} 0 1 = cc in absurd (omega arith)
+      by : (v : Verdict) → LateVerdict v → (R.finished image tables index report rows v).answer ≡ Err r → Late r
+      by (Err q) l f = let z : q ≡ r = cc in subst Late z l
+      by (Ok c) l f = let z : ◌≡◌ {A = ℕ} 0 1 = cc in absurd (omega arith)
 
   -- and its success answers as many multiframes as were put together
-  pub image_count : (g : Summary) → (R.reading ch image tables index report).answer ≡ Ra.Read g → g.multiframes ≡ length ps
+  pub image_count : (g : Summary) → (R.reading ch image tables index report).answer ≡ Ok g → g.multiframes ≡ length ps
   image_count g e = by (whole_verdict ch image tables (length index) (length report) rows) (sym (ap (λ (o : R.Outcome). o.answer) decided) ∙ e)
     where
-      by : (v : Verdict) → (R.finished image tables index report rows v).answer ≡ Ra.Read g → g.multiframes ≡ length ps
-      by (Refuse q) f = let z : ◌≡◌ {A = ℕ} 0 1 = cc in absurd (omega arith)
-      by (Accept c) f =
+      by : (v : Verdict) → (R.finished image tables index report rows v).answer ≡ Ok g → g.multiframes ≡ length ps
+      by (Err q) f = let z : ◌≡◌ {A = ℕ} 0 1 = cc in absurd (omega arith)
+      by (Ok c) f =
           let x = R.summary image rows (received_notes image rows tables) c in
           let z : x ≡ g = cc in
           sym (ap (λ (y : Summary). y.multiframes) z) ∙ every_length 0 (length ps)
 
 -- ---- the answer
-counted_read : (a : OctetAnswer) (n t : ℕ) (c : Counted) → with_counts a n t ≡ Read c → (a ≡ Ra.Read c.summary) × (c.outside ≡ n) × (c.tested ≡ t)
-counted_read (Ra.Read g) n t c e =
+counted_read : (a : OctetAnswer) (n t : ℕ) (c : Counted) → with_counts a n t ≡ Ok c → (a ≡ Ok c.summary) × (c.outside ≡ n) × (c.tested ≡ t)
+counted_read (Ok g) n t c e =
     let z : record { summary = g; outside = n; tested = t } ≡ c = cc in
-    (ap (λ (x : Counted). Ra.Read x.summary) z, sym (ap (λ (x : Counted). x.outside) z), sym (ap (λ (x : Counted). x.tested) z))
-counted_read (Ra.Refused r) n t c e = let z : ◌≡◌ {A = ℕ} 0 1 = cc in absurd (omega arith)
+    (ap (λ (x : Counted). Ok x.summary) z, sym (ap (λ (x : Counted). x.outside) z), sym (ap (λ (x : Counted). x.tested) z))
+counted_read (Err r) n t c e = let z : ◌≡◌ {A = ℕ} 0 1 = cc in absurd (omega arith)
 
-counted_refused : (a : OctetAnswer) (n t : ℕ) (r : Refusal) → with_counts a n t ≡ Refused r → (q : OctetRefusal) × ((a ≡ Ra.Refused q) × (Octets q ≡ r))
-counted_refused (Ra.Read g) n t r e = let z : ◌≡◌ {A = ℕ} 0 1 = cc in absurd (omega arith)
-counted_refused (Ra.Refused q) n t r e = (q, (refl, cc))
+counted_refused : (a : OctetAnswer) (n t : ℕ) (r : Refusal) → with_counts a n t ≡ Err r → (q : OctetRefusal) × ((a ≡ Err q) × (Octets q ≡ r))
+counted_refused (Ok g) n t r e = let z : ◌≡◌ {A = ℕ} 0 1 = cc in absurd (omega arith)
+counted_refused (Err q) n t r e = (q, (refl, cc))
 
 module _ (ch : Choices) (s : List ℕ) (from least : ℕ) (tables : Tables) (index report : List ℕ) where
   abbrev found : Gathering
@@ -134,7 +130,7 @@ module _ (ch : Choices) (s : List ℕ) (from least : ℕ) (tables : Tables) (ind
   result = hunting_reading ch s from least tables index report
 
   abbrev keeps : Refusal → Outcome
-  keeps r = outcome (Refused r) index report
+  keeps r = outcome (Err r) index report
 
   abbrev Fate : Type 0
   Fate = Stated.Fate ch s from least tables index report
@@ -182,7 +178,7 @@ module _ (ch : Choices) (s : List ℕ) (from least : ℕ) (tables : Tables) (ind
         (ap (λ (g : Gathering). reading_by ch s from least tables index report g.places g.tested g.ending) (nothing_found (bits s) least 254 from none)),
   )
     where
-      by : Fate → result.answer ≡ Refused (Nowhere from (places_left (bits s) from)) → NonePasses (bits s) least from
+      by : Fate → result.answer ≡ Err (Nowhere from (places_left (bits s) from)) → NonePasses (bits s) least from
       by (wrong_tables w e) f = absurd (w right.0)
       by (negative_threshold k h n e) f = absurd (true_false (sym n.1 ∙ right.1 k n.0))
       by (range ts w e) f = absurd (true_false (sym er ∙ w))
@@ -194,7 +190,7 @@ module _ (ch : Choices) (s : List ℕ) (from least : ℕ) (tables : Tables) (ind
           let h = g.1.1 in
           let z : ◌≡◌ {A = ℕ} 0 1 = cc in absurd (omega arith)
 
-  pub success : (c : Counted) → result.answer ≡ Read c → Success c
+  pub success : (c : Counted) → result.answer ≡ Ok c → Success c
   success c f = by fate
     where
       other : (r : Refusal) → result ≡ keeps r → Success c
@@ -225,7 +221,7 @@ module _ (ch : Choices) (s : List ℕ) (from least : ℕ) (tables : Tables) (ind
             all_taken = λ u le inside passes. taken (bits s) least u inside passes most_multiframes from le (subst Ends (sym w) tt);
           }
 
-  pub comes : (r : Refusal) → result.answer ≡ Refused r → Comes r
+  pub comes : (r : Refusal) → result.answer ≡ Err r → Comes r
   comes r f = by fate
     where
       same : (x : Refusal) → result ≡ keeps x → Comes x → Comes r
@@ -265,16 +261,16 @@ module _ (ch : Choices) (s : List ℕ) (from least : ℕ) (tables : Tables) (ind
       of_late (RR.ReportShort n) l = (λ e. omega arith, λ e. omega arith, λ e. omega arith)
       of_late RR.AllBad l = (λ e. omega arith, λ e. omega arith, λ e. omega arith)
 
-  pub never_12_to_14 : (r : Refusal) → result.answer ≡ Refused r → (hunting_number r ≡ 12 → ⊥) × (hunting_number r ≡ 13 → ⊥) × (hunting_number r ≡ 14 → ⊥)
+  pub never_12_to_14 : (r : Refusal) → result.answer ≡ Err r → (hunting_number r ≡ 12 → ⊥) × (hunting_number r ≡ 13 → ⊥) × (hunting_number r ≡ 14 → ⊥)
   never_12_to_14 r f = number_comes r (comes r f)
 
   -- and the octet reader's 15 never comes, so that no number of an answer stands for two cases
-  pub never_octet_15 : (r : Refusal) → result.answer ≡ Refused r → (p : ℕ) → r ≡ Octets (RR.TooMany p) → ⊥
+  pub never_octet_15 : (r : Refusal) → result.answer ≡ Err r → (p : ℕ) → r ≡ Octets (RR.TooMany p) → ⊥
   never_octet_15 r f p e = never (subst Comes e (comes r f))
     where
       never : Comes (Octets (RR.TooMany p)) → ⊥
       never (inl h) = h
       never (inr l) = l
 
-  pub one_case : (r q : Refusal) → result.answer ≡ Refused r → hunting_number r ≡ hunting_number q → hunting_of (hunting_number q) (hunting_place r) (hunting_tested r) ≡ r
+  pub one_case : (r q : Refusal) → result.answer ≡ Err r → hunting_number r ≡ hunting_number q → hunting_of (hunting_number q) (hunting_place r) (hunting_tested r) ≡ r
   one_case r q f e = hunting_one_case r q (never_octet_15 r f) e

@@ -1,6 +1,6 @@
 -- Literal examples of the hunting reading: numbers, places and their order, which no law would notice if definition and code were changed alike.
 -- Assumes nothing.
-use Rattle.std.specs.Prelude.{◌≡◌, refl, List, [], ◌∷◌, ◌++◌, ℤ, pos, negsuc, replicate}
+use Rattle.std.specs.Prelude.{◌≡◌, refl, List, [], ◌∷◌, ◌++◌, ℤ, pos, negsuc, replicate, Err}
 use Rattle.choices.specs.declared.Choices.{Choices}
 use Rattle.bits.specs.Bits.{fields}
 use Rattle.lists.specs.Search.{first_from}
@@ -11,7 +11,6 @@ use Rattle.gathering.specs.Gathering.{gathering}
 use Rattle.hunting.specs.Hunting.{outcome, reading_found, hunting_reading}
 use Rattle.refusals.specs.Refusals.{hunting_number, hunting_place}
 use Rattle.refusals.specs.declared.Hunting.TheVariants.{Octets, MatchRange, Nowhere, TooMany}
-use Rattle.hunting.specs.declared.Answer.TheVariants.{Refused}
 
 -- tables of zeros
 abbrev pub book : List ℤ
@@ -43,14 +42,14 @@ pub record Table (ch : Choices) : Type 0 where
   pub number_22 : hunting_number (Nowhere 5 9) ≡ 22
   pub place_22 : hunting_place (Nowhere 5 9) ≡ 5
   -- "11 still comes first", then 10 (02, C-12), then 21, then 22: nothing received, searched from bit 5 on
-  pub first_11 : hunting_reading ch [] 5 17 (tables_of book []) [] [] ≡ outcome (Refused (Octets RR.WrongTables)) [] []
-  pub first_11_too : hunting_reading ch [] 5 17 (tables_of [] limits) [] [] ≡ outcome (Refused (Octets RR.WrongTables)) [] []
-  pub first_11_still : hunting_reading ch [] 5 17 (tables_of [] fallen) [] [] ≡ outcome (Refused (Octets RR.WrongTables)) [] []
-  pub then_10 : hunting_reading ch [] 5 17 (tables_of book fallen) [] [] ≡ outcome (Refused (Octets (RR.NegativeThreshold 5))) [] []
-  pub then_10_low : hunting_reading ch [] 5 11 (tables_of book fallen) [] [] ≡ outcome (Refused (Octets (RR.NegativeThreshold 5))) [] []
-  pub ten_before_22 : hunting_reading ch [] 5 16 (tables_of book (replicate 13 (pos 0) ++ (negsuc 0 ∷ []))) [] [] ≡ outcome (Refused (Octets (RR.NegativeThreshold 13))) [] []
-  pub then_21 : hunting_reading ch [] 5 17 (tables_of book limits) [] [] ≡ outcome (Refused (MatchRange 17)) [] []
-  pub then_22 : hunting_reading ch [] 5 16 (tables_of book limits) [] [] ≡ outcome (Refused (Nowhere 5 0)) [] []
+  pub first_11 : hunting_reading ch [] 5 17 (tables_of book []) [] [] ≡ outcome (Err (Octets RR.WrongTables)) [] []
+  pub first_11_too : hunting_reading ch [] 5 17 (tables_of [] limits) [] [] ≡ outcome (Err (Octets RR.WrongTables)) [] []
+  pub first_11_still : hunting_reading ch [] 5 17 (tables_of [] fallen) [] [] ≡ outcome (Err (Octets RR.WrongTables)) [] []
+  pub then_10 : hunting_reading ch [] 5 17 (tables_of book fallen) [] [] ≡ outcome (Err (Octets (RR.NegativeThreshold 5))) [] []
+  pub then_10_low : hunting_reading ch [] 5 11 (tables_of book fallen) [] [] ≡ outcome (Err (Octets (RR.NegativeThreshold 5))) [] []
+  pub ten_before_22 : hunting_reading ch [] 5 16 (tables_of book (replicate 13 (pos 0) ++ (negsuc 0 ∷ []))) [] [] ≡ outcome (Err (Octets (RR.NegativeThreshold 13))) [] []
+  pub then_21 : hunting_reading ch [] 5 17 (tables_of book limits) [] [] ≡ outcome (Err (MatchRange 17)) [] []
+  pub then_22 : hunting_reading ch [] 5 16 (tables_of book limits) [] [] ≡ outcome (Err (Nowhere 5 0)) [] []
 
 pub table : (ch : Choices) → Table ch
 unfolding hunting_reading admission sizes_right first_from reading_found in_range gathering found misses fields

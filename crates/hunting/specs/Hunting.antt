@@ -1,6 +1,6 @@
 -- The hunting reading (02, C-13): what was found is read as 01 says.
 -- Assumes nothing.
-use Rattle.std.specs.Prelude.{ℕ, List, [], ◌∷◌, length}
+use Rattle.std.specs.Prelude.{ℕ, List, [], ◌∷◌, length, Ok, Err}
 use Rattle.lists.specs.Tests.{when}
 use Rattle.layout.specs.Layout.{most_multiframes}
 use Rattle.choices.specs.declared.Choices.{Choices}
@@ -9,12 +9,10 @@ use Rattle.bits.specs.Bits.{bits}
 use Rattle.hunt.specs.Hunt.{in_range}
 use Rattle.gathering.specs.Gathering.{Ending, whole, too_many, Gathering, gathering, outside_of, image_of}
 use Rattle.reader.specs.Reading as R
-use Rattle.reader.specs.declared.Answer.TheVariants as Ra
-use Rattle.reader.specs.declared.Answer.{Answer as OctetAnswer}
+use Rattle.reader.specs.Types.{Answer as OctetAnswer}
 use Rattle.refusals.specs.declared.Hunting.{Hunting as Refusal}
 use Rattle.refusals.specs.declared.Hunting.TheVariants.{Octets, MatchRange, Nowhere, TooMany}
-use Rattle.hunting.specs.declared.Answer.{Answer}
-use Rattle.hunting.specs.declared.Answer.TheVariants.{Read, Refused}
+use Rattle.hunting.specs.Types.{Answer}
 
 pub record Outcome : Type 0 where
   pub answer : Answer
@@ -26,15 +24,15 @@ outcome a i r = record { answer = a; index = i; report = r }
 
 -- the octet reader's answer, with the bits outside and the places tested
 abbrev pub with_counts : OctetAnswer → ℕ → ℕ → Answer
-with_counts (Ra.Read s) n t = Read (record { summary = s; outside = n; tested = t })
-with_counts (Ra.Refused r) n t = Refused (Octets r)
+with_counts (Ok s) n t = Ok (record { summary = s; outside = n; tested = t })
+with_counts (Err r) n t = Err (Octets r)
 
 abbrev pub counted : R.Outcome → ℕ → ℕ → Outcome
 counted o n t = outcome (with_counts o.answer n t) o.index o.report
 
 module _ (ch : Choices) (s : List ℕ) (from least : ℕ) (tables : Tables) (index report : List ℕ) where
   abbrev pub refuse : Refusal → Outcome
-  refuse r = outcome (Refused r) index report
+  refuse r = outcome (Err r) index report
 
   -- 22: nothing found by the first hunt. 15: a match after 255 multiframes. Else what was found is read as 01 says
   abbrev pub reading_by : List ℕ → ℕ → Ending → Outcome

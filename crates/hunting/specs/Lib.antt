@@ -1,3 +1,4 @@
+pub mod Types
 pub mod Hunting
 pub mod Says
 pub mod Once

@@ -1,6 +1,6 @@
 -- What the laws of the hunting reading say leaves only one answer: the places, and with them the count, the bits outside and the places tested.
 -- Assumes nothing.
-use Rattle.std.specs.Prelude.{ℕ, ◌≡◌, List, false}
+use Rattle.std.specs.Prelude.{ℕ, ◌≡◌, List, false, Err}
 use Rattle.std.proofs.Common.{sym, ◌∙◌, arith}
 use Rattle.layout.specs.Layout.{most_multiframes}
 use Rattle.choices.specs.declared.Choices.{Choices}
@@ -16,7 +16,6 @@ use Rattle.hunting.specs.Hunting.{Outcome, outcome, hunting_reading}
 use Rattle.hunting.specs.Says.{Success}
 use Rattle.hunting.specs.declared.Counted.{Counted}
 use Rattle.refusals.specs.declared.Hunting.TheVariants.{Octets, MatchRange}
-use Rattle.hunting.specs.declared.Answer.TheVariants.{Refused}
 
 module _ (ch : Choices) (s : List ℕ) (from least : ℕ) (tables : Tables) (index report : List ℕ) where
   abbrev result : Outcome
@@ -40,16 +39,16 @@ module _ (ch : Choices) (s : List ℕ) (from least : ℕ) (tables : Tables) (ind
   )
 
   -- 11 COMES FIRST, whatever T is and whatever was received
-  pub tables_first : (RightSizes tables → ⊥) → result ≡ outcome (Refused (Octets RR.WrongTables)) index report
+  pub tables_first : (RightSizes tables → ⊥) → result ≡ outcome (Err (Octets RR.WrongTables)) index report
   unfolding hunting_reading
   tables_first n = rw (wrong_sizes tables n)
 
   -- THEN 10 (02, C-12), whatever T is and whatever was received
-  pub negative_next : (k : ℕ) → RightSizes tables → FirstNegative tables k → result ≡ outcome (Refused (Octets (RR.NegativeThreshold k))) index report
+  pub negative_next : (k : ℕ) → RightSizes tables → FirstNegative tables k → result ≡ outcome (Err (Octets (RR.NegativeThreshold k))) index report
   unfolding hunting_reading
   negative_next k h f = rw (negative_refused tables k h f)
 
   -- THEN 21, whatever was received
-  pub range_next : RightTables tables → in_range least ≡ false → result ≡ outcome (Refused (MatchRange least)) index report
+  pub range_next : RightTables tables → in_range least ≡ false → result ≡ outcome (Err (MatchRange least)) index report
   unfolding hunting_reading
   range_next right e = rw (right_passes tables right, e)

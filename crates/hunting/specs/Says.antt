@@ -1,6 +1,6 @@
 -- What the laws of a hunting reading speak of: how it ends, what a success says, and which refusals come.
 -- Assumes nothing.
-use Rattle.std.specs.Prelude.{ℕ, ◌+◌, ◌-◌, ◌*◌, ◌≤◌, ◌<◌, ◌⊎◌, List, true, false, length}
+use Rattle.std.specs.Prelude.{ℕ, ◌+◌, ◌-◌, ◌*◌, ◌≤◌, ◌<◌, ◌⊎◌, List, true, false, length, Ok, Err}
 use Rattle.std.proofs.Math.Path.{◌≡◌}
 use Rattle.layout.specs.Layout.{most_multiframes}
 use Rattle.choices.specs.declared.Choices.{Choices}
@@ -12,7 +12,6 @@ use Rattle.hunt.specs.Hunt.{multiframe_bits, in_range, searched, passes, places_
 use Rattle.reader.specs.Reading as R
 use Rattle.refusals.specs.declared.Reading.{Reading as OctetRefusal}
 use Rattle.refusals.specs.declared.Reading.TheVariants as RR
-use Rattle.reader.specs.declared.Answer.TheVariants as Ra
 use Rattle.gathering.specs.Gathering.{whole, too_many, Gathering, gathering, outside_of, image_of}
 use Rattle.gathering.specs.Laws.{Among, Overlapped, Apart}
 use Rattle.gathering.specs.Says.{NonePasses, Tested, Beyond}
@@ -20,7 +19,6 @@ use Rattle.hunting.specs.Hunting.{counted, Outcome, outcome, hunting_reading}
 use Rattle.hunting.specs.declared.Counted.{Counted}
 use Rattle.refusals.specs.declared.Hunting.{Hunting as Refusal}
 use Rattle.refusals.specs.declared.Hunting.TheVariants.{Octets, MatchRange, Nowhere, TooMany}
-use Rattle.hunting.specs.declared.Answer.TheVariants.{Refused}
 
 -- ---- so the octet reader refuses it with 16 to 20 only
 abbrev pub Late : OctetRefusal → Type 0
@@ -44,7 +42,7 @@ module _ (ch : Choices) (s : List ℕ) (from least : ℕ) (tables : Tables) (ind
   result = hunting_reading ch s from least tables index report
 
   abbrev keeps : Refusal → Outcome
-  keeps r = outcome (Refused r) index report
+  keeps r = outcome (Err r) index report
 
   -- HOW IT ENDS: each case says that the tests before it passed
   pub data Fate : Type 0 where
@@ -59,7 +57,7 @@ module _ (ch : Choices) (s : List ℕ) (from least : ℕ) (tables : Tables) (ind
   -- A SUCCESS, and what it says
   pub record Success (c : Counted) : Type 0 where
     -- it is the octet reader's of the multiframes found, put together
-    pub as_01_says : R.reading ch (image_of s found.places) tables index report ≡ R.outcome (Ra.Read c.summary) result.index result.report
+    pub as_01_says : R.reading ch (image_of s found.places) tables index report ≡ R.outcome (Ok c.summary) result.index result.report
     pub count : c.summary.multiframes ≡ length found.places
     pub some : 0 < length found.places
     pub few : length found.places ≤ most_multiframes

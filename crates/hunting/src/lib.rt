@@ -9,7 +9,7 @@ ghost use Rattle.reader.specs.Reading.{reading};
 ghost use Rattle.hunting.specs.Hunting.{counted, outcome, reading_found, hunting_reading};
 
 use choices::Choices;
-use gathering::Gathered;
+use gathering::{TooMany, Whole};
 use layout::{MultiframeLayout, UtteranceLayout};
 use reader::Summary;
 use refusals::Hunting;
@@ -26,12 +26,6 @@ pub struct Counted {
     pub tested: usize,
 }
 
-#[derive(Clone, Copy)]
-pub enum Answer {
-    Read(Counted),
-    Refused(Hunting),
-}
-
 // The first multiframes of the image, as many as were found, are read by the octet reader.
 fn read_front(
     image: &[u8],
@@ -43,7 +37,7 @@ fn read_front(
     thresholds: &[i32],
     index: &mut [u8],
     report: &mut [u8],
-) -> Answer
+) -> Result<Counted, Hunting>
     requires { (count ≤ most_multiframes) × (multiframe_octets * most_multiframes ≤ length image.now) }
     ensures { outcome result index.new report.new
         ≡ counted (reading choices (take (multiframe_octets * count) image.now) (tables_of codebook.now thresholds.now) index.old report.old)
@@ -51,12 +45,12 @@ fn read_front(
 {
     let end = MultiframeLayout::OCTETS * count;
     match reader::read(&image[..end], choices, codebook, thresholds, index, report) {
-        reader::Answer::Read(summary) => Answer::Read(Counted {
+        Ok(summary) => Ok(Counted {
             summary,
             outside,
             tested,
         }),
-        reader::Answer::Refused(r) => Answer::Refused(Hunting::Octets(r)),
+        Err(r) => Err(Hunting::Octets(r)),
     }
 }
 
@@ -71,17 +65,17 @@ fn read_found(
     thresholds: &[i32],
     index: &mut [u8],
     report: &mut [u8],
-) -> Answer
+) -> Result<Counted, Hunting>
     requires { least ≤ sync_bits }
     ensures { outcome result index.new report.new
         ≡ reading_found choices octets.now from least (tables_of codebook.now thresholds.now) index.old report.old }
 {
     let mut image = [0u8; IMAGE];
     match gathering::gather(octets, from, least, &mut image) {
-        Gathered::TooMany { place } => Answer::Refused(Hunting::TooMany { place }),
-        Gathered::Whole { count, tested } => {
+        Err(TooMany { place }) => Err(Hunting::TooMany { place }),
+        Ok(Whole { count, tested }) => {
             if count == 0 {
-                return Answer::Refused(Hunting::Nowhere { from, tested });
+                return Err(Hunting::Nowhere { from, tested });
             }
             read_front(
                 &image,
@@ -109,17 +103,17 @@ pub fn read(
     thresholds: &[i32],
     index: &mut [u8],
     report: &mut [u8],
-) -> Answer
+) -> Result<Counted, Hunting>
     ensures { outcome result index.new report.new
         ≡ hunting_reading choices octets.now from least (tables_of codebook.now thresholds.now) index.old report.old }
 {
     if let Admission::Refused(r) = tables::admit(codebook, thresholds) {
-        return Answer::Refused(Hunting::Octets(r));
+        return Err(Hunting::Octets(r));
     }
     if hunt::in_range(least) {
         return read_found(
             octets, from, least, choices, codebook, thresholds, index, report,
         );
     }
-    Answer::Refused(Hunting::MatchRange { least })
+    Err(Hunting::MatchRange { least })
 }

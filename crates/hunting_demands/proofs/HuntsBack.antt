@@ -3,7 +3,7 @@
 -- and read with the same settings, frames and count, and each header's note is the number of bits flipped there: of two multiframes or more, or of one
 -- whose header is untouched where the caller asks for the old rule (02, C-20). By default one multiframe is refused.
 -- Assumes nothing.
-use Rattle.std.specs.Prelude.{ℕ, ◌*◌, ◌/◌, ◌≤◌, ◌<◌, ◌≡◌, refl, List, ◌∷◌, Bool, true, false, length, replicate}
+use Rattle.std.specs.Prelude.{ℕ, ◌*◌, ◌/◌, ◌≤◌, ◌<◌, ◌≡◌, refl, List, ◌∷◌, Bool, true, false, length, replicate, Err}
 use Rattle.std.proofs.Common.{sym, ap, ◌∙◌, subst, inl, inr, ⊎_elim, arith, lit<}
 use Rattle.std.specs.Int.Bits.{bit_xor, xor_self}
 use Rattle.std.specs.Int.Count.{ones}
@@ -23,7 +23,6 @@ use Rattle.reader.specs.Reading as R
 use Rattle.gathering.specs.Gathering.{image_of as foundImage, outside_of}
 use Rattle.hunting.specs.Hunting as G
 use Rattle.hunting.specs.Hunting.{counted, outcome, hunting_reading}
-use Rattle.hunting.specs.declared.Answer.TheVariants.{Refused}
 use Rattle.refusals.specs.declared.Reading.TheVariants.{Unsettled}
 use Rattle.refusals.specs.declared.Hunting.TheVariants.{Octets}
 use Rattle.image.specs.Made.{word_in, packet_in}
@@ -127,7 +126,7 @@ module _ (ch : Choices) (u : Utterance) (s : List ℕ) (from at least : ℕ) (ta
 
   -- BY DEFAULT ONE MULTIFRAME, wherever it stands, touched or not, settles nothing: 16 (02, C-20)
   pub one_refused : one_settles ch ≡ false → multiframes_of u ≡ 1 → ((q : Premise) → (q ≡ Settled → ⊥) → Holds q)
-      → hunting_reading ch s from least tables index report ≡ outcome (Refused (Octets Unsettled)) index report
+      → hunting_reading ch s from least tables index report ≡ outcome (Err (Octets Unsettled)) index report
   one_refused default one p =
       let n = multiframes_of u in
       let g = foundImage s (row at n) in
@@ -187,7 +186,7 @@ module _ (ch : Choices) (u : Utterance) (s : List ℕ) (from least : ℕ) (front
 
       -- and one multiframe, by default: 16
       pub one_shifted_refused : (dh : Choices) → one_settles dh ≡ false → multiframes_of u ≡ 1
-          → hunting_reading dh s from least tables index report ≡ outcome (Refused (Octets Unsettled)) index report
+          → hunting_reading dh s from least tables index report ≡ outcome (Err (Octets Unsettled)) index report
       one_shifted_refused dh default one = one_refused dh u s from (length front) least tables index report default one others
         where
           others : (q : Premise) → (q ≡ Settled → ⊥) → Holds dh u s from (length front) least tables index report q

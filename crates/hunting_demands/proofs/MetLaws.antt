@@ -2,7 +2,7 @@
 -- header, and zeros in front and behind; and by every utterance at bit 3, undamaged, if it has two multiframes or
 -- the caller asks for the old rule (02, C-20).
 -- Assumes nothing.
-use Rattle.std.specs.Prelude.{ℕ, zero, suc, ◌+◌, ◌-◌, ◌*◌, ◌≤◌, ◌<◌, ◌≡◌, refl, List, ◌∷◌, ◌++◌, Bool, true, false, length, take, drop, replicate}
+use Rattle.std.specs.Prelude.{ℕ, zero, suc, ◌+◌, ◌-◌, ◌*◌, ◌≤◌, ◌<◌, ◌≡◌, refl, List, ◌∷◌, ◌++◌, Bool, true, false, length, take, drop, replicate, Ok}
 use Rattle.std.proofs.Common.{sym, ap₂, ◌∙◌, subst, inl, inr, le_of_eq, arith, length-append, take-append-drop, take-add, take_at}
 use Rattle.std.proofs.Math.Path.{ap}
 use Rattle.std.specs.Int.Count.{ones, ones_in}
@@ -21,7 +21,6 @@ use Rattle.hunt.specs.Hunt.{sync_bits, multiframe_bits, fewest_matches, sync, ma
 use Rattle.hunt.proofs.Laws.{searched_all}
 use Rattle.gathering.specs.Gathering.{outside_of}
 use Rattle.hunting.specs.Hunting.{Outcome, outcome, hunting_reading}
-use Rattle.hunting.specs.declared.Answer.TheVariants.{Read}
 use Rattle.image.proofs.Laws.{length_image, image_sync}
 use Rattle.writer.proofs.Laws.{few_multiframes}
 use Rattle.writer.specs.Utterance.{Utterance, multiframes_of, image_of}
@@ -133,7 +132,7 @@ module _ (u : Utterance) where
     -- and 59 places were tested: three before them, their two, and the 54 behind them with a multiframe's bits left
     pub two_hunted : (ch : Choices) → multiframes_of u ≡ 2 → Lent (multiframes_of u) tables index report
         → hunting_reading ch carried_octets 0 fewest_matches tables index report
-        ≡ outcome (Read (record { summary = spoken u; outside = 1208; tested = 59 })) (over index 0 (index_octets * 2) (padded u))
+        ≡ outcome (Ok (record { summary = spoken u; outside = 1208; tested = 59 })) (over index 0 (index_octets * 2) (padded u))
         (over report 0 (report_octets * 2) ((2 ∷ replicate multiframe_pairs 0) ++ (2 ∷ replicate multiframe_pairs 0)))
     two_hunted ch two lent =
         let n = H.searched_are u three_zeros (λ k. worst_sync) (λ k. 3) many_zeros 151 fits in
@@ -142,11 +141,11 @@ module _ (u : Utterance) where
         hunts_back ch u carried_octets 0 3 fewest_matches tables index report (hunts_back_met ch (le_of_eq (sym two)) lent)
         ∙ same_notes ch u carried_octets 0 3 fewest_matches tables index report (received_flips u carried_octets 3) (λ k. 2) two_flips
         ∙ ap₂
-        (λ (a b : ℕ). outcome (Read (record { summary = spoken u; outside = a; tested = b })) (over index 0 (index_octets * m) (padded u))
+        (λ (a b : ℕ). outcome (Ok (record { summary = spoken u; outside = a; tested = b })) (over index 0 (index_octets * m) (padded u))
         (over report 0 (report_octets * m) (joined (λ k. 2 ∷ replicate multiframe_pairs 0) m)))
         out tested
         ∙ ap
-        (λ (n : ℕ). outcome (Read (record { summary = spoken u; outside = 1208; tested = 59 })) (over index 0 (index_octets * n) (padded u))
+        (λ (n : ℕ). outcome (Ok (record { summary = spoken u; outside = 1208; tested = 59 })) (over index 0 (index_octets * n) (padded u))
         (over report 0 (report_octets * n) (joined (λ k. 2 ∷ replicate multiframe_pairs 0) n)))
         two
 
@@ -171,20 +170,20 @@ module _ (ch : Choices) (u : Utterance) (two : multiframes_of u ≡ 2) (tables :
   from_2 TablesAndRoom = lent
 
   pub hunted_from_2 : (hunting_reading ch (carried_octets u) 2 fewest_matches tables index report).answer
-      ≡ Read (record { summary = spoken u; outside = 1206; tested = 57 })
+      ≡ Ok (record { summary = spoken u; outside = 1206; tested = 57 })
   hunted_from_2 =
       let n = H.searched_are u three_zeros (λ k. worst_sync) (λ k. 3) many_zeros 151 (fits u) in
       let out : outside_of (bits there) 2 (multiframes_of u) ≡ 1206 = omega arith in
       let tested : tested_in_row (bits there) 2 3 (multiframes_of u) ≡ 57 = omega arith in
       ap (λ (o : Outcome). o.answer) (hunts_back ch u there 2 3 fewest_matches tables index report from_2)
-      ∙ ap₂ (λ (a b : ℕ). Read (record { summary = spoken u; outside = a; tested = b })) out tested
+      ∙ ap₂ (λ (a b : ℕ). Ok (record { summary = spoken u; outside = a; tested = b })) out tested
 
 -- ---- and there is such an utterance
 pub met_says24 : (ch : Choices) → Premises ch says24 (carried_octets says24) 0 3 fewest_matches zero_tables index24 report24
 met_says24 ch = hunts_back_met says24 zero_tables index24 report24 ch (le_of_eq (sym two_multiframes)) (lent_zeros (multiframes_of says24))
 
 pub hunts_says24 : (ch : Choices) → (hunting_reading ch (carried_octets says24) 0 fewest_matches zero_tables index24 report24).answer
-    ≡ Read (record { summary = spoken says24; outside = 1208; tested = 59 })
+    ≡ Ok (record { summary = spoken says24; outside = 1208; tested = 59 })
 hunts_says24 ch = ap (λ (o : Outcome). o.answer) (two_hunted says24 zero_tables index24 report24 ch two_multiframes (lent_zeros (multiframes_of says24)))
 
 -- ---- THE SHIFTED IMAGE: every utterance's, behind three zeros and before five
@@ -225,7 +224,7 @@ module _ (u : Utterance) where
   pub one_shifted : (ch : Choices) → one_settles ch ≡ true → multiframes_of u ≡ 1 → (least : ℕ) → fewest_matches ≤ least → least ≤ sync_bits → (tables : Tables) (index report : List ℕ)
       → Lent (multiframes_of u) tables index report
       → hunting_reading ch shifted_octets 0 least tables index report
-      ≡ outcome (Read (record { summary = spoken u; outside = 8; tested = 4 })) (over index 0 index_octets (padded u)) (over report 0 report_octets (replicate report_octets 0))
+      ≡ outcome (Ok (record { summary = spoken u; outside = 8; tested = 4 })) (over index 0 index_octets (padded u)) (over report 0 report_octets (replicate report_octets 0))
   one_shifted ch asked one least low high tables index report lent =
       let same : bits shifted_octets ≡ three_zeros ++ (bits (image_of u) ++ five_zeros) =
       bits_octets (1 + multiframe_octets * multiframes_of u) (three_zeros ++ (bits (image_of u) ++ five_zeros)) shifted_size in
@@ -235,10 +234,10 @@ module _ (u : Utterance) where
       let tested : tested_in_row (bits shifted_octets) 0 3 (multiframes_of u) ≡ 4 = omega arith in
       hunts_shifted ch u shifted_octets 0 least three_zeros five_zeros (shifted_met ch least low) (inr asked) tables index report low high lent
       ∙ ap₂
-      (λ (a b : ℕ). outcome (Read (record { summary = spoken u; outside = a; tested = b })) (over index 0 (index_octets * multiframes_of u) (padded u))
+      (λ (a b : ℕ). outcome (Ok (record { summary = spoken u; outside = a; tested = b })) (over index 0 (index_octets * multiframes_of u) (padded u))
       (over report 0 (report_octets * multiframes_of u) (joined (λ k. 0 ∷ replicate multiframe_pairs 0) (multiframes_of u))))
       out tested
       ∙ ap
-      (λ (n : ℕ). outcome (Read (record { summary = spoken u; outside = 8; tested = 4 })) (over index 0 (index_octets * n) (padded u))
+      (λ (n : ℕ). outcome (Ok (record { summary = spoken u; outside = 8; tested = 4 })) (over index 0 (index_octets * n) (padded u))
       (over report 0 (report_octets * n) (joined (λ k. 0 ∷ replicate multiframe_pairs 0) n)))
       one

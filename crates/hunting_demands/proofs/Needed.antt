@@ -1,6 +1,6 @@
 -- Why the premises of HUNTS BACK are there: with all the others met, this is what happens where one is not.
 -- Assumes nothing.
-use Rattle.std.specs.Prelude.{ℕ, zero, suc, ◌+◌, ◌*◌, ◌^◌, ◌≤◌, ◌<◌, ◌≡◌, refl, List, [], ◌∷◌, ◌++◌, Bool, true, false, get_or, replicate}
+use Rattle.std.specs.Prelude.{ℕ, zero, suc, ◌+◌, ◌*◌, ◌^◌, ◌≤◌, ◌<◌, ◌≡◌, refl, List, [], ◌∷◌, ◌++◌, Bool, true, false, get_or, replicate, Some, None, Err}
 use Rattle.std.proofs.Common.{sym, ap, ap₂, ◌∙◌, append-nil, inl, inr, ⊎_elim, le_of_eq, arith, lit<, length-append, take_at, get_or-take}
 use Rattle.std.proofs.Math.Path.{subst}
 use Rattle.std.specs.Int.Bits.{bit_xor}
@@ -33,24 +33,20 @@ use Rattle.message.specs.Message.Laws.{message_lt, rate_back, common_rate}
 use Rattle.header.specs.Reading.{decoded_as, reading}
 use Rattle.header.proofs.Laws.{mended}
 use Rattle.header.specs.declared.Decoded.{Decoded}
-use Rattle.header.specs.declared.Header.{Header}
-use Rattle.header.specs.declared.Header.TheVariants.{Codeword}
+use Rattle.header.specs.Types.{Header}
 use Rattle.header_readings.specs.Readings.{readings}
 use Rattle.settling.specs.Settling.{settling, first_agreeing}
 use Rattle.header_readings.specs.Laws.{length_readings}
 use Rattle.settling.proofs.Laws.{one_default, two_or_more, only_clean, only_mended}
 use Rattle.unfit.specs.Laws.{Usable, fit_is}
-use Rattle.settling.specs.declared.Settlement.TheVariants as S
 use Rattle.hunt.specs.Hunt.{sync_bits, header_bits, multiframe_bits, fewest_matches, in_range, sync, matches, passes, searched, places_left}
 use Rattle.hunt.proofs.Laws.{searched_all, in_range_lem}
 use Rattle.deciding.specs.Deciding.{room_verdict, settled_verdict, whole_verdict}
 use Rattle.reader.specs.Reading as R
-use Rattle.reader.specs.declared.Answer.TheVariants as Ra
 use Rattle.refusals.specs.declared.Reading.TheVariants.{Unsettled, IndexShort}
 use Rattle.gathering.specs.Gathering.{image_of as foundImage, outside_of}
 use Rattle.hunting.specs.Hunting.{counted, Outcome, outcome, hunting_reading}
 use Rattle.hunting.proofs.Says.{nowhere_exactly}
-use Rattle.hunting.specs.declared.Answer.TheVariants.{Refused}
 use Rattle.refusals.specs.declared.Hunting.TheVariants.{Octets, MatchRange, Nowhere}
 use Rattle.image.specs.Made.{sync_in, word_in, packet_in, made_packet}
 use Rattle.image.proofs.Laws.{image_packet}
@@ -106,16 +102,16 @@ module _ (ch : Choices) (u : Utterance) (front : List Bool) (y : ℕ → List Bo
 
 -- ---- where the headers found settle nothing, the hunting reader gives the octet reader's 16
 -- two headers with different common bits settle nothing
-unlike : (ch : Choices) (a b : Decoded) → (common_bits b.message ≡ common_bits a.message → ⊥) → settling ch (Codeword a ∷ Codeword b ∷ []) ≡ S.Unsettled
+unlike : (ch : Choices) (a b : Decoded) → (common_bits b.message ≡ common_bits a.message → ⊥) → settling ch (Some a ∷ Some b ∷ []) ≡ None
 unfolding first_agreeing
-unlike ch a b differ = two_or_more ch (Codeword a ∷ Codeword b ∷ []) (lit≤ tt) ∙ rw (ne_eqb (common_bits b.message) (common_bits a.message) differ)
+unlike ch a b differ = two_or_more ch (Some a ∷ Some b ∷ []) (lit≤ tt) ∙ rw (ne_eqb (common_bits b.message) (common_bits a.message) differ)
 
 module _ (ch : Choices) (s : List ℕ) (from at least m : ℕ) (r : InARow (bits s) from at least m) (some : 0 < m) (few : m ≤ most_multiframes)
     (low : fewest_matches ≤ least) (high : least ≤ sync_bits) (tables : Tables) (index report : List ℕ) (lent : Lent m tables index report) where
   abbrev got : List ℕ
   got = foundImage s (row at m)
 
-  unsettled : settling ch (readings got (row_of m)) ≡ S.Unsettled → hunting_reading ch s from least tables index report ≡ outcome (Refused (Octets Unsettled)) index report
+  unsettled : settling ch (readings got (row_of m)) ≡ None → hunting_reading ch s from least tables index report ≡ outcome (Err (Octets Unsettled)) index report
   unsettled e =
       reads_in_a_row ch s from least tables index report low high lent.right_tables at m r some few
       ∙ ap (λ (o : R.Outcome). counted o (outside_of (bits s) from m) (tested_in_row (bits s) from at m))
@@ -125,15 +121,15 @@ module _ (ch : Choices) (s : List ℕ) (from at least m : ℕ) (r : InARow (bits
   header_found k h = ap reading (image_word s at m r.inside k h)
 
   -- so with an only header that was mended
-  mended_alone : (d : Decoded) → m ≡ 1 → reading (word_at (bits s) (place_in_row at 0)) ≡ Codeword d → (d.flips ≡ 0 → ⊥)
-      → hunting_reading ch s from least tables index report ≡ outcome (Refused (Octets Unsettled)) index report
+  mended_alone : (d : Decoded) → m ≡ 1 → reading (word_at (bits s) (place_in_row at 0)) ≡ Some d → (d.flips ≡ 0 → ⊥)
+      → hunting_reading ch s from least tables index report ≡ outcome (Err (Octets Unsettled)) index report
   mended_alone d one e touched =
       unsettled (ap (settling ch) (readings_are got m ∙ ap (each (λ k. reading (word_in got k))) one) ∙ ap (λ (h : Header). settling ch (h ∷ [])) (header_found 0 some ∙ e)
       ∙ only_mended ch d touched)
 
   -- and with two of different common bits
-  two_differ : (a b : Decoded) → m ≡ 2 → reading (word_at (bits s) (place_in_row at 0)) ≡ Codeword a → reading (word_at (bits s) (place_in_row at 1)) ≡ Codeword b
-      → (common_bits b.message ≡ common_bits a.message → ⊥) → hunting_reading ch s from least tables index report ≡ outcome (Refused (Octets Unsettled)) index report
+  two_differ : (a b : Decoded) → m ≡ 2 → reading (word_at (bits s) (place_in_row at 0)) ≡ Some a → reading (word_at (bits s) (place_in_row at 1)) ≡ Some b
+      → (common_bits b.message ≡ common_bits a.message → ⊥) → hunting_reading ch s from least tables index report ≡ outcome (Err (Octets Unsettled)) index report
   two_differ a b two ea eb differ =
       unsettled (ap (settling ch) (readings_are got m ∙ ap (each (λ k. reading (word_in got k))) two)
       ∙ ap₂ (λ (h i : Header). settling ch (h ∷ i ∷ [])) (header_found 0 some ∙ ea) (header_found 1 (omega arith) ∙ eb) ∙ unlike ch a b differ)
@@ -142,8 +138,8 @@ module _ (ch : Choices) (s : List ℕ) (from at least m : ℕ) (r : InARow (bits
 module _ (ch : Choices) (s : List ℕ) (m : ℕ) (some : 0 < m) (few : m ≤ most_multiframes) (size : length s ≡ multiframe_octets * m)
     (syncs : (k : ℕ) → k < m → sync_in s k ≡ sync_first ∷ sync_second ∷ []) (tables : Tables) (index report : List ℕ)
     (right : RightTables tables) where
-  refuses_18 : (c : ℕ) → settling ch (readings s (row_of m)) ≡ S.Settled c → Usable c → length index < index_octets * m
-      → R.reading ch s tables index report ≡ R.outcome (Ra.Refused (IndexShort (index_octets * m))) index report
+  refuses_18 : (c : ℕ) → settling ch (readings s (row_of m)) ≡ Some c → Usable c → length index < index_octets * m
+      → R.reading ch s tables index report ≡ R.outcome (Err (IndexShort (index_octets * m))) index report
   unfolding R.reading R.verdict whole_verdict settled_verdict room_verdict
   refuses_18 c e u short =
       let k = every_length 0 m in
@@ -156,7 +152,7 @@ module _ (ch : Choices) (s : List ℕ) (m : ℕ) (some : 0 < m) (few : m ≤ mos
         fit_is c u,
         lt-ltb (length index) (index_octets * length (row_of m)) i,
       )
-      (ap (λ (n : ℕ). R.outcome (Ra.Refused (IndexShort (index_octets * n))) index report) k)
+      (ap (λ (n : ℕ). R.outcome (Err (IndexShort (index_octets * n))) index report) k)
 
 five_size : length five_sync ≡ sync_bits
 unfolding fields field
@@ -319,7 +315,7 @@ module _ (ch : Choices) (tables : Tables) (index report : List ℕ) where
           fails = λ h. omega (arith, h 0 (lit< tt));
           instead = (nowhere_exactly ch five_flips 0 fewest_matches tables index report lent.right_tables (in_range_lem fewest_matches (lit≤ tt) (lit≤ tt))).1
               (λ t a h. let z : t ≡ 0 = omega arith in ap (passes fewest_matches (bits five_flips)) z ∙ unlike_fails fewest_matches (bits five_flips) 0 few)
-              ∙ ap (λ (n : ℕ). outcome (Refused (Nowhere 0 n)) index report) one;
+              ∙ ap (λ (n : ℕ). outcome (Err (Nowhere 0 n)) index report) one;
         }
 
     -- of the clean image
@@ -352,7 +348,7 @@ module _ (ch : Choices) (tables : Tables) (index report : List ℕ) where
             index report right (sent_common says1)
             (ap (settling ch) (readings_are (foundImage clean1 (row 0 1)) 1) ∙ ap (λ (h : Header). settling ch (h ∷ []))
             (ap reading (image_word clean1 0 1 (clean_row least high).inside 0 (lit< tt)) ∙ H.mended_there says1 [] (λ k. sync) (λ k. 0) [] 0 clean_fits 0 (lit< tt) none_few)
-            ∙ only_clean ch (decoded_as (word_at (bits clean1) 0) (sent_message says1 0)) asked (H.near_there says1 [] (λ k. sync) (λ k. 0) [] 0 clean_fits 0 (lit< tt) ∙ no_ones) ∙ ap S.Settled (common_sent says1 0))
+            ∙ only_clean ch (decoded_as (word_at (bits clean1) 0) (sent_message says1 0)) asked (H.near_there says1 [] (λ k. sync) (λ k. 0) [] 0 clean_fits 0 (lit< tt) ∙ no_ones) ∙ ap Some (common_sent says1 0))
             (record { rate = λ e. rate_not_2 says1 (sym (rate_sent says1) ∙ e); exp = exp_sent says1 }) short);
       }
 
@@ -367,7 +363,7 @@ module _ (ch : Choices) (tables : Tables) (index report : List ℕ) where
               fails = λ h. omega arith;
               instead = (nowhere_exactly ch clean1 1 least tables index report lent.right_tables (in_range_lem least low high)).1
                   (λ t a h. absurd (omega arith))
-                  ∙ ap (λ (n : ℕ). outcome (Refused (Nowhere 1 n)) index report) none;
+                  ∙ ap (λ (n : ℕ). outcome (Err (Nowhere 1 n)) index report) none;
             }
 
         -- NONE BEFORE: a sync and a header with one flip in front of the image are taken for a multiframe, which swallows the true one: 16
@@ -375,7 +371,7 @@ module _ (ch : Choices) (tables : Tables) (index report : List ℕ) where
         none_before_needed =
             let f = start_fits in
             let size = H.searched_are says1 false_start (λ k. sync) (λ k. 0) [] 6 f in
-            let e : reading (word_at (bits swallowed) 0) ≡ Codeword (decoded_as flipped_word (sent_message says1 0)) =
+            let e : reading (word_at (bits swallowed) 0) ≡ Some (decoded_as flipped_word (sent_message says1 0)) =
             ap (λ (x : List Bool). reading (value x)) (H.front_there says1 false_start (λ k. sync) (λ k. 0) [] 6 f sync_bits header_bits (omega (arith, start_size)))
             ∙ ap reading (word_in_lem sync flipped_word [] sync_size flipped_lt) ∙ (mended (sent_message says1 0) 1 (message_lt (settings 0 0) 1 0) one_few).0 in
             let match : least ≤ matches (sync_at (bits swallowed) 0) sync =
@@ -399,7 +395,7 @@ module _ (ch : Choices) (tables : Tables) (index report : List ℕ) where
         let f = other_fits in
         let size = H.searched_are says1 [] (λ k. sync) (λ k. 0) other multiframe_octets f in
         let first = H.mended_there says1 [] (λ k. sync) (λ k. 0) other multiframe_octets f 0 (lit< tt) none_few in
-        let second : reading (word_at (bits followed) multiframe_bits) ≡ Codeword (decoded_as other_word (sent_message says1_at11 0)) =
+        let second : reading (word_at (bits followed) multiframe_bits) ≡ Some (decoded_as other_word (sent_message says1_at11 0)) =
         ap (λ (x : List Bool). reading (value x)) (H.behind_there says1 [] (λ k. sync) (λ k. 0) other multiframe_octets f (multiframe_bits + sync_bits) header_bits (lit≤ tt))
         ∙ ap reading (word_in_lem sync other_word (stream (lone 1) 0 multiframe_pairs) sync_size other_lt) ∙ (mended (sent_message says1_at11 0) 0 (message_lt (settings 1 0) 1 0) none_few).0 in
         let match : least ≤ matches (sync_at (bits followed) multiframe_bits) sync =

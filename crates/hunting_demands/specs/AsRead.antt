@@ -1,7 +1,7 @@
 -- READ WHERE IT STANDS: whatever the octet reader says of octets cut in multiframes, damaged or not, the hunting reader says of them where their
 -- headers and streams stand in a row at any bit, and adds the bits outside and the places tested; so demand 3 is kept at any bit.
 -- Assumes nothing.
-use Rattle.std.specs.Prelude.{ℕ, ◌+◌, ◌*◌, ◌≤◌, ◌<◌, ◌≡◌, refl, List, [], ◌∷◌, ◌++◌, Bool, false, length, take}
+use Rattle.std.specs.Prelude.{ℕ, ◌+◌, ◌*◌, ◌≤◌, ◌<◌, ◌≡◌, refl, List, [], ◌∷◌, ◌++◌, Bool, false, length, take, Ok}
 use Rattle.std.proofs.Common.{sym, ap, ap₂, ◌∙◌, subst, arith}
 use Rattle.std.proofs.Math.Seq.{drop-append-add}
 use Rattle.lists.specs.Parts.{part, part_left}
@@ -15,12 +15,11 @@ use Rattle.header.specs.Reading.{reading}
 use Rattle.hunt.specs.Hunt.{fewest_matches, sync_bits, header_bits, multiframe_bits, sync, matches, passes, searched}
 use Rattle.reader.specs.Reading as R
 use Rattle.reader.specs.declared.Summary.{Summary}
-use Rattle.reader.specs.declared.Answer.{Answer}
+use Rattle.reader.specs.Types.{Answer}
 use Rattle.gathering.specs.Gathering.{image_of as foundImage, outside_of}
 use Rattle.hunting.specs.Hunting as G
 use Rattle.hunting.specs.Hunting.{counted, hunting_reading}
 use Rattle.hunting.specs.declared.Counted.{Counted}
-use Rattle.hunting.specs.declared.Answer.TheVariants.{Read}
 use Rattle.image.specs.Made.{Small, sync_in, word_in, stream_in, framed, made_again}
 use Rattle.image.proofs.Laws.{length_image, image_sync}
 use Rattle.writer.proofs.Laws.{few_multiframes}
@@ -108,7 +107,7 @@ module _ (ch : Choices) (u : Utterance) (img s : List ℕ) (from at least : ℕ)
   -- what the octet reader says of the damaged image, demand 3's sentences, is what is said here, with the bits outside and the places tested
   pub record Named : Type 0 where
     pub given : Counted
-    pub succeeds : result.answer ≡ Read given
+    pub succeeds : result.answer ≡ Ok given
     pub names : N.Names u img tables given.summary result.index result.report
     pub outside : given.outside ≡ outside_of (bits s) from (multiframes_of u)
     pub tested : given.tested ≡ tested_in_row (bits s) from at (multiframes_of u)

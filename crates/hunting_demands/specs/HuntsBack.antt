@@ -3,7 +3,7 @@
 -- and read with the same settings, frames and count, and each header's note is the number of bits flipped there: of two multiframes or more, or of one
 -- whose header is untouched where the caller asks for the old rule (02, C-20). By default one multiframe is refused.
 -- Assumes nothing.
-use Rattle.std.specs.Prelude.{ℕ, ◌+◌, ◌*◌, ◌≤◌, ◌<◌, ◌≡◌, List, ◌∷◌, ◌++◌, Bool, false, length, replicate}
+use Rattle.std.specs.Prelude.{ℕ, ◌+◌, ◌*◌, ◌≤◌, ◌<◌, ◌≡◌, List, ◌∷◌, ◌++◌, Bool, false, length, replicate, Ok}
 use Rattle.std.specs.Int.Bits.{bit_xor}
 use Rattle.std.specs.Int.Count.{ones}
 use Rattle.lists.specs.Parts.{over}
@@ -16,7 +16,6 @@ use Rattle.hunt.specs.Hunt.{fewest_matches, multiframe_bits, sync, matches, pass
 use Rattle.gathering.specs.Gathering.{outside_of}
 use Rattle.hunting.specs.Hunting as G
 use Rattle.hunting.specs.Hunting.{counted, outcome, hunting_reading}
-use Rattle.hunting.specs.declared.Answer.TheVariants.{Read}
 use Rattle.image.specs.Made.{word_in, stream_in}
 use Rattle.writer.specs.Utterance.{Utterance, multiframes_of, image_of}
 use Rattle.demands.specs.Headers.{CanSettle}
@@ -60,7 +59,7 @@ module _ (ch : Choices) (u : Utterance) (s : List ℕ) (from at least : ℕ) (ta
   -- what is read: the settings, count and frames written, the bits outside and the places tested, and these header notes
   abbrev pub heard : (ℕ → ℕ) → G.Outcome
   heard notes =
-      outcome (Read (record { summary = spoken u; outside = outside_of (bits s) from (multiframes_of u); tested = tested_in_row (bits s) from at (multiframes_of u) }))
+      outcome (Ok (record { summary = spoken u; outside = outside_of (bits s) from (multiframes_of u); tested = tested_in_row (bits s) from at (multiframes_of u) }))
       (over index 0 (index_octets * multiframes_of u) (padded u))
       (over report 0 (report_octets * multiframes_of u) (joined (λ k. notes k ∷ replicate multiframe_pairs 0) (multiframes_of u)))
 

@@ -1,7 +1,7 @@
 -- Any utterance with any sixteen bits for each sync and any flips in each header, behind any bits and before any: what stands where in it, and
 -- what is left to ask of it before HUNTS BACK speaks of it.
 -- Assumes nothing.
-use Rattle.std.specs.Prelude.{ℕ, ◌+◌, ◌-◌, ◌*◌, ◌^◌, ◌≤◌, ◌<◌, ◌≡◌, List, ◌++◌, Bool, true, length}
+use Rattle.std.specs.Prelude.{ℕ, ◌+◌, ◌-◌, ◌*◌, ◌^◌, ◌≤◌, ◌<◌, ◌≡◌, List, ◌++◌, Bool, true, length, Some, None}
 use Rattle.std.proofs.Common.{sym, ap, ◌∙◌, subst, arith}
 use Rattle.std.proofs.Math.Path.{ap₂}
 use Rattle.std.specs.Int.Bits.{bit_xor}
@@ -21,7 +21,6 @@ use Rattle.header_code.specs.Code.Distance.{codeword_lt}
 use Rattle.message.specs.Message.Laws.{message_lt}
 use Rattle.header.specs.Reading.{decoded_as, reading}
 use Rattle.header.proofs.Laws.{near, flips_of, three_lost}
-use Rattle.header.specs.declared.Header.TheVariants.{Codeword, Lost}
 use Rattle.hunt.specs.Hunt.{sync_bits, header_bits, multiframe_bits, sync, matches, passes, searched}
 use Rattle.hunt.proofs.Laws.{searched_all}
 use Rattle.image.specs.Made.{stream_in}
@@ -104,10 +103,10 @@ module _ (u : Utterance) (front : List Bool) (y : ℕ → List Bool) (flips : �
       near_there = ap (λ (w : ℕ). flips_to w (sent_message u k)) word_there ∙ flips_of (sent_message u k) (flips k)
 
       pub mended_there : ones (flips k) ≤ 2
-          → reading (word_at (bits hurt) (place_in_row (length front) k)) ≡ Codeword (decoded_as (word_at (bits hurt) (place_in_row (length front) k)) (sent_message u k))
+          → reading (word_at (bits hurt) (place_in_row (length front) k)) ≡ Some (decoded_as (word_at (bits hurt) (place_in_row (length front) k)) (sent_message u k))
       mended_there le = near (word_at l (place_in_row at k)) (sent_message u k) (message_lt u.settings (k + 1) 0) (omega (arith, near_there))
 
-      pub lost_there : ones (flips k) ≡ 3 → reading (word_at (bits hurt) (place_in_row (length front) k)) ≡ Lost
+      pub lost_there : ones (flips k) ≡ 3 → reading (word_at (bits hurt) (place_in_row (length front) k)) ≡ None
       lost_there e = ap reading word_there ∙ three_lost (sent_message u k) (flips k) (message_lt u.settings (k + 1) 0) e
 
       pub match_there : (least : ℕ) → least ≤ matches (y k) sync → least ≤ matches (sync_at (bits hurt) (place_in_row (length front) k)) sync

@@ -1,6 +1,6 @@
 -- Why the premises of HUNTS BACK are there: with all the others met, this is what happens where one is not (proofs/Needed); and the examples of it.
 -- Assumes nothing.
-use Rattle.std.specs.Prelude.{ℕ, zero, suc, ◌≡◌, List, [], Bool}
+use Rattle.std.specs.Prelude.{ℕ, zero, suc, ◌≡◌, List, [], Bool, Err}
 use Rattle.std.specs.Int.Bits.{bit_xor}
 use Rattle.layout.specs.Layout.{multiframe_pairs, multiframe_octets}
 use Rattle.choices.specs.declared.Choices.{Choices}
@@ -10,7 +10,6 @@ use Rattle.packet.specs.Packet.{stream}
 use Rattle.header_code.specs.Code.{codeword}
 use Rattle.hunt.specs.Hunt.{sync}
 use Rattle.hunting.specs.Hunting.{outcome, hunting_reading}
-use Rattle.hunting.specs.declared.Answer.TheVariants.{Refused}
 use Rattle.refusals.specs.declared.Hunting.{Hunting as Refusal}
 use Rattle.writer.specs.Utterance.{Utterance}
 use Rattle.damage.specs.Damage.{sent_message}
@@ -26,7 +25,7 @@ use Rattle.hunting_demands.specs.Met.{worst_sync}
 pub record Needed (ch : Choices) (missing : Premise) (u : Utterance) (s : List ℕ) (from at least : ℕ) (tables : Tables) (index report : List ℕ) (r : Refusal) : Type 0 where
   pub others : (p : Premise) → (p ≡ missing → ⊥) → Holds ch u s from at least tables index report p
   pub fails : Holds ch u s from at least tables index report missing → ⊥
-  pub instead : hunting_reading ch s from least tables index report ≡ outcome (Refused r) index report
+  pub instead : hunting_reading ch s from least tables index report ≡ outcome (Err r) index report
 
 -- or the reading succeeds, and the first pair's note is 1, where HUNTS BACK has 0, whatever notes the headers get
 pub record NeededForNotes (ch : Choices) (missing : Premise) (u : Utterance) (s : List ℕ) (from at least : ℕ) (tables : Tables) (index report : List ℕ) : Type 0 where

@@ -1,6 +1,6 @@
 -- HEADER NOTE 3 NEVER COMES IN A HUNTING READING: each multiframe found has passed the test, so its header is readable.
 -- Assumes nothing.
-use Rattle.std.specs.Prelude.{ℕ, zero, suc, ◌+◌, ◌*◌, ◌^◌, ◌≤◌, ◌<◌, ◌≡◌, List, [], ◌∷◌, ◌++◌, Bool, true, false, leb, length, take, get_or}
+use Rattle.std.specs.Prelude.{ℕ, zero, suc, ◌+◌, ◌*◌, ◌^◌, ◌≤◌, ◌<◌, ◌≡◌, List, [], ◌∷◌, ◌++◌, Bool, true, false, leb, length, take, get_or, Some, None, Ok}
 use Rattle.std.proofs.Common.{sym, ap, ◌∙◌, subst, mod-eq_of_lt, arith}
 use Rattle.std.proofs.Math.Seq.{drop-append-add}
 use Rattle.lists.specs.Tests.{both, true_false}
@@ -13,8 +13,7 @@ use Rattle.bits.specs.Bits.{field, value, bits}
 use Rattle.bits.proofs.Laws.{length_field, value_field, value_lt, bits_octets}
 use Rattle.header.specs.Reading.{ReadAs, reading}
 use Rattle.header.proofs.Laws.{reads}
-use Rattle.header.specs.declared.Header.{Header}
-use Rattle.header.specs.declared.Header.TheVariants.{Codeword, Lost}
+use Rattle.header.specs.Types.{Header}
 use Rattle.cutting.specs.Cutting.{Cutting, cutting}
 use Rattle.cutting.proofs.Laws.{every_length}
 use Rattle.header_readings.specs.Readings.{readings}
@@ -33,7 +32,6 @@ use Rattle.hunting.specs.Hunting as G
 use Rattle.hunting.specs.Hunting.{hunting_reading}
 use Rattle.hunting.proofs.Says.{image_cut, success}
 use Rattle.hunting.specs.declared.Counted.{Counted}
-use Rattle.hunting.specs.declared.Answer.TheVariants.{Read}
 use Rattle.image.specs.Made.{word_in, framed, length_framed, framed_header}
 use Rattle.demands.specs.Whole.{row_of, header_note_in}
 use Rattle.demands.proofs.WholeLaws.{readings_are, header_note_is}
@@ -78,11 +76,11 @@ not_three : (c k w : ℕ) → readable (reading w) ≡ true → header_note c k 
 not_three c k w = by (reading w) (reads w)
   where
     by : (h : Header) → ReadAs w h → readable h ≡ true → header_note c k h ≡ 3 → ⊥
-    by Lost r e z = true_false (sym e)
-    by (Codeword d) r e z = omega (arith, note_flips c k d r.2, r.2)
+    by None r e z = true_false (sym e)
+    by (Some d) r e z = omega (arith, note_flips c k d r.2, r.2)
 
 pub never_lost : (ch : Choices) (s : List ℕ) (from least : ℕ) (tables : Tables) (index report : List ℕ) (c : Counted)
-    → (hunting_reading ch s from least tables index report).answer ≡ Read c → (k : ℕ) → k < c.summary.multiframes
+    → (hunting_reading ch s from least tables index report).answer ≡ Ok c → (k : ℕ) → k < c.summary.multiframes
     → header_note_in (hunting_reading ch s from least tables index report).report k ≡ 3 → ⊥
 never_lost ch s from least tables index report c e k h z =
     let x = success ch s from least tables index report c e in
@@ -95,9 +93,9 @@ never_lost ch s from least tables index report c e k h z =
     let ns = received_notes img places tables in
     let rows : length places ≡ length ps = ap length cut ∙ every_length 0 (length ps) in
     let inside : k < length ps = omega (arith, x.count) in
-    let r : get_or (readings img places) k Lost ≡ reading (word_in img k) =
-    ap (λ (l : List ℕ). get_or (readings img l) k Lost) cut ∙ ap (λ (l : List Header). get_or l k Lost) (readings_are img (length ps)) ∙ each_at (λ j. reading (word_in img j)) (length ps) k Lost inside in
-    let n : header_note w.common k (get_or (readings img places) k Lost) ≡ 3 =
+    let r : get_or (readings img places) k None ≡ reading (word_in img k) =
+    ap (λ (l : List ℕ). get_or (readings img l) k None) cut ∙ ap (λ (l : List Header). get_or l k None) (readings_are img (length ps)) ∙ each_at (λ j. reading (word_in img j)) (length ps) k None inside in
+    let n : header_note w.common k (get_or (readings img places) k None) ≡ 3 =
     sym (header_note_is img places ns report w.common (report_octets * length places) (length_notes (received img places) (pair_count places) tables) k (omega arith))
     ∙ sym (ap (λ (o : R.Outcome). header_note_in o.report k) w.result_is) ∙ ap (λ (o : R.Outcome). header_note_in o.report k) y ∙ z in
     not_three w.common k (word_in img k) (found_readable s least from ps k x.stand_apart inside) (ap (header_note w.common k) (sym r) ∙ n)

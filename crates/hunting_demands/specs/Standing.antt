@@ -2,7 +2,7 @@
 -- put together on octets they have whole syncs and the headers and streams that stand there.
 -- Assumes nothing.
 use Prim.Native.Nat.{ℕ, zero, suc, ◌+◌, ◌-◌, ◌*◌, ◌^◌, ◌≤◌, ◌<◌}
-use Rattle.std.specs.Prelude.{◌≡◌, Bool, length, take, drop, leb}
+use Rattle.std.specs.Prelude.{◌≡◌, Bool, length, take, drop, leb, Some, None}
 use Rattle.std.proofs.Math.Path.{refl, ap, ap₂}
 use Rattle.std.proofs.Common.{sym, ◌∙◌, subst, arith, drop-drop, take-add, le-leb}
 use mathlib.Core.List.{List, [], ◌∷◌, ◌++◌}
@@ -18,12 +18,10 @@ use Rattle.bits.specs.Bits.{field, fields, value, bits, octets}
 use Rattle.bits.proofs.Laws.{field_value, value_lt, bits_octets, octets_append}
 use Rattle.header.specs.Reading.{reading}
 use Rattle.header.specs.declared.Decoded.{Decoded}
-use Rattle.header.specs.declared.Header.{Header}
-use Rattle.header.specs.declared.Header.TheVariants.{Codeword, Lost}
+use Rattle.header.specs.Types.{Header}
 use Rattle.hunt.specs.Hunt.{fewest_matches, sync_bits, header_bits, multiframe_bits, sync, matches, readable, passes, searched, places_left, hunted_from}
 use Rattle.hunt.proofs.Laws.{in_range_lem, searched_le, says, once, nowhere_exactly}
-use Rattle.hunt.specs.declared.Hunted.{Hunted}
-use Rattle.hunt.specs.declared.Hunted.TheVariants as H
+use Rattle.hunt.specs.Types.{Hunted, found_at}
 use Rattle.reader.specs.Reading as R
 use Rattle.gathering.specs.Gathering.{Ending, whole, ended, prepend, step, last, gathering, outside_of, aligned, image_of}
 use Rattle.gathering.proofs.Laws.{image_more}
@@ -83,7 +81,7 @@ at_most_all l least h = omega (arith, matches_most l sync, all_match)
 
 -- how such a place passes the test, and two ways to fail it
 module _ (least : ℕ) (l : List Bool) (p : ℕ) where
-  pub passes_there : {d : Decoded} → least ≤ matches (sync_at l p) sync → reading (word_at l p) ≡ Codeword d → passes least l p ≡ true
+  pub passes_there : {d : Decoded} → least ≤ matches (sync_at l p) sync → reading (word_at l p) ≡ Some d → passes least l p ≡ true
   unfolding passes
   passes_there h e = ap₂ both (le-leb least (matches (sync_at l p) sync) h) (ap readable e)
 
@@ -91,7 +89,7 @@ module _ (least : ℕ) (l : List Bool) (p : ℕ) where
   unfolding passes
   unlike_fails h = rw (lt-leb least (matches (sync_at l p) sync) h)
 
-  pub lost_fails : reading (word_at l p) ≡ Lost → passes least l p ≡ false
+  pub lost_fails : reading (word_at l p) ≡ None → passes least l p ≡ false
   unfolding passes
   lost_fails e = ap (λ (h : Header). both (leb least (matches (sync_at l p) sync)) (readable h)) e ∙ by (leb least (matches (sync_at l p) sync))
     where
@@ -127,7 +125,7 @@ module _ (l : List Bool) (from at least m : ℕ) (r : InARow l from at least m) 
       let p = at + multiframe_bits * j in
       let room : p + multiframe_bits ≤ searched l = omega (arith, r.inside) in
       ap (λ (x : Hunted). step x (λ p. gathering l least k (p + multiframe_bits)))
-      (once least l f (hunted_from l f least) (H.Found p (suc p - f)) (says least l f) (le, room, r.stand j h, none, refl))
+      (once least l f (hunted_from l f least) (found_at p (suc p - f)) (says least l f) (le, room, r.stand j h, none, refl))
 
   -- the multiframes from number j on
   found_on : (n j k : ℕ) → j + n ≡ m → n ≤ k

@@ -3,7 +3,7 @@
 -- the reading succeeds and every note is 0, yet rate, count and speech are not those sent: only the bits outside and the places tested tell. By default
 -- the same bits are refused with 16. The octet reader refuses the same octets by either choice.
 -- Assumes nothing.
-use Rattle.std.specs.Prelude.{ℕ, zero, suc, ◌+◌, ◌*◌, ◌/◌, ◌^◌, ◌≤◌, ◌<◌, ◌≡◌, refl, List, [], ◌∷◌, ◌++◌, Bool, true, false, T, ltb, length, get_or, replicate}
+use Rattle.std.specs.Prelude.{ℕ, zero, suc, ◌+◌, ◌*◌, ◌/◌, ◌^◌, ◌≤◌, ◌<◌, ◌≡◌, refl, List, [], ◌∷◌, ◌++◌, Bool, true, false, T, ltb, length, get_or, replicate, Some, None, Ok, Err}
 use Rattle.std.proofs.Common.{sym, ap, ap₂, ◌∙◌, subst, append-nil, inl, inr, le_of_eq, arith, lit<, lit≤, get_or-append-add, ltb-true}
 use Rattle.std.proofs.Math.Bool.{xor}
 use Rattle.std.specs.Int.Bits.{bit_xor}
@@ -31,18 +31,15 @@ use Rattle.message.specs.Message.Laws.{message_lt, message_counts, packed}
 use Rattle.header.specs.Reading.{decoded_as, reading}
 use Rattle.header.proofs.Laws.{near}
 use Rattle.header.specs.declared.Decoded.{Decoded}
-use Rattle.header.specs.declared.Header.{Header}
-use Rattle.header.specs.declared.Header.TheVariants.{Codeword, Lost}
+use Rattle.header.specs.Types.{Header}
 use Rattle.header_readings.specs.Readings.{readings}
 use Rattle.settling.specs.Settling.{settling, first_agreeing}
-use Rattle.settling.specs.declared.Settlement.TheVariants as S
 use Rattle.hunt.specs.Hunt.{sync_bits, header_bits, multiframe_bits, fewest_matches, sync, matches, passes, searched}
 use Rattle.hunt.proofs.Laws.{searched_all}
 use Rattle.reader.specs.Reading as R
 use Rattle.refusals.specs.declared.Reading.TheVariants.{Unsettled}
 use Rattle.gathering.specs.Gathering.{outside_of}
 use Rattle.hunting.specs.Hunting.{counted, outcome, hunting_reading}
-use Rattle.hunting.specs.declared.Answer.TheVariants.{Read, Refused}
 use Rattle.refusals.specs.declared.Hunting.TheVariants.{Octets}
 use Rattle.damage.proofs.Damages.{unharmed}
 use Rattle.demands_met.proofs.NeededLaws.{default_unsettled}
@@ -150,13 +147,13 @@ second_flips =
     ∙ sym (ones_in_lem header_bits 0x32120019 (lit< tt))
 
 -- so the first is lost, and the second is read as a codeword of 11 kHz without a flip
-first_lost : reading (word_in garbled 0) ≡ Lost
+first_lost : reading (word_in garbled 0) ≡ None
 first_lost = header_lost sent garbled 0 (lit< tt) first_flips
 
 second_clean : flips_to (word_in garbled 1) (message (settings 1 0) 1 0) ≡ 0
 second_clean = itself_near (word_in garbled 1) (message (settings 1 0) 1 0) (heard_word ∙ sym (word_came 1 (lit< tt)))
 
-second_read : reading (word_in garbled 1) ≡ Codeword (decoded_as (word_in garbled 1) (message (settings 1 0) 1 0))
+second_read : reading (word_in garbled 1) ≡ Some (decoded_as (word_in garbled 1) (message (settings 1 0) 1 0))
 second_read = near (word_in garbled 1) (message (settings 1 0) 1 0) (message_lt (settings 1 0) 1 0) (omega (arith, second_clean))
 
 -- ---- what the hunting reader finds: the second multiframe alone
@@ -202,11 +199,11 @@ heard_stands = record { words = word; streams = body }
     body (suc k) h = absurd (omega arith)
 
 -- ---- what the octet reader says: one header is lost, so no two agree
-unsettled : (ch : Choices) (d : Decoded) → settling ch (Lost ∷ Codeword d ∷ []) ≡ S.Unsettled
+unsettled : (ch : Choices) (d : Decoded) → settling ch (None ∷ Some d ∷ []) ≡ None
 unfolding first_agreeing
-unsettled ch d = two_or_more ch (Lost ∷ Codeword d ∷ []) (lit≤ tt)
+unsettled ch d = two_or_more ch (None ∷ Some d ∷ []) (lit≤ tt)
 
-nothing_settles : (ch : Choices) → settling ch (readings garbled (row_of 2)) ≡ S.Unsettled
+nothing_settles : (ch : Choices) → settling ch (readings garbled (row_of 2)) ≡ None
 nothing_settles ch = ap (settling ch) (readings_are garbled 2) ∙ ap₂ (λ (x y : Header). settling ch (x ∷ y ∷ [])) first_lost second_read ∙ unsettled ch (decoded_as (word_in garbled 1) (message (settings 1 0) 1 0))
 
 module _ (ch : Choices) (least : ℕ) (tables : Tables) (index report : List ℕ) where
@@ -257,13 +254,13 @@ module _ (ch : Choices) (least : ℕ) (tables : Tables) (index report : List ℕ
     }
 
     -- BY DEFAULT IT MISLEADS NOBODY: one header alone settles nothing, 16 (02, C-20)
-    pub not_missed : one_settles ch ≡ false → hunting_reading ch garbled 0 least tables index report ≡ outcome (Refused (Octets Unsettled)) index report
+    pub not_missed : one_settles ch ≡ false → hunting_reading ch garbled 0 least tables index report ≡ outcome (Err (Octets Unsettled)) index report
     not_missed default =
         found_alone
         ∙ ap (λ (o : R.Outcome). counted o multiframe_bits (suc multiframe_bits)) (default_unsettled ch heard (image_of heard) (unharmed heard) tables index report lent_1 default refl)
 
     answered : one_settles ch ≡ true → hunting_reading ch garbled 0 least tables index report
-        ≡ outcome (Read (record { summary = spoken heard; outside = multiframe_bits; tested = suc multiframe_bits })) (over index 0 index_octets (padded heard))
+        ≡ outcome (Ok (record { summary = spoken heard; outside = multiframe_bits; tested = suc multiframe_bits })) (over index 0 index_octets (padded heard))
         (over report 0 report_octets (replicate report_octets 0))
     answered asked = found_alone ∙ ap (λ (o : R.Outcome). counted o multiframe_bits (suc multiframe_bits)) (reads_image ch heard (inr asked) tables index report lent_1)
 

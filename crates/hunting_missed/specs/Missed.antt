@@ -3,7 +3,7 @@
 -- the reading succeeds and every note is 0, yet rate, count and speech are not those sent: only the bits outside and the places tested tell. By default
 -- the same bits are refused with 16. The octet reader refuses the same octets by either choice.
 -- Assumes nothing.
-use Rattle.std.specs.Prelude.{ℕ, zero, suc, ◌-◌, ◌<◌, ◌≡◌, refl, List, ◌++◌, Bool, length, replicate}
+use Rattle.std.specs.Prelude.{ℕ, zero, suc, ◌-◌, ◌<◌, ◌≡◌, refl, List, ◌++◌, Bool, length, replicate, Ok, Err}
 use Rattle.std.proofs.Common.{lit<}
 use Rattle.lists.specs.Parts.{over}
 use Rattle.lists.specs.Search.{first_from}
@@ -15,15 +15,12 @@ use Rattle.frames.specs.Frames.{zero_frame}
 use Rattle.packet.specs.Packet.{stream}
 use Rattle.hunt.specs.Hunt.{multiframe_bits}
 use Rattle.reader.specs.Reading as R
-use Rattle.reader.specs.declared.Answer.TheVariants as Ra
 use Rattle.refusals.specs.declared.Reading.TheVariants.{Unsettled}
 use Rattle.hunting.specs.Hunting.{outcome, hunting_reading}
-use Rattle.hunting.specs.declared.Answer.TheVariants.{Read}
 use Rattle.image.specs.Made.{Small, sync_in, packet_in, made}
 use Rattle.wrong_frames.specs.WrongFrames.{frame_count}
 use Rattle.writer.specs.Writing.{verdict, room_answer, needed}
 use Rattle.writer.specs.Utterance.{Utterance, multiframes_of, pairs_of, image_of}
-use Rattle.writer.specs.declared.Answer.TheVariants.{Written}
 use Rattle.damage.specs.Damage.{header_flips}
 use Rattle.promises.specs.Misled as NeverMisled
 use Rattle.promises.specs.Trusted as Trusted
@@ -35,11 +32,11 @@ small_fours zero i = lit< tt
 small_fours (suc n) zero = lit< tt
 small_fours (suc n) (suc i) = small_fours n i
 
-pub written_25 : verdict (settings 0 0) (replicate 175 4) (needed (replicate 175 4)) ≡ Written (needed (replicate 175 4))
+pub written_25 : verdict (settings 0 0) (replicate 175 4) (needed (replicate 175 4)) ≡ Ok (needed (replicate 175 4))
 unfolding verdict room_answer first_from zero_frame
 written_25 = refl
 
-pub written_1 : verdict (settings 1 0) (replicate 7 4) (needed (replicate 7 4)) ≡ Written (needed (replicate 7 4))
+pub written_1 : verdict (settings 1 0) (replicate 7 4) (needed (replicate 7 4)) ≡ Ok (needed (replicate 7 4))
 unfolding verdict room_answer first_from zero_frame
 written_1 = refl
 
@@ -84,7 +81,7 @@ module _ (ch : Choices) (least : ℕ) (tables : Tables) (index report : List ℕ
     -- MISLED WITHOUT A NOTE: the hunting reader gives 11 kHz, one multiframe, one frame and end 1, and every note is 0; a multiframe's
     -- bits outside, and as many places tested before the one found, are all that tells
     pub answers : hunting_reading ch garbled 0 least tables index report
-        ≡ outcome (Read (record { summary = record { settings = settings 1 0; multiframes = 1; speech = 1; bad = 0; end = 1 }; outside = multiframe_bits; tested = suc multiframe_bits }))
+        ≡ outcome (Ok (record { summary = record { settings = settings 1 0; multiframes = 1; speech = 1; bad = 0; end = 1 }; outside = multiframe_bits; tested = suc multiframe_bits }))
         (over index 0 index_octets (replicate frame_indices 4 ++ replicate (index_octets - frame_indices) 0)) (over report 0 report_octets (replicate report_octets 0))
     -- the octet reader is not misled: it refuses them, 16
-    pub refuses : R.reading ch garbled tables index report ≡ R.outcome (Ra.Refused Unsettled) index report
+    pub refuses : R.reading ch garbled tables index report ≡ R.outcome (Err Unsettled) index report

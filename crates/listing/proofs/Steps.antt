@@ -1,5 +1,6 @@
 -- What the reading answers is what is listed, and the last step of each way through `put_listing`.
 -- Assumes nothing.
+use Rattle.std.specs.Prelude.{Ok, Err}
 use mathlib.Core.Path.{◌≡◌, refl, sym, ap, subst, ◌∙◌}
 use mathlib.Core.List.{List}
 use Prim.Native.Nat.{ℕ, ◌*◌, ◌≤◌}
@@ -16,10 +17,8 @@ use Rattle.deciding.specs.Deciding.{received_notes}
 use Rattle.reader.specs.Reading.{Outcome, outcome, reading, finished, verdict, summary}
 use Rattle.reader.proofs.ReadingLaws.{accepted}
 use Rattle.reader.specs.declared.Summary.{Summary}
-use Rattle.deciding.specs.declared.Verdict.{Verdict}
-use Rattle.deciding.specs.declared.Verdict.TheVariants.{Refuse, Accept}
-use Rattle.reader.specs.declared.Answer.{Answer}
-use Rattle.reader.specs.declared.Answer.TheVariants.{Read, Refused}
+use Rattle.deciding.specs.Types.{Verdict}
+use Rattle.reader.specs.Types.{Answer}
 use Rattle.text.specs.Text.{Put}
 use Rattle.text.proofs.Steps.{put_on}
 use Rattle.lines.specs.Lines.{line_of}
@@ -28,23 +27,23 @@ use Rattle.listing.specs.Listing.{listed, reading_of, listing}
 
 module _ (ch : Choices) (octets : List ℕ) (tables : Tables) (index report : List ℕ) where
   -- a reading that succeeds has room in the report for each of its multiframes
-  pub read_fits : (s : Summary) (i r : List ℕ) → outcome (Read s) i r ≡ reading ch octets tables index report
+  pub read_fits : (s : Summary) (i r : List ℕ) → outcome (Ok s) i r ≡ reading ch octets tables index report
       → report_octets * s.multiframes ≤ length report
   unfolding reading
   read_fits s i r e = go (verdict ch octets tables (length index) (length report)) refl e
     where
       go : (v : Verdict) → verdict ch octets tables (length index) (length report) ≡ v
-          → outcome (Read s) i r ≡ finished octets tables index report (cutting octets).places v → report_octets * s.multiframes ≤ length report
-      go (Refuse x) ev eo = let y : ◌≡◌ {A = Answer} (Read s) (Refused x) = ap (λ (o : Outcome). o.answer) eo in let z : ◌≡◌ {A = ℕ} 0 1 = cc in absurd (omega arith)
-      go (Accept c) ev eo =
-          let y : Read s ≡ Read (summary octets (cutting octets).places (received_notes octets (cutting octets).places tables) c)
+          → outcome (Ok s) i r ≡ finished octets tables index report (cutting octets).places v → report_octets * s.multiframes ≤ length report
+      go (Err x) ev eo = let y : ◌≡◌ {A = Answer} (Ok s) (Err x) = ap (λ (o : Outcome). o.answer) eo in let z : ◌≡◌ {A = ℕ} 0 1 = cc in absurd (omega arith)
+      go (Ok c) ev eo =
+          let y : ◌≡◌ {A = Answer} (Ok s) (Ok (summary octets (cutting octets).places (received_notes octets (cutting octets).places tables) c))
           = ap (λ (o : Outcome). o.answer) eo in
           let w : s ≡ summary octets (cutting octets).places (received_notes octets (cutting octets).places tables) c = cc in
           let f = (accepted ch octets tables (length index) (length report) c ev).fitting in
           rw (ap (λ (q : Summary). q.multiframes) w) f.roomy.report_room
 
 -- the report's octets of every multiframe lie in the report that is lent
-pub lines_fit : (octets i r : List ℕ) (x : Answer) (s : Summary) → outcome x i r ≡ reading_of octets → x ≡ Read s → s.multiframes ≤ most_multiframes
+pub lines_fit : (octets i r : List ℕ) (x : Answer) (s : Summary) → outcome x i r ≡ reading_of octets → x ≡ Ok s → s.multiframes ≤ most_multiframes
 lines_fit octets i r x s e ex =
     let f = read_fits by_one_header octets zero_tables (replicate (index_octets * most_multiframes) 0)
     (replicate (report_octets * most_multiframes) 0) s i r (ap (λ (y : Answer). outcome y i r) (sym ex) ∙ e) in
@@ -55,11 +54,11 @@ pub listed_is : (octets i r : List ℕ) (x : Answer) → outcome x i r ≡ readi
 unfolding listing
 listed_is octets i r x e = ap (λ (o : Outcome). listed o.report o.answer) e
 
-pub listing_done : (octets i r : List ℕ) (x : Answer) (s : Summary) (l m n : List ℕ) (a e : ℕ) → outcome x i r ≡ reading_of octets → x ≡ Read s → a ≤ length l
+pub listing_done : (octets i r : List ℕ) (x : Answer) (s : Summary) (l m n : List ℕ) (a e : ℕ) → outcome x i r ≡ reading_of octets → x ≡ Ok s → a ≤ length l
     → Put (joined (line_of r) s.multiframes) l 0 m a → Put (total s) m a n e → Put (listing octets) l 0 n e
 listing_done octets i r x s l m n a e eo ex room p q =
     subst (λ (y : List ℕ). Put y l 0 n e) (ap (listed r) (sym ex) ∙ listed_is octets i r x eo) (put_on (omega (arith, p.ends)) p q)
 
-pub refused_done : (octets i r : List ℕ) (x : Answer) (z : Reading) (l n : List ℕ) (e : ℕ) → outcome x i r ≡ reading_of octets → x ≡ Refused z
+pub refused_done : (octets i r : List ℕ) (x : Answer) (z : Reading) (l n : List ℕ) (e : ℕ) → outcome x i r ≡ reading_of octets → x ≡ Err z
     → Put (refusal z) l 0 n e → Put (listing octets) l 0 n e
 refused_done octets i r x z l n e eo ex p = subst (λ (y : List ℕ). Put y l 0 n e) (ap (listed r) (sym ex) ∙ listed_is octets i r x eo) p

@@ -1,6 +1,6 @@
 -- A literal listing: of 01's empty input.
 -- Assumes nothing.
-use Rattle.std.specs.Prelude.{◌≡◌, refl, List, [], ◌∷◌, ℕ, ◌*◌, replicate}
+use Rattle.std.specs.Prelude.{◌≡◌, refl, List, [], ◌∷◌, ℕ, ◌*◌, replicate, Err}
 use Rattle.std.proofs.Common.{sym, ap, ◌∙◌}
 use Rattle.layout.specs.Layout.{most_multiframes, index_octets, report_octets}
 use Rattle.cutting.specs.Cutting.{walk}
@@ -8,7 +8,6 @@ use Rattle.refusals.specs.declared.Reading.TheVariants.{Empty}
 use Rattle.deciding.specs.Deciding.{whole_verdict}
 use Rattle.reader.specs.Reading.{Outcome, outcome}
 use Rattle.reader.proofs.FirstTests.{whole_reading}
-use Rattle.reader.specs.declared.Answer.TheVariants.{Refused}
 use Rattle.last_line.specs.Examples.{empty_refused}
 use Rattle.listing.specs.Listing.{listed, listing}
 use Rattle.choices.specs.Choices.{by_one_header}
@@ -23,5 +22,5 @@ empty_listed =
     let report : List ℕ = replicate (report_octets * most_multiframes) 0 in
     ap (λ (o : Outcome). listed o.report o.answer)
     (sym (whole_reading by_one_header [] zero_tables index report (right_passes zero_tables zero_right)
-    (outcome (Refused (Empty 0)) index report) [] refl refl refl))
+    (outcome (Err (Empty 0)) index report) [] refl refl refl))
     ∙ empty_refused

@@ -8,7 +8,6 @@ ghost use Rattle.listing.specs.Listing.{most_listing, listing};
 
 use choices::Choices;
 use layout::{ReadingLayout, UtteranceLayout};
-use reader::Answer;
 
 // MOST is the most octets of a listing.
 pub const MOST: usize = lines::LINE * UtteranceLayout::MULTIFRAMES + last_line::TOTAL;
@@ -39,10 +38,10 @@ pub fn put_listing(octets: &[u8], text: &mut [u8]) -> usize
         &mut index,
         &mut report,
     ) {
-        Answer::Read(s) => {
+        Ok(s) => {
             let end = lines::put_lines(&report, s.multiframes, text, 0);
             last_line::put_total(s, text, end)
         }
-        Answer::Refused(r) => last_line::put_refusal(r, text, 0),
+        Err(r) => last_line::put_refusal(r, text, 0),
     }
 }

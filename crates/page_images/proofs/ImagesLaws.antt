@@ -1,7 +1,7 @@
 -- Images, octet for octet: what the writer's contract promises for two utterances, and the reader's for their octets. The octets come from
 -- 01 and from a program outside of Rattle, none from the definitions, and sizes stand as 01 prints them.
 -- Assumes nothing.
-use Rattle.std.specs.Prelude.{◌≡◌, refl, true, false, List, ◌++◌, ℕ, ◌+◌, ◌^◌, ◌<◌, T, ltb, length, drop, get_or}
+use Rattle.std.specs.Prelude.{◌≡◌, refl, true, false, List, ◌++◌, ℕ, ◌+◌, ◌^◌, ◌<◌, T, ltb, length, drop, get_or, Ok}
 use Rattle.std.proofs.Common.{sym, ap, ap₂, ◌∙◌, subst, inl, inr, arith, ltb→lt, lit<, lit≤}
 use Rattle.std.proofs.Math.Bool.{xor}
 use Rattle.std.proofs.Math.Decide.{dec_lt}
@@ -29,7 +29,6 @@ use Rattle.image.specs.Image.{image}
 use Rattle.image.specs.Made.{Small, header_in}
 use Rattle.image.proofs.Laws.{image_header}
 use Rattle.writer.specs.Writing.{room_answer, verdict, outcome}
-use Rattle.writer.specs.declared.Answer.TheVariants.{Written}
 use Rattle.writer.specs.Utterance.{Utterance}
 use Rattle.writer.proofs.Utterance.{writes}
 use Rattle.reader.specs.Reading.{reading}
@@ -85,7 +84,7 @@ small_list l t i =
       | no d ↦ subst (λ (x : ℕ). x < 2 ^ 8) (sym (get_or-eq_default l 0 (omega arith))) (lit< tt)
     ]
 
-written_25 : verdict (settings 3 1) said 288 ≡ Written 288
+written_25 : verdict (settings 3 1) said 288 ≡ Ok 288
 unfolding verdict room_answer first_from isZeroFrame
 written_25 = refl
 
@@ -103,7 +102,7 @@ bit_in = refl
 pub table : (ch : Choices) → Table ch
 unfolding says25
 table ch = record {
-  one_written = writes says1 (lent 146) (lit≤ tt) ∙ ap (λ (i : List ℕ). outcome (Written 144) (i ++ lent 2)) one_image;
+  one_written = writes says1 (lent 146) (lit≤ tt) ∙ ap (λ (i : List ℕ). outcome (Ok 144) (i ++ lent 2)) one_image;
   one_read = ap (λ (i : List ℕ). reading by_one_header i zero_tables (lent 170) (lent 15)) (sym one_image)
       ∙ reads_image by_one_header says1 (inr refl) zero_tables (lent 170) (lent 15) (record { right_tables = zero_right; index_room = lit≤ tt; report_room = lit≤ tt });
   header_1 = λ idx m h. header_in_lem idx m 0 h ∙ (E.table).header_count_1;
@@ -115,7 +114,7 @@ table ch = record {
   first_packet = ap (λ (i : List ℕ). part 48 92 (bits i)) one_image ∙ packet_in_lem;
   stream_bit_90 = ap (λ (i : List ℕ). get_or (bits i) (48 + 90) false) one_image ∙ bit_in;
   octet_17 = ap (λ (i : List ℕ). get_or i 17 0) one_image;
-  two_written = writes says25 (lent 290) (lit≤ tt) ∙ ap (λ (i : List ℕ). outcome (Written 288) (i ++ lent 2)) said_image;
+  two_written = writes says25 (lent 290) (lit≤ tt) ∙ ap (λ (i : List ℕ). outcome (Ok 288) (i ++ lent 2)) said_image;
   two_read = λ tables right.
       ap (λ (i : List ℕ). reading ch i tables (lent 338) (lent 28)) (sym said_image)
       ∙ reads_image ch says25 (inl (lit≤ tt)) tables (lent 338) (lent 28) (record { right_tables = ((right.0, right.1), right.2); index_room = lit≤ tt; report_room = lit≤ tt });

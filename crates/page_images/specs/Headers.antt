@@ -1,6 +1,6 @@
 -- The octets of the headers that the literal images have. The header code is shut: each word comes from its laws, the words of matrix 6.2 first.
 -- Assumes nothing.
-use Rattle.std.specs.Prelude.{◌≡◌, refl, List, [], ◌∷◌, ◌++◌, ℕ, zero, suc, ◌+◌, ◌*◌, ◌/◌, ◌%◌, ◌^◌, ◌≤◌, ◌<◌, get_or}
+use Rattle.std.specs.Prelude.{◌≡◌, refl, List, [], ◌∷◌, ◌++◌, ℕ, zero, suc, ◌+◌, ◌*◌, ◌/◌, ◌%◌, ◌^◌, ◌≤◌, ◌<◌, get_or, Some}
 use Rattle.std.proofs.Common.{sym, ap, ap₂, ◌∙◌, mod-eq_of_lt, add-one, arith, lit<}
 use Rattle.std.specs.Int.Bits.{bit_and, bit_or, bit_xor}
 use Rattle.std.specs.Int.Count.{ones, ones_in}
@@ -18,7 +18,6 @@ use Rattle.message.specs.Message.{message, settings_of}
 use Rattle.message.specs.Message.Laws.{message_lt, message_back, rate_masked, type_masked, count_masked, exp_shifted}
 use Rattle.header.specs.Reading as R
 use Rattle.header.proofs.Laws.{near, flips_of}
-use Rattle.header.specs.declared.Header.TheVariants.{Codeword}
 use Rattle.image.specs.Image.{multiframe}
 
 -- ---- the octets of a word
@@ -123,7 +122,7 @@ word_of rate kind count a b c d e =
 
 -- a word is read as this message, with so many flips
 abbrev pub ReadsAs : ℕ → ℕ → ℕ → Type 0
-ReadsAs w m f = (R.reading w ≡ Codeword (R.decoded_as w m)) × (flips_to w m ≡ f)
+ReadsAs w m f = (R.reading w ≡ Some (R.decoded_as w m)) × (flips_to w m ≡ f)
 
 -- a codeword is read as itself
 pub clean : (m w : ℕ) → m < 2 ^ 16 → codeword m ≡ w → ReadsAs w m 0

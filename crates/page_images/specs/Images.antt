@@ -1,7 +1,7 @@
 -- Images, octet for octet: what the writer's contract promises for two utterances, and the reader's for their octets. The octets come from
 -- 01 and from a program outside of Rattle, none from the definitions, and sizes stand as 01 prints them.
 -- Assumes nothing.
-use Rattle.std.specs.Prelude.{◌≡◌, true, false, List, [], ◌∷◌, ◌++◌, ℕ, ◌+◌, ◌-◌, ◌*◌, ◌<◌, pos, length, get_or, replicate}
+use Rattle.std.specs.Prelude.{◌≡◌, true, false, List, [], ◌∷◌, ◌++◌, ℕ, ◌+◌, ◌-◌, ◌*◌, ◌<◌, pos, length, get_or, replicate, Ok}
 use Rattle.std.specs.Int.Signed.{lt_z}
 use Rattle.lists.specs.Parts.{part}
 use Rattle.lists.specs.Rows.{joined}
@@ -15,10 +15,8 @@ use Rattle.packet.specs.Packet.{packet}
 use Rattle.packet.specs.Examples.{one_frame, zero_frame}
 use Rattle.image.specs.Image.{image}
 use Rattle.writer.specs.Writing.{outcome, writing}
-use Rattle.writer.specs.declared.Answer.TheVariants.{Written}
 use Rattle.reader.specs.Reading.{reading}
 use Rattle.reader.specs.Reading as R
-use Rattle.reader.specs.declared.Answer.TheVariants.{Read}
 
 -- tables that nothing turns away: "codebook, 1,280 numbers", "14 thresholds", and no "negative threshold" (02, C-12)
 abbrev pub Right : Tables → Type 0
@@ -61,10 +59,10 @@ said_second =
 -- 01's own input, the image of one frame; 25 frames in two multiframes
 pub record Table (ch : Choices) : Type 0 where
   -- "Input 87 B2 08 00 0E EE 01, ten 00, 04, 126 times 00": the frame 1,0,0,0,0,0,0 at 8 kHz, type 0, is written so; "octets beyond that stay"
-  pub one_written : writing (settings 0 0) (1 ∷ 0 ∷ 0 ∷ 0 ∷ 0 ∷ 0 ∷ 0 ∷ []) (lent 146) ≡ outcome (Written 144) (dsrlist_input ++ lent 2)
+  pub one_written : writing (settings 0 0) (1 ∷ 0 ∷ 0 ∷ 0 ∷ 0 ∷ 0 ∷ 0 ∷ []) (lent 146) ≡ outcome (Ok 144) (dsrlist_input ++ lent 2)
   -- "gives: 0 000000000000, rate 0 type 0 multiframes 1 speech 1 bad 0 end 1", "with all codebook numbers and thresholds 0"
   pub one_read : reading by_one_header dsrlist_input (tables_of (replicate 1280 (pos 0)) (replicate 14 (pos 0))) (lent 170) (lent 15)
-      ≡ R.outcome (Read (record { settings = settings 0 0; multiframes = 1; speech = 1; bad = 0; end = 1 })) (1 ∷ (replicate 167 0 ++ lent 2)) (replicate 13 0 ++ lent 2)
+      ≡ R.outcome (Ok (record { settings = settings 0 0; multiframes = 1; speech = 1; bad = 0; end = 1 })) (1 ∷ (replicate 167 0 ++ lent 2)) (replicate 13 0 ++ lent 2)
   -- "Header 8 kHz, type 0, count 1: 08 00 0E EE. Count 2: 10 00 1D 0D. Count 3: 18 00 13 E3.": octets 2 to 5 of the first three multiframes
   pub header_1 : (idx : List ℕ) (m : ℕ) → 0 < m → part 2 4 (image (settings 0 0) idx m) ≡ 0x08 ∷ 0x00 ∷ 0x0E ∷ 0xEE ∷ []
   pub header_2 : (idx : List ℕ) (m : ℕ) → 1 < m → part 146 4 (image (settings 0 0) idx m) ≡ 0x10 ∷ 0x00 ∷ 0x1D ∷ 0x0D ∷ []
@@ -80,8 +78,8 @@ pub record Table (ch : Choices) : Type 0 where
   pub stream_bit_90 : get_or (bits (image (settings 0 0) one_frame 1)) (48 + 90) false ≡ true
   pub octet_17 : get_or (image (settings 0 0) one_frame 1) 17 0 ≡ 0x04
   -- "for n frames, m = n div 24 + 1 multiframes are written; the last holds n mod 24 frames and then zeros": 25 frames at 16 kHz, type 1
-  pub two_written : writing (settings 3 1) said (lent 290) ≡ outcome (Written 288) (said_first ++ (said_second ++ lent 2))
+  pub two_written : writing (settings 3 1) said (lent 290) ≡ outcome (Ok 288) (said_first ++ (said_second ++ lent 2))
   -- and they are read back, with any tables
   pub two_read : (tables : Tables) → Right tables
       → reading ch (said_first ++ said_second) tables (lent 338) (lent 28)
-      ≡ R.outcome (Read (record { settings = settings 3 1; multiframes = 2; speech = 25; bad = 0; end = 1 })) (said ++ (replicate 161 0 ++ lent 2)) (replicate 26 0 ++ lent 2)
+      ≡ R.outcome (Ok (record { settings = settings 3 1; multiframes = 2; speech = 25; bad = 0; end = 1 })) (said ++ (replicate 161 0 ++ lent 2)) (replicate 26 0 ++ lent 2)

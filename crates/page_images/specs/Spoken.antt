@@ -1,7 +1,7 @@
 -- Accepted utterances of every length, up to the 6,119 frames that make 255 multiframes (01, "Writing"): frames of ones, of all settings.
 -- With them the theorems on reading back and on named damage speak of utterances as long as 01 allows.
 -- Assumes nothing.
-use Rattle.std.specs.Prelude.{◌≡◌, Bool, true, false, List, ltb, length, get_or, replicate}
+use Rattle.std.specs.Prelude.{◌≡◌, Bool, true, false, List, ltb, length, get_or, replicate, Ok}
 use Rattle.std.proofs.Math.Path.{refl, sym, ap, subst}
 use Rattle.std.proofs.Common.{ap₂, ◌∙◌, inl, inr, ⊎_elim, lit<, lit≤}
 use Prim.Native.Nat.{ℕ, zero, suc, ◌+◌, ◌-◌, ◌*◌, ◌/◌, ◌%◌, ◌^◌, ◌≤◌, ◌<◌}
@@ -35,7 +35,6 @@ use Rattle.writer.specs.Laws.{Sized}
 use Rattle.writer.proofs.Laws.{accepts}
 use Rattle.writer.specs.Utterance.{Utterance, multiframes_of, pairs_of, image_of}
 use Rattle.writer.proofs.Utterance.{writes}
-use Rattle.writer.specs.declared.Answer.TheVariants.{Written}
 use Rattle.damage.specs.Damage.{header_flips, Touched, sent_message, differs, header_near}
 use Rattle.demands.specs.Received.{BadPair, Count}
 use Rattle.demands.proofs.ReceivedLaws.{count_once, count_one, count_none}
@@ -81,7 +80,7 @@ module _ (spoken : Settings) (n : ℕ) (right : settings_right spoken ≡ true) 
     few = omega (arith, count_ones n);
   }
 
-  written : verdict spoken (ones n) (needed (ones n)) ≡ Written (needed (ones n))
+  written : verdict spoken (ones n) (needed (ones n)) ≡ Ok (needed (ones n))
   written =
       accepts spoken (ones n) (needed (ones n)) sized (says_is (is_wide (ones n)) 0 (frame_count (ones n)) nowhere (λ i a b. not_wide n i (omega (arith, count_ones n))))
       (says_is (ends_early (ones n)) 0 (frame_count (ones n)) nowhere (λ i a b. not_early n i (omega (arith, count_ones n)))) (omega arith)
@@ -101,11 +100,11 @@ module _ (spoken : Settings) (n : ℕ) (right : settings_right spoken ≡ true) 
 
   -- "Success (0) gives 144m"
   pub written_ones : (out : List ℕ) → multiframe_octets * (n / multiframe_frames + 1) ≤ length out
-      → (writing spoken (ones n) out).answer ≡ Written (multiframe_octets * (n / multiframe_frames + 1))
+      → (writing spoken (ones n) out).answer ≡ Ok (multiframe_octets * (n / multiframe_frames + 1))
   unfolding says_ones
   written_ones out room =
       let e : needed (ones n) ≡ multiframe_octets * (n / multiframe_frames + 1) = ap (λ (k : ℕ). multiframe_octets * k) multiframes_ones in
-      ap (λ (o : Outcome). o.answer) (writes says_ones out (omega arith)) ∙ ap Written e
+      ap (λ (o : Outcome). o.answer) (writes says_ones out (omega arith)) ∙ ap Ok e
 
 -- ---- 6,119 frames are the most, and 255 multiframes
 pub says6119 : Utterance

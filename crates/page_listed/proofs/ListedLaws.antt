@@ -1,7 +1,7 @@
 -- Two listings, octet for octet (01, "Reading"): what the reader's contract promises for received octets with damage in headers and packets.
 -- The octets come from a program outside of Rattle, none from the definitions, and sizes stand as 01 prints them.
 -- Assumes nothing.
-use Rattle.std.specs.Prelude.{◌≡◌, refl, Bool, true, false, ℕ, ◌+◌, ◌*◌, ◌%◌, ◌≤◌, ◌<◌, eqb, take, drop, get_or, replicate}
+use Rattle.std.specs.Prelude.{◌≡◌, refl, Bool, true, false, ℕ, ◌+◌, ◌*◌, ◌%◌, ◌≤◌, ◌<◌, eqb, take, drop, get_or, replicate, Some, None, Ok}
 use Rattle.std.proofs.Common.{sym, ◌∙◌, arith, lit<, lit≤, eq-eqb, ne_eqb}
 use Rattle.std.proofs.Math.Path.{ap, ap₂, subst}
 use Rattle.std.proofs.Math.Bool.{xor}
@@ -28,8 +28,7 @@ use Rattle.message.specs.Message.{message, rate_of, count_of, common_bits}
 use Rattle.message.specs.Message.Laws.{message_lt, rate_back, type_back, count_back, exp_back, common_rate, common_type, common_exp, common_message}
 use Rattle.header.specs.Reading as H
 use Rattle.header.proofs.Laws.{lost_at_three}
-use Rattle.header.specs.declared.Header.{Header}
-use Rattle.header.specs.declared.Header.TheVariants.{Codeword, Lost}
+use Rattle.header.specs.Types.{Header}
 use Rattle.cutting.specs.Cutting.{sync_met, last_met, piece_by, whole, Cutting, walk, cutting}
 use Rattle.header_readings.specs.Readings.{readings}
 use Rattle.settling.specs.Settling.{first_agreeing, settling}
@@ -37,7 +36,6 @@ use Rattle.header_notes.specs.HeaderNotes.{header_note}
 use Rattle.settling.proofs.Laws.{all_agree}
 use Rattle.unfit.specs.Laws.{Usable}
 use Rattle.header_notes.specs.Laws.{note_lost}
-use Rattle.settling.specs.declared.Settlement.TheVariants as S
 use Rattle.consistency.specs.Consistency.{flagged, flags, inconsistent}
 use Rattle.carrier.specs.Carrier.{received, pair_count}
 use Rattle.notes.specs.Notes.{pair_fails, frames_of, all_frames, pair_inconsistent, pair_notes}
@@ -51,8 +49,7 @@ use Rattle.reader.specs.Reading.{answer_number, answer_values, summary, index_pa
 use Rattle.deciding.specs.Laws.{Fitting}
 use Rattle.reader.specs.ReadingLaws.{Accepted}
 use Rattle.reader.proofs.ReadingLaws.{accepting}
-use Rattle.deciding.specs.declared.Verdict.{Verdict}
-use Rattle.reader.specs.declared.Answer.TheVariants.{Read}
+use Rattle.deciding.specs.Types.{Verdict}
 use Rattle.worked_examples.specs.Examples as E
 use Rattle.demands_met.proofs.MetLaws.{zero_consistent}
 use Rattle.demands.proofs.ReadsBackLaws.{zeros}
@@ -90,11 +87,11 @@ is_usable = record {
   exp = common_exp (message (settings 0 0) 0 0) ∙ exp_back (settings 0 0) 0 0;
 }
 
-module _ (ch : Choices) (s ps : List ℕ) (cut : cutting s ≡ record { places = ps; ending = whole }) (some : length ps ≡ 0 → ⊥) (settles : settling ch (readings s ps) ≡ S.Settled settled)
+module _ (ch : Choices) (s ps : List ℕ) (cut : cutting s ≡ record { places = ps; ending = whole }) (some : length ps ≡ 0 → ⊥) (settles : settling ch (readings s ps) ≡ Some settled)
     (tables : Tables) (right : Right tables) (ns : List ℕ) (judged : received_notes s ps tables ≡ ns)
     (good : bad_pairs ns ≡ pair_count ps → ⊥) (index report : List ℕ) (hi : index_octets * length ps ≤ length index) (hr : report_octets * length ps ≤ length report) where
   is_read : reading ch s tables index report
-      ≡ outcome (Read (summary s ps ns settled)) (over index 0 (index_octets * length ps) (index_part s ps ns)) (over report 0 (report_octets * length ps) (report_part s ps ns settled))
+      ≡ outcome (Ok (summary s ps ns settled)) (over index 0 (index_octets * length ps) (index_part s ps ns)) (over report 0 (report_octets * length ps) (report_part s ps ns settled))
   unfolding reading
   is_read =
       let pl : (cutting s).places ≡ ps = ap (λ (w : Cutting). w.places) cut in
@@ -117,7 +114,7 @@ module _ (ch : Choices) (s ps : List ℕ) (cut : cutting s ≡ record { places =
       (accepting ch s tables (length index) (length report) settled a)
       ∙ ap
       (λ (n : List ℕ).
-      outcome (Read (summary s ps n settled)) (over index 0 (index_octets * length ps) (index_part s ps n)) (over report 0 (report_octets * length ps) (report_part s ps n settled)))
+      outcome (Ok (summary s ps n settled)) (over index 0 (index_octets * length ps) (index_part s ps n)) (over report 0 (report_octets * length ps) (report_part s ps n settled)))
       judged
 
   module _ (frames noted : List ℕ) (put : index_part s ps ns ≡ frames) (says : report_part s ps ns settled ≡ noted) (lf : length frames ≡ index_octets * length ps)
@@ -159,24 +156,24 @@ read_4 = clean (message (settings 1 0) 4 0) 0xCB3B0021 (message_lt (settings 1 0
 read_5 : ReadsAs 0x3F0F4001 (message (settings 1 0) 1 0) 2
 read_5 = flips (message (settings 1 0) 1 0) 0x3F0F0009 0x4008 2 (message_lt (settings 1 0) 1 0) (word_of 1 0 1 0x09 0x00 0x0F 0x3F (Headers.table).header_1_0) two_flips (lit≤ tt)
 
-read_lost : H.reading 0x01010001 ≡ Lost
+read_lost : H.reading 0x01010001 ≡ None
 read_lost = lost_at_three 0x01010001 0 (lit< tt) three_from_zero
 
 -- the note of a word that is read with these settings and this counter in place k
 module _ (w count f k : ℕ) where
   note_by_lem : (rate : ℕ) (t : Bool) → ReadsAs w (message (settings rate 0) count 0) f → eqb (common_bits (message (settings rate 0) count 0)) settled ≡ t
-      → header_note settled k (Codeword (H.decoded_as w (message (settings rate 0) count 0))) ≡ f + when (eqb (count % 16) ((k + 1) % 16)) 0 4 + when t 0 8
+      → header_note settled k (Some (H.decoded_as w (message (settings rate 0) count 0))) ≡ f + when (eqb (count % 16) ((k + 1) % 16)) 0 4 + when t 0 8
   unfolding header_note
   note_by_lem rate t r e =
       ap (λ (x : ℕ). x + when (eqb (count_of (message (settings rate 0) count 0)) ((k + 1) % 16)) 0 4 + when (eqb (common_bits (message (settings rate 0) count 0)) settled) 0 8) r.1
       ∙ ap₂ (λ (n : ℕ) (b : Bool). f + when (eqb n ((k + 1) % 16)) 0 4 + when b 0 8) (count_back (settings rate 0) count 0) e
 
   note_same : ReadsAs w (message (settings 0 0) count 0) f
-      → header_note settled k (Codeword (H.decoded_as w (message (settings 0 0) count 0))) ≡ f + when (eqb (count % 16) ((k + 1) % 16)) 0 4 + 0
+      → header_note settled k (Some (H.decoded_as w (message (settings 0 0) count 0))) ≡ f + when (eqb (count % 16) ((k + 1) % 16)) 0 4 + 0
   note_same r = note_by_lem 0 true r (eq-eqb (common_bits (message (settings 0 0) count 0)) settled (common_message (settings 0 0) count 0))
 
   note_other : ReadsAs w (message (settings 1 0) count 0) f
-      → header_note settled k (Codeword (H.decoded_as w (message (settings 1 0) count 0))) ≡ f + when (eqb (count % 16) ((k + 1) % 16)) 0 4 + 8
+      → header_note settled k (Some (H.decoded_as w (message (settings 1 0) count 0))) ≡ f + when (eqb (count % 16) ((k + 1) % 16)) 0 4 + 8
   note_other r =
       note_by_lem 1 false r (ne_eqb (common_bits (message (settings 1 0) count 0)) settled (λ e.
       let z : ◌≡◌ {A = ℕ} 1 0 =
@@ -230,13 +227,13 @@ unfolding replaced source source_by run_start leading
 put_plain = refl
 
 abbrev hurt_heads : List Header
-hurt_heads = Codeword (H.decoded_as 0xEE0E0008 (message (settings 0 0) 1 0)) ∷ Codeword (H.decoded_as 0x8D1D0010 (message (settings 0 0) 2 0)) ∷ []
+hurt_heads = Some (H.decoded_as 0xEE0E0008 (message (settings 0 0) 1 0)) ∷ Some (H.decoded_as 0x8D1D0010 (message (settings 0 0) 2 0)) ∷ []
 
 heads_hurt : readings hurt places ≡ hurt_heads
 unfolding readings value fields field
 heads_hurt = ap₂ (λ (g h : Header). g ∷ h ∷ []) read_1.0 read_2.0
 
-settles_hurt : (ch : Choices) → settling ch (readings hurt places) ≡ S.Settled settled
+settles_hurt : (ch : Choices) → settling ch (readings hurt places) ≡ Some settled
 settles_hurt ch =
     ap (settling ch) heads_hurt
     ∙ all_agree ch hurt_heads settled (omega arith) (common_message (settings 0 0) 1 0, (common_message (settings 0 0) 2 0, tt))
@@ -244,7 +241,7 @@ settles_hurt ch =
 says_hurt : (ns : List ℕ) → report_part hurt places ns settled ≡ (0 ∷ part 0 12 ns) ++ (1 ∷ part 12 12 ns)
 unfolding report_part
 says_hurt ns =
-    ap (λ (hs : List Header). joined (λ k. header_note settled k (get_or hs k Lost) ∷ part (first_pair k) multiframe_pairs ns) 2) heads_hurt
+    ap (λ (hs : List Header). joined (λ k. header_note settled k (get_or hs k None) ∷ part (first_pair k) multiframe_pairs ns) 2) heads_hurt
     ∙ rw (note_same 0xEE0E0008 1 0 0 read_1, note_same 0x8D1D0010 2 1 1 read_2)
 
 hurt_listed : (ch : Choices) → Lists ch hurt steep (0 ∷ 0 ∷ 2 ∷ 31 ∷ 9 ∷ 1 ∷ []) standing hurt_notes
@@ -289,26 +286,26 @@ judged_strange tables =
 
 abbrev strange_heads : List Header
 strange_heads =
-    Codeword (H.decoded_as 0xEE0E0008 (message (settings 0 0) 1 0)) ∷ Codeword (H.decoded_as 0xEE0E0008 (message (settings 0 0) 1 0)) ∷ Lost
-    ∷ Codeword (H.decoded_as 0xCB3B0021 (message (settings 1 0) 4 0)) ∷ Codeword (H.decoded_as 0x3F0F4001 (message (settings 1 0) 1 0)) ∷ []
+    Some (H.decoded_as 0xEE0E0008 (message (settings 0 0) 1 0)) ∷ Some (H.decoded_as 0xEE0E0008 (message (settings 0 0) 1 0)) ∷ None
+    ∷ Some (H.decoded_as 0xCB3B0021 (message (settings 1 0) 4 0)) ∷ Some (H.decoded_as 0x3F0F4001 (message (settings 1 0) 1 0)) ∷ []
 
 heads_strange : readings strange row ≡ strange_heads
 unfolding readings value fields field
 heads_strange =
-    let first = Codeword (H.decoded_as 0xEE0E0008 (message (settings 0 0) 1 0)) in
+    let first = Some (H.decoded_as 0xEE0E0008 (message (settings 0 0) 1 0)) in
     ap₂ (λ (a b : Header). a ∷ a ∷ b ∷ H.reading 0xCB3B0021 ∷ H.reading 0x3F0F4001 ∷ []) read_1.0 read_lost
-    ∙ ap₂ (λ (a b : Header). first ∷ first ∷ Lost ∷ a ∷ b ∷ []) read_4.0 read_5.0
+    ∙ ap₂ (λ (a b : Header). first ∷ first ∷ None ∷ a ∷ b ∷ []) read_4.0 read_5.0
 
-settles_strange : (ch : Choices) → settling ch (readings strange row) ≡ S.Settled settled
+settles_strange : (ch : Choices) → settling ch (readings strange row) ≡ Some settled
 unfolding settling first_agreeing
 settles_strange ch =
     ap (settling ch) heads_strange
-    ∙ rw (eq-eqb (common_bits (message (settings 0 0) 1 0)) (common_bits (message (settings 0 0) 1 0)) refl) (ap S.Settled (common_message (settings 0 0) 1 0))
+    ∙ rw (eq-eqb (common_bits (message (settings 0 0) 1 0)) (common_bits (message (settings 0 0) 1 0)) refl) (ap Some (common_message (settings 0 0) 1 0))
 
 says_strange : report_part strange row (replicate 60 0) settled ≡ strange_notes
 unfolding report_part
 says_strange =
-    ap (λ (hs : List Header). joined (λ k. header_note settled k (get_or hs k Lost) ∷ part (first_pair k) multiframe_pairs (replicate 60 0)) 5) heads_strange
+    ap (λ (hs : List Header). joined (λ k. header_note settled k (get_or hs k None) ∷ part (first_pair k) multiframe_pairs (replicate 60 0)) 5) heads_strange
     ∙ rw (
       note_same 0xEE0E0008 1 0 0 read_1,
       note_same 0xEE0E0008 1 0 1 read_1,

@@ -1,14 +1,13 @@
 -- The reader's rules, case by case (01, "Headers", "Settings", "Bad pairs" with 02, C-12, "Replacing", and the success answer): numbers, places and bounds as 01
 -- prints them, which no theorem would notice if definition, laws and code were changed alike. The numbers stand bare here, as they do there.
 -- Assumes nothing.
-use Rattle.std.specs.Prelude.{◌≡◌, refl, true, [], ◌∷◌, ℕ, replicate}
+use Rattle.std.specs.Prelude.{◌≡◌, refl, true, [], ◌∷◌, ℕ, replicate, None}
 use Rattle.std.proofs.Common.{sym, ap, ◌∙◌, arith, eq-eqb, ne_eqb}
 use Rattle.choices.specs.declared.Choices.{Choices}
 use Rattle.settings.specs.Settings.{settings as set}
 use Rattle.frames.specs.Frames.{zero_frame}
 use Rattle.message.specs.Message.{message, rate_of, common_bits}
 use Rattle.message.specs.Message.Laws.{rate_back, count_back, common_rate, common_message, message_counts, message_rate_1}
-use Rattle.header.specs.declared.Header.TheVariants.{Lost}
 use Rattle.settling.specs.Settling.{first_agreeing, only_one, settling}
 use Rattle.header_notes.specs.HeaderNotes.{header_note}
 use Rattle.settling.proofs.Laws.{two_or_more, only_mended}
@@ -149,7 +148,7 @@ settings ch =
       around_a_lost_one = rw s;
       first_to_agree = rw (x, t);
       none_agrees = two_or_more ch (read_with 8 0 ∷ read_with 1 0 ∷ []) (omega arith) ∙ rw x;
-      one_is_lost = two_or_more ch (read_with 8 0 ∷ Lost ∷ []) (omega arith);
+      one_is_lost = two_or_more ch (read_with 8 0 ∷ None ∷ []) (omega arith);
       only_clean = refl;
       only_by_default = refl;
       only_mended = only_mended ch (record { message = 8; flips = 1 }) (λ e. omega arith);

@@ -2,7 +2,7 @@
 -- neighbours in the order with both applying; and success with every setting. 01's numbers stand bare here: this is the page that the
 -- definitions are held to. Octets are in sending order.
 -- Assumes nothing.
-use Rattle.std.specs.Prelude.{◌≡◌, Bool, true, List, [], ◌∷◌, ◌++◌, ℕ, zero, suc, ◌+◌, ◌*◌, ◌≤◌, ◌<◌, drop, get_or, replicate}
+use Rattle.std.specs.Prelude.{◌≡◌, Bool, true, List, [], ◌∷◌, ◌++◌, ℕ, zero, suc, ◌+◌, ◌*◌, ◌≤◌, ◌<◌, drop, get_or, replicate, Some, None, Ok, Err}
 use Rattle.std.proofs.Math.Path.{refl, sym}
 use Rattle.std.proofs.Common.{ap, ap₂, ◌∙◌, subst, inl, inr, arith, lit<, length-append, length-drop, drop_at, get_or-take, get_or-drop}
 use Rattle.std.proofs.Math.Bool.{xor}
@@ -28,8 +28,7 @@ use Rattle.message.specs.Message.{message, rate_of, exp_of, common_bits}
 use Rattle.message.specs.Message.Laws.{message_lt, message_counts, rate_back, rate_masked, exp_shifted, common_rate, common_exp, common_message}
 use Rattle.header.specs.Reading as H
 use Rattle.header.proofs.Laws.{lost_at_three}
-use Rattle.header.specs.declared.Header.{Header}
-use Rattle.header.specs.declared.Header.TheVariants.{Codeword, Lost}
+use Rattle.header.specs.Types.{Header}
 use Rattle.cutting.specs.Cutting.{sync_met, last_met, piece_by, piece_of, Ending, whole, refused, Cutting, walk, cutting}
 use Rattle.cutting.specs.declared.Piece.TheVariants.{Multiframe}
 use Rattle.cutting.proofs.Laws.{multiframe_met, at_place, every_length}
@@ -39,8 +38,7 @@ use Rattle.header_readings.specs.Laws.{length_readings}
 use Rattle.settling.proofs.Laws.{neither, one_default, only_clean, only_mended, all_agree}
 use Rattle.unfit.specs.Laws.{Usable, fit_is, unfit_is}
 use Rattle.carrier.specs.Carrier.{received, pair_count}
-use Rattle.settling.specs.declared.Settlement.{Settlement}
-use Rattle.settling.specs.declared.Settlement.TheVariants as S
+use Rattle.settling.specs.Types.{Settlement}
 use Rattle.notes.specs.Notes.{pair_fails, pair_notes, pair_inconsistent}
 use Rattle.bad_pairs.specs.BadPairs.{note_by, notes, bad_pairs}
 use Rattle.deciding.specs.Deciding.{room_verdict, settled_verdict, whole_verdict, received_notes}
@@ -49,11 +47,9 @@ use Rattle.reader.proofs.FirstTests.{not_admitted, not_cut, whole_reading}
 use Rattle.refusals.specs.Refusals.{reading_number, reading_place}
 use Rattle.refusals.specs.declared.Reading.{Reading as Refusal}
 use Rattle.refusals.specs.declared.Reading.TheVariants.{WrongTables, Empty, Unsettled, Unfit, IndexShort, ReportShort, AllBad}
-use Rattle.reader.specs.declared.Answer.TheVariants.{Refused}
 use Rattle.image.specs.Made.{word_in, part_within}
 use Rattle.writer.specs.Writing.{room_answer, verdict, needed}
 use Rattle.writer.specs.Utterance.{Utterance}
-use Rattle.writer.specs.declared.Answer.TheVariants.{Written}
 use Rattle.demands.specs.Whole.{row_of}
 use Rattle.demands.proofs.WholeLaws.{cut_is, readings_are}
 use Rattle.demands.proofs.ReadsBackLaws.{reads_image}
@@ -225,7 +221,7 @@ pub record Table (ch : Choices) : Type 0 where
   pub rate_3_type_1 : Succeeds by_one_header (spoken_behind (0x0F ∷ 0x00 ∷ 0x0B ∷ 0xFB ∷ [])) (3 ∷ 1 ∷ 1 ∷ 1 ∷ 0 ∷ 1 ∷ []) (1 ∷ replicate 167 0) (replicate 13 0)
 
 -- ---- from an outcome to a line
-pub refuses : (ch : Choices) (s : List ℕ) (tables : Tables) (index report : List ℕ) (r : Refusal) → reading ch s tables index report ≡ outcome (Refused r) index report
+pub refuses : (ch : Choices) (s : List ℕ) (tables : Tables) (index report : List ℕ) (r : Refusal) → reading ch s tables index report ≡ outcome (Err r) index report
     → Refuses ch s tables index report (reading_number r) (reading_place r)
 refuses ch s tables index report r e =
     record {
@@ -265,7 +261,7 @@ module _ (ch : Choices) (s ps : List ℕ) (cut : cutting s ≡ record { places =
   unfolding whole_verdict
   is_14 z tables right index report =
       refuses ch s tables index report (Empty (length s))
-      (sym (whole_reading ch s tables index report (right_passes tables ((right.0, right.1), right.2)) (outcome (Refused (Empty (length s))) index report) ps
+      (sym (whole_reading ch s tables index report (right_passes tables ((right.0, right.1), right.2)) (outcome (Err (Empty (length s))) index report) ps
       (ap (λ (w : Cutting). w.ending) cut) (sym (ap (λ (w : Cutting). w.places) cut)) (rw (eq-eqb (length ps) 0 z))))
 
   module _ (some : length ps ≡ 0 → ⊥) (x : Settlement) (settles : settling ch (readings s ps) ≡ x) where
@@ -281,35 +277,35 @@ module _ (ch : Choices) (s ps : List ℕ) (cut : cutting s ≡ record { places =
         (ap (λ (w : Cutting). w.ending) cut) (sym (ap (λ (w : Cutting). w.places) cut)) (rw (ne_eqb (length ps) 0 some, settles)))
 
   module _ (some : length ps ≡ 0 → ⊥) where
-    is_16 : settling ch (readings s ps) ≡ S.Unsettled → Always ch s 16 0
+    is_16 : settling ch (readings s ps) ≡ None → Always ch s 16 0
     unfolding settled_verdict
-    is_16 e tables right index report = refuses ch s tables index report Unsettled (next some S.Unsettled e tables right index report)
+    is_16 e tables right index report = refuses ch s tables index report Unsettled (next some None e tables right index report)
 
-    module _ (c : ℕ) (e : settling ch (readings s ps) ≡ S.Settled c) where
+    module _ (c : ℕ) (e : settling ch (readings s ps) ≡ Some c) where
       is_17_rate : rate_of c ≡ 2 → Always ch s 17 0
       unfolding settled_verdict
       is_17_rate h tables right index report =
-          refuses ch s tables index report Unfit (next some (S.Settled c) e tables right index report ∙ rw (unfit_is c (inl h)))
+          refuses ch s tables index report Unfit (next some (Some c) e tables right index report ∙ rw (unfit_is c (inl h)))
 
       is_17_exp : (rate_of c ≡ 2 → ⊥) → (exp_of c ≡ 0 → ⊥) → Always ch s 17 0
       unfolding settled_verdict
       is_17_exp r h tables right index report =
           refuses ch s tables index report Unfit
-          (next some (S.Settled c) e tables right index report ∙ rw (unfit_is c (inr h)))
+          (next some (Some c) e tables right index report ∙ rw (unfit_is c (inr h)))
 
       module _ (u : Usable c) (i r : ℕ) where
         is_18 : i < index_octets * length ps → Sized ch s i r 18 (index_octets * length ps)
         unfolding settled_verdict room_verdict
         is_18 h tables right index report li lr =
             refuses ch s tables index report (IndexShort (index_octets * length ps))
-            (next some (S.Settled c) e tables right index report
+            (next some (Some c) e tables right index report
             ∙ rw (fit_is c u, lt-ltb (length index) (index_octets * length ps) (omega arith)))
 
         is_19 : index_octets * length ps ≤ i → r < report_octets * length ps → Sized ch s i r 19 (report_octets * length ps)
         unfolding settled_verdict room_verdict
         is_19 hi h tables right index report li lr =
             refuses ch s tables index report (ReportShort (report_octets * length ps))
-            (next some (S.Settled c) e tables right index report
+            (next some (Some c) e tables right index report
             ∙ rw (
               fit_is c u,
               le-ltb (length index) (index_octets * length ps) (omega arith),
@@ -321,7 +317,7 @@ module _ (ch : Choices) (s ps : List ℕ) (cut : cutting s ≡ record { places =
         unfolding settled_verdict room_verdict
         is_20 hi hr bad tables right index report li lr =
             refuses ch s tables index report AllBad
-            (next some (S.Settled c) e tables right index report
+            (next some (Some c) e tables right index report
             ∙ rw (
               fit_is c u,
               le-ltb (length index) (index_octets * length ps) (omega arith),
@@ -357,7 +353,7 @@ read_flipped_2 = flips 16 0x0D1D0010 3 2 (lit< tt) (of_octets (codeword 16) 0x10
 pub read_rate_2 : ReadsAs 0x9D0D000A (message (settings 2 0) 1 0) 0
 read_rate_2 = clean (message (settings 2 0) 1 0) 0x9D0D000A (message_lt (settings 2 0) 1 0) (word_of 2 0 1 0x0A 0x00 0x0D 0x9D (Headers.table).header_2_0)
 
-pub read_lost : H.reading 0x01010001 ≡ Lost
+pub read_lost : H.reading 0x01010001 ≡ None
 read_lost = lost_at_three 0x01010001 0 (lit< tt) three_from_zero
 
 -- their common bits
@@ -381,19 +377,19 @@ module _ (a b c d : ℕ) where
   unfolding readings
   head_one = refl
 
-settles_one : settling by_one_header (readings one (0 ∷ [])) ≡ S.Settled (common_bits 8)
+settles_one : settling by_one_header (readings one (0 ∷ [])) ≡ Some (common_bits 8)
 unfolding value fields field
 settles_one = ap (settling by_one_header) (head_one 0x08 0x00 0x0E 0xEE ∙ ap (λ (h : Header). h ∷ []) read_1.0) ∙ only_clean by_one_header (H.decoded_as 0xEE0E0008 8) refl read_1.1
 
-settles_flipped : (ch : Choices) → settling ch (readings (headed flipped) (0 ∷ [])) ≡ S.Unsettled
+settles_flipped : (ch : Choices) → settling ch (readings (headed flipped) (0 ∷ [])) ≡ None
 unfolding value fields field
 settles_flipped ch = ap (settling ch) (head_one 0x09 0x00 0x0E 0xEE ∙ ap (λ (h : Header). h ∷ []) read_flipped.0) ∙ only_mended ch (H.decoded_as 0xEE0E0009 8) (λ e. omega (arith, read_flipped.1))
 
-settles_rate_2 : settling by_one_header (readings (headed rate2) (0 ∷ [])) ≡ S.Settled (common_bits (message (settings 2 0) 1 0))
+settles_rate_2 : settling by_one_header (readings (headed rate2) (0 ∷ [])) ≡ Some (common_bits (message (settings 2 0) 1 0))
 unfolding value fields field
 settles_rate_2 = ap (settling by_one_header) (head_one 0x0A 0x00 0x0D 0x9D ∙ ap (λ (h : Header). h ∷ []) read_rate_2.0) ∙ only_clean by_one_header (H.decoded_as 0x9D0D000A (message (settings 2 0) 1 0)) refl read_rate_2.1
 
-settles_exp : settling by_one_header (readings (headed exp9) (0 ∷ [])) ≡ S.Settled (common_bits 32768)
+settles_exp : settling by_one_header (readings (headed exp9) (0 ∷ [])) ≡ Some (common_bits 32768)
 unfolding value fields field
 settles_exp = ap (settling by_one_header) (head_one 0x00 0x80 0x80 0xE8 ∙ ap (λ (h : Header). h ∷ []) read_exp.0) ∙ only_clean by_one_header (H.decoded_as 0xE8808000 32768) refl read_exp.1
 
@@ -405,10 +401,10 @@ pub heads_two : readings two (0 ∷ 144 ∷ []) ≡ H.reading 0xEE0E0008 ∷ H.r
 unfolding readings value fields field
 heads_two = refl
 
-settles_two : (ch : Choices) → settling ch (readings two (0 ∷ 144 ∷ [])) ≡ S.Settled (common_bits 8)
+settles_two : (ch : Choices) → settling ch (readings two (0 ∷ 144 ∷ [])) ≡ Some (common_bits 8)
 settles_two ch =
     ap (settling ch) (heads_two ∙ ap₂ (λ (g h : Header). g ∷ h ∷ []) read_1.0 read_2.0)
-    ∙ all_agree ch (Codeword (H.decoded_as 0xEE0E0008 8) ∷ Codeword (H.decoded_as 0x0D1D0010 16) ∷ []) (common_bits 8) (omega arith) (refl, (common_16, tt))
+    ∙ all_agree ch (Some (H.decoded_as 0xEE0E0008 8) ∷ Some (H.decoded_as 0x0D1D0010 16) ∷ []) (common_bits 8) (omega arith) (refl, (common_16, tt))
 
 -- ---- every pair bad
 cut_bad : cutting all_bad ≡ record { places = 0 ∷ []; ending = whole }
@@ -419,7 +415,7 @@ head_bad : readings all_bad (0 ∷ []) ≡ H.reading 0xEE0E0008 ∷ []
 unfolding readings value fields field
 head_bad = refl
 
-settles_bad : settling by_one_header (readings all_bad (0 ∷ [])) ≡ S.Settled (common_bits 8)
+settles_bad : settling by_one_header (readings all_bad (0 ∷ [])) ≡ Some (common_bits 8)
 settles_bad = ap (settling by_one_header) (head_bad ∙ ap (λ (h : Header). h ∷ []) read_1.0) ∙ only_clean by_one_header (H.decoded_as 0xEE0E0008 8) refl read_1.1
 
 fails_bad : each (pair_fails (received all_bad (0 ∷ []))) 12 ≡ replicate 12 true
@@ -492,23 +488,23 @@ module _ (header : List ℕ) (four : length (headed header) ≡ multiframe_octet
       ∙ ap₂ (λ (q k : ℕ). (walk 0 (drop q s) q k).ending) x y ∙ ap (λ (r : List ℕ). (walk 0 r (144 * n) n).ending) (drop_at (again n f) rest (144 * n) (length_again f four n))
 
 -- ---- n multiframes of which no header can be read
-pub all_lost : (hs : List Header) → ((k : ℕ) → k < length hs → get_or hs k Lost ≡ Lost) → (seen : List ℕ) → first_agreeing seen hs ≡ S.Unsettled
+pub all_lost : (hs : List Header) → ((k : ℕ) → k < length hs → get_or hs k None ≡ None) → (seen : List ℕ) → first_agreeing seen hs ≡ None
 unfolding first_agreeing
 all_lost [] h seen = refl
 all_lost (x ∷ hs) h seen =
-    subst (λ (y : Header). first_agreeing seen (y ∷ hs) ≡ S.Unsettled) (sym (h 0 (omega arith))) (all_lost hs (λ k l. h (suc k) (omega arith)) seen)
+    subst (λ (y : Header). first_agreeing seen (y ∷ hs) ≡ None) (sym (h 0 (omega arith))) (all_lost hs (λ k l. h (suc k) (omega arith)) seen)
 
-only_lost : (hs : List Header) → ((k : ℕ) → k < length hs → get_or hs k Lost ≡ Lost) → only_one hs ≡ S.Unsettled
+only_lost : (hs : List Header) → ((k : ℕ) → k < length hs → get_or hs k None ≡ None) → only_one hs ≡ None
 unfolding only_one
 only_lost [] h = refl
-only_lost (x ∷ hs) h = subst (λ (y : Header). only_one (y ∷ hs) ≡ S.Unsettled) (sym (h 0 (omega arith))) refl
+only_lost (x ∷ hs) h = subst (λ (y : Header). only_one (y ∷ hs) ≡ None) (sym (h 0 (omega arith))) refl
 
-lost_unsettled : (ch : Choices) (n : ℕ) → settling ch (each (λ k. Lost) n) ≡ S.Unsettled
+lost_unsettled : (ch : Choices) (n : ℕ) → settling ch (each (λ k. None) n) ≡ None
 lost_unsettled ch n =
-    let h : (k : ℕ) → k < length (each (λ k. Lost) n) → get_or (each (λ k. Lost) n) k Lost ≡ Lost = λ k l. each_at (λ k. Lost) n k Lost (omega (arith, length_each (λ (k : ℕ). Lost) n)) in
-    neither ch (each (λ k. Lost) n) (all_lost (each (λ k. Lost) n) h []) (only_lost (each (λ k. Lost) n) h)
+    let h : (k : ℕ) → k < length (each (λ k. None) n) → get_or (each (λ k. None) n) k None ≡ None = λ k l. let z = length_each {A = Header} (λ k. None) n in each_at (λ k. None) n k None (omega (arith, z, l)) in
+    neither ch (each (λ k. None) n) (all_lost (each (λ k. None) n) h []) (only_lost (each (λ k. None) n) h)
 
-word_lost : (n k : ℕ) → k < n → H.reading (word_in (again n (headed lost)) k) ≡ Lost
+word_lost : (n k : ℕ) → k < n → H.reading (word_in (again n (headed lost)) k) ≡ None
 unfolding value fields field
 word_lost n k h = ap (λ (l : List ℕ). H.reading (value (bits l))) (part_again (headed lost) refl n k 2 4 h (lit< tt)) ∙ read_lost
 
@@ -519,10 +515,10 @@ many_lost ch n h few =
     is_16 ch s (row_of n)
     (cut_is s n few (length_again (headed lost) refl n) (λ k l. ap (λ (i : ℕ). part i 2 s) (z k) ∙ part_again (headed lost) refl n k 0 2 l (lit< tt)))
     (λ e. omega (arith, every_length 0 n))
-    (ap (settling ch) (readings_are s n ∙ same_each (λ k. H.reading (word_in s k)) (λ k. Lost) n (word_lost n)) ∙ lost_unsettled ch n)
+    (ap (settling ch) (readings_are s n ∙ same_each (λ k. H.reading (word_in s k)) (λ k. None) n (word_lost n)) ∙ lost_unsettled ch n)
 
 -- ---- success, by the theorem "reads back"
-speaks : (rate kind : ℕ) (h : List ℕ) → header rate kind 1 ≡ h → verdict (settings rate kind) (lone 1) (needed (lone 1)) ≡ Written (needed (lone 1))
+speaks : (rate kind : ℕ) (h : List ℕ) → header rate kind 1 ≡ h → verdict (settings rate kind) (lone 1) (needed (lone 1)) ≡ Ok (needed (lone 1))
     → Succeeds by_one_header (spoken_behind h) (rate ∷ kind ∷ 1 ∷ 1 ∷ 0 ∷ 1 ∷ []) (1 ∷ replicate 167 0) (replicate 13 0)
 speaks rate kind h x w tables right index report hi hr =
     let u : Utterance = record { settings = settings rate kind; indices = lone 1; small = small_lone 1 (lit< tt); written = w } in
@@ -564,7 +560,7 @@ heads_twice = refl
 rate_17_twice : (ch : Choices) → Always ch (headed rate2 ++ headed rate2) 17 0
 rate_17_twice ch =
     let m = message (settings 2 0) 1 0 in
-    let h = Codeword (H.decoded_as 0x9D0D000A m) in
+    let h = Some (H.decoded_as 0x9D0D000A m) in
     is_17_rate ch (headed rate2 ++ headed rate2) (0 ∷ 144 ∷ []) cut_twice (λ e. omega arith) (common_bits m)
     (ap (settling ch) (heads_twice ∙ ap (λ (x : Header). x ∷ x ∷ []) read_rate_2.0) ∙ all_agree ch (h ∷ h ∷ []) (common_bits m) (omega arith) (refl, (refl, tt)))
     (common_rate m ∙ rate_back (settings 2 0) 1 0)
@@ -585,7 +581,7 @@ heads_exp_twice = refl
 
 exp_17_twice : (ch : Choices) → Always ch (headed exp9 ++ headed exp9) 17 0
 exp_17_twice ch =
-    let h = Codeword (H.decoded_as 0xE8808000 32768) in
+    let h = Some (H.decoded_as 0xE8808000 32768) in
     is_17_exp ch (headed exp9 ++ headed exp9) (0 ∷ 144 ∷ []) cut_exp_twice (λ e. omega arith) (common_bits 32768)
     (ap (settling ch) (heads_exp_twice ∙ ap (λ (x : Header). x ∷ x ∷ []) read_exp.0) ∙ all_agree ch (h ∷ h ∷ []) (common_bits 32768) (omega arith) (refl, (refl, tt)))
     (λ e. let z : ◌≡◌ {A = ℕ} 0 2 = rate_masked 32768 ∙ sym (common_rate 32768) ∙ e in omega arith)
@@ -599,9 +595,9 @@ heads_bad_twice : readings (all_bad ++ all_bad) (0 ∷ 144 ∷ []) ≡ H.reading
 unfolding readings value fields field
 heads_bad_twice = refl
 
-settles_bad_twice : (ch : Choices) → settling ch (readings (all_bad ++ all_bad) (0 ∷ 144 ∷ [])) ≡ S.Settled (common_bits 8)
+settles_bad_twice : (ch : Choices) → settling ch (readings (all_bad ++ all_bad) (0 ∷ 144 ∷ [])) ≡ Some (common_bits 8)
 settles_bad_twice ch =
-    let h = Codeword (H.decoded_as 0xEE0E0008 8) in
+    let h = Some (H.decoded_as 0xEE0E0008 8) in
     ap (settling ch) (heads_bad_twice ∙ ap (λ (x : Header). x ∷ x ∷ []) read_1.0) ∙ all_agree ch (h ∷ h ∷ []) (common_bits 8) (omega arith) (refl, (refl, tt))
 
 one_18 : (i r : ℕ) → i < 168 → Sized by_one_header one i r 18 168

@@ -1,16 +1,14 @@
 -- The reader's rules, case by case (01, "Headers", "Settings", "Bad pairs" with 02, C-12, "Replacing", and the success answer): numbers, places and bounds as 01
 -- prints them, which no theorem would notice if definition, laws and code were changed alike. The numbers stand bare here, as they do there.
 -- Assumes nothing.
-use Rattle.std.specs.Prelude.{◌≡◌, true, false, List, [], ◌∷◌, ◌++◌, ℕ, zero, suc, ℤ, pos, negsuc, replicate}
+use Rattle.std.specs.Prelude.{◌≡◌, true, false, List, [], ◌∷◌, ◌++◌, ℕ, zero, suc, ℤ, pos, negsuc, replicate, Some, None}
 use Rattle.choices.specs.Choices.{by_default, by_one_header}
 use Rattle.choices.specs.declared.Choices.{Choices}
 use Rattle.settings.specs.Settings.{settings as set}
 use Rattle.message.specs.Message.{message, common_bits}
-use Rattle.header.specs.declared.Header.{Header}
-use Rattle.header.specs.declared.Header.TheVariants.{Codeword, Lost}
+use Rattle.header.specs.Types.{Header}
 use Rattle.settling.specs.Settling.{settling}
 use Rattle.header_notes.specs.HeaderNotes.{header_note}
-use Rattle.settling.specs.declared.Settlement.TheVariants.{Settled, Unsettled}
 use Rattle.consistency.specs.Consistency.{exceeding, element_exceeds, flagged, inconsistent}
 use Rattle.replacing.specs.Examples.{stand_ins}
 use Rattle.replacing.specs.Speech.{speech_of, end_of}
@@ -137,14 +135,14 @@ pub record Speech : Type 0 where
 
 -- a header that is read with this message and so many flips
 abbrev pub read_with : ℕ → ℕ → Header
-read_with m f = Codeword (record { message = m; flips = f })
+read_with m f = Some (record { message = m; flips = f })
 
 -- ---- header notes: 8 kHz, type 0 are settled
 pub record Notes : Type 0 where
   -- "0 clean, 1 or 2 flips mended, 3 lost"
   pub clean : header_note (common_bits (message (set 0 0) 0 0)) 0 (read_with (message (set 0 0) 1 0) 0) ≡ 0
   pub mended : header_note (common_bits (message (set 0 0) 0 0)) 0 (read_with (message (set 0 0) 1 0) 2) ≡ 2
-  pub lost : header_note (common_bits (message (set 0 0) 0 0)) 0 Lost ≡ 3
+  pub lost : header_note (common_bits (message (set 0 0) 0 0)) 0 None ≡ 3
   -- "a readable one adds 4 if its counter is not (position from 1) mod 16"
   pub out_of_step : header_note (common_bits (message (set 0 0) 0 0)) 1 (read_with (message (set 0 0) 1 0) 0) ≡ 4
   pub sixteenth : header_note (common_bits (message (set 0 0) 0 0)) 15 (read_with (message (set 0 0) 0 0) 0) ≡ 0
@@ -155,13 +153,13 @@ pub record Notes : Type 0 where
 
 -- ---- settings: "the first readable header that agrees in them with an earlier readable one", not only with the one just before it
 pub record Settings (ch : Choices) : Type 0 where
-  pub around_another : settling ch (read_with 8 0 ∷ read_with 1 0 ∷ read_with 8 0 ∷ []) ≡ Settled (common_bits 8)
-  pub around_a_lost_one : settling ch (read_with 8 0 ∷ Lost ∷ read_with 8 0 ∷ []) ≡ Settled (common_bits 8)
+  pub around_another : settling ch (read_with 8 0 ∷ read_with 1 0 ∷ read_with 8 0 ∷ []) ≡ Some (common_bits 8)
+  pub around_a_lost_one : settling ch (read_with 8 0 ∷ None ∷ read_with 8 0 ∷ []) ≡ Some (common_bits 8)
   -- the third agrees with the second before the fourth agrees with the first
-  pub first_to_agree : settling ch (read_with 8 0 ∷ read_with 1 0 ∷ read_with 1 0 ∷ read_with 8 0 ∷ []) ≡ Settled (common_bits 1)
-  pub none_agrees : settling ch (read_with 8 0 ∷ read_with 1 0 ∷ []) ≡ Unsettled
-  pub one_is_lost : settling ch (read_with 8 0 ∷ Lost ∷ []) ≡ Unsettled
+  pub first_to_agree : settling ch (read_with 8 0 ∷ read_with 1 0 ∷ read_with 1 0 ∷ read_with 8 0 ∷ []) ≡ Some (common_bits 1)
+  pub none_agrees : settling ch (read_with 8 0 ∷ read_with 1 0 ∷ []) ≡ None
+  pub one_is_lost : settling ch (read_with 8 0 ∷ None ∷ []) ≡ None
   -- "an only multiframe whose header is itself a codeword settles them (house)", where the caller asks for it; by default it does not (02, C-20)
-  pub only_clean : settling by_one_header (read_with 8 0 ∷ []) ≡ Settled (common_bits 8)
-  pub only_by_default : settling by_default (read_with 8 0 ∷ []) ≡ Unsettled
-  pub only_mended : settling ch (read_with 8 1 ∷ []) ≡ Unsettled
+  pub only_clean : settling by_one_header (read_with 8 0 ∷ []) ≡ Some (common_bits 8)
+  pub only_by_default : settling by_default (read_with 8 0 ∷ []) ≡ None
+  pub only_mended : settling ch (read_with 8 1 ∷ []) ≡ None

@@ -1,7 +1,7 @@
 -- Settings before the end, literally (02, C-11): octets, and what is answered of them. `headed` is a whole multiframe with a header, `count1` and
 -- `count2` are 8 kHz, type 0, `eleven` is 11 kHz, type 0.
 -- Assumes nothing.
-use Rattle.std.specs.Prelude.{ℕ, zero, suc, ◌+◌, ◌-◌, ◌*◌, ◌≤◌, ◌<◌, ◌≡◌, refl, true, false, List, [], ◌∷◌, ◌++◌, length, get_or, take, drop, eqb}
+use Rattle.std.specs.Prelude.{ℕ, zero, suc, ◌+◌, ◌-◌, ◌*◌, ◌≤◌, ◌<◌, ◌≡◌, refl, true, false, List, [], ◌∷◌, ◌++◌, length, get_or, take, drop, eqb, Some, None, Ok, Err}
 use Rattle.std.proofs.Common.{ap, ap₂, sym, ◌∙◌, subst, inl, inr, length-append, drop_at, take_at, lit<, lit≤, arith, eq-eqb, ne_eqb}
 use Rattle.lists.specs.Parts.{part_left}
 use Rattle.lists.specs.Rows.{each, length_each, each_at, same_each}
@@ -16,8 +16,7 @@ use Rattle.message.specs.Message.{message, rate_of, common_bits, settings_of}
 use Rattle.message.specs.Message.Laws.{common_rate, common_exp, exp_shifted, rate_back, exp_back, common_settings, settings_back, message_counts, message_lt}
 use Rattle.header.specs.Reading as H
 use Rattle.header.specs.declared.Decoded.{Decoded}
-use Rattle.header.specs.declared.Header.{Header}
-use Rattle.header.specs.declared.Header.TheVariants.{Codeword, Lost}
+use Rattle.header.specs.Types.{Header}
 use Rattle.refusals.specs.declared.Reading.{Reading as Refusal}
 use Rattle.refusals.specs.declared.Reading.TheVariants.{Unknown, CutShort, Empty, TooMany, Unsettled, Unfit}
 use Rattle.cutting.specs.Cutting.{piece_by, sync_met, last_met, Ending, whole, refused, Cutting, ended, walk, cutting}
@@ -27,10 +26,8 @@ use Rattle.header_readings.specs.Readings.{readings}
 use Rattle.settling.specs.Settling.{first_agreeing, settling}
 use Rattle.settling.proofs.Laws.{not_one, only_clean, only_mended, only_default}
 use Rattle.unfit.specs.Laws.{Usable, fit_is, unfit_is}
-use Rattle.settling.specs.declared.Settlement.{Settlement}
-use Rattle.settling.specs.declared.Settlement.TheVariants as S
-use Rattle.until_settled.specs.declared.Answer.{Answer}
-use Rattle.until_settled.specs.declared.Answer.TheVariants.{Read, Refused}
+use Rattle.settling.specs.Types.{Settlement}
+use Rattle.until_settled.specs.Types.{Answer}
 use Rattle.until_settled.specs.UntilSettled.{read_until, settled_answer, end_answer, answer_by, until_settled}
 use Rattle.until_settled.specs.Front.{Front, start, met}
 use Rattle.until_settled.specs.Laws.{headers, settling_end}
@@ -53,15 +50,15 @@ flipped2 = 0x13 ∷ 0x00 ∷ 0x1D ∷ 0x0D ∷ []
 
 -- these settings, of so many multiframes
 abbrev pub told : ℕ → ℕ → ℕ → Answer
-told rate kind m = Read (record { settings = settings rate kind; multiframes = m })
+told rate kind m = Ok (record { settings = settings rate kind; multiframes = m })
 
 pub record Table (ch : Choices) : Type 0 where
   -- "it settles at the second", and what begins nothing known behind it is not met
   pub at_the_second : until_settled ch two ≡ told 0 0 2
   pub whatever_behind : (more : List ℕ) → until_settled ch (two ++ more) ≡ told 0 0 2
   -- an octet fewer is 13, "sync with too few octets", where the second multiframe begins; with 143 octets where the first does
-  pub octets_287 : until_settled ch (take 287 two) ≡ Refused (CutShort 144)
-  pub octets_143 : until_settled ch (take 143 two) ≡ Refused (CutShort 0)
+  pub octets_287 : until_settled ch (take 287 two) ≡ Err (CutShort 144)
+  pub octets_143 : until_settled ch (take 143 two) ≡ Err (CutShort 0)
   -- the first two that agree settle: neither the first header nor the last decides, and a lost one is passed over and counted
   pub eight_eleven_eight : until_settled ch (headed count1 ++ (headed eleven ++ (headed count2 ++ headed eleven))) ≡ told 0 0 3
   pub eleven_eight_eight : until_settled ch (headed eleven ++ (headed count1 ++ headed count2)) ≡ told 0 0 3
@@ -77,38 +74,38 @@ pub record Table (ch : Choices) : Type 0 where
   -- mended headers settle: one flip in the first, two in the second
   pub mended_twice : until_settled ch (headed flipped ++ headed flipped2) ≡ told 0 0 2
   -- 17 at once, although what stands behind begins nothing known
-  pub rate_2_twice : (more : List ℕ) → until_settled ch ((headed rate2 ++ headed rate2) ++ more) ≡ Refused Unfit
-  pub exp_9_twice : (more : List ℕ) → until_settled ch ((headed exp9 ++ headed exp9) ++ more) ≡ Refused Unfit
+  pub rate_2_twice : (more : List ℕ) → until_settled ch ((headed rate2 ++ headed rate2) ++ more) ≡ Err Unfit
+  pub exp_9_twice : (more : List ℕ) → until_settled ch ((headed exp9 ++ headed exp9) ++ more) ≡ Err Unfit
   -- an only multiframe, known to be the only one at the end alone: by default 16; by the old rule its settings, or 17, or 16 if it was mended
-  pub one_by_default : until_settled by_default one ≡ Refused Unsettled
+  pub one_by_default : until_settled by_default one ≡ Err Unsettled
   pub one_asked : until_settled by_one_header one ≡ told 0 0 1
-  pub mended_asked : until_settled by_one_header (headed flipped) ≡ Refused Unsettled
-  pub rate_2_asked : until_settled by_one_header (headed rate2) ≡ Refused Unfit
-  pub exp_9_asked : until_settled by_one_header (headed exp9) ≡ Refused Unfit
+  pub mended_asked : until_settled by_one_header (headed flipped) ≡ Err Unsettled
+  pub rate_2_asked : until_settled by_one_header (headed rate2) ≡ Err Unfit
+  pub exp_9_asked : until_settled by_one_header (headed exp9) ≡ Err Unfit
   pub inverse_before : until_settled by_one_header (0x78 ∷ 0x4D ∷ one) ≡ told 0 0 1
   -- one of two is not the only one, whether the other is readable or lost
-  pub two_unlike : until_settled ch (headed count1 ++ headed eleven) ≡ Refused Unsettled
-  pub both_lost : until_settled ch (headed lost ++ headed lost) ≡ Refused Unsettled
-  pub two_flips_asked : until_settled by_one_header (headed flipped2) ≡ Refused Unsettled
-  pub one_and_lost : until_settled ch (headed count1 ++ headed lost) ≡ Refused Unsettled
+  pub two_unlike : until_settled ch (headed count1 ++ headed eleven) ≡ Err Unsettled
+  pub both_lost : until_settled ch (headed lost ++ headed lost) ≡ Err Unsettled
+  pub two_flips_asked : until_settled by_one_header (headed flipped2) ≡ Err Unsettled
+  pub one_and_lost : until_settled ch (headed count1 ++ headed lost) ≡ Err Unsettled
   pub inverse_behind : until_settled by_one_header (one ++ (0x78 ∷ 0x4D ∷ [])) ≡ told 0 0 1
-  pub inverse_by_default : until_settled by_default (one ++ (0x78 ∷ 0x4D ∷ [])) ≡ Refused Unsettled
+  pub inverse_by_default : until_settled by_default (one ++ (0x78 ∷ 0x4D ∷ [])) ≡ Err Unsettled
   -- and by the old rule the answer can change as the recording grows: 11 kHz of one multiframe, 8 kHz of three that begin with it (`eleven_eight_eight`)
   pub eleven_asked : until_settled by_one_header (headed eleven) ≡ told 1 0 1
   -- so octets behind it that begin nothing known refuse, also by the old rule
-  pub unknown_behind : until_settled ch (one ++ (0x00 ∷ [])) ≡ Refused (Unknown 144)
-  pub unknown_behind_inverse : until_settled ch (one ++ (0x78 ∷ 0x4D ∷ 0x00 ∷ [])) ≡ Refused (Unknown 146)
-  pub lone_behind_inverse : until_settled ch (one ++ (0x78 ∷ 0x4D ∷ 0x78 ∷ [])) ≡ Refused (CutShort 146)
-  pub cut_behind : until_settled ch (one ++ (0x87 ∷ [])) ≡ Refused (CutShort 144)
-  pub lone_78_behind : until_settled ch (one ++ (0x78 ∷ [])) ≡ Refused (CutShort 144)
-  pub rate_2_unknown_behind : until_settled ch (headed rate2 ++ (0x00 ∷ [])) ≡ Refused (Unknown 144)
+  pub unknown_behind : until_settled ch (one ++ (0x00 ∷ [])) ≡ Err (Unknown 144)
+  pub unknown_behind_inverse : until_settled ch (one ++ (0x78 ∷ 0x4D ∷ 0x00 ∷ [])) ≡ Err (Unknown 146)
+  pub lone_behind_inverse : until_settled ch (one ++ (0x78 ∷ 0x4D ∷ 0x78 ∷ [])) ≡ Err (CutShort 146)
+  pub cut_behind : until_settled ch (one ++ (0x87 ∷ [])) ≡ Err (CutShort 144)
+  pub lone_78_behind : until_settled ch (one ++ (0x78 ∷ [])) ≡ Err (CutShort 144)
+  pub rate_2_unknown_behind : until_settled ch (headed rate2 ++ (0x00 ∷ [])) ≡ Err (Unknown 144)
   -- 15, "a sync after 255 multiframes, even a cut one", of which no header can be read
-  pub sync_256 : until_settled ch (again 255 (headed lost) ++ (0x87 ∷ 0xB2 ∷ [])) ≡ Refused (TooMany 36720)
+  pub sync_256 : until_settled ch (again 255 (headed lost) ++ (0x87 ∷ 0xB2 ∷ [])) ≡ Err (TooMany 36720)
   -- 14, "no multiframe", the octet count
-  pub nothing : until_settled ch [] ≡ Refused (Empty 0)
-  pub only_inverse : until_settled ch (0x78 ∷ 0x4D ∷ []) ≡ Refused (Empty 2)
-  pub inverse_thrice : until_settled ch (0x78 ∷ 0x4D ∷ 0x78 ∷ 0x4D ∷ 0x78 ∷ 0x4D ∷ []) ≡ Refused (Empty 6)
-  pub unknown_at_2 : until_settled ch (0x78 ∷ 0x4D ∷ 0x00 ∷ []) ≡ Refused (Unknown 2)
+  pub nothing : until_settled ch [] ≡ Err (Empty 0)
+  pub only_inverse : until_settled ch (0x78 ∷ 0x4D ∷ []) ≡ Err (Empty 2)
+  pub inverse_thrice : until_settled ch (0x78 ∷ 0x4D ∷ 0x78 ∷ 0x4D ∷ 0x78 ∷ 0x4D ∷ []) ≡ Err (Empty 6)
+  pub unknown_at_2 : until_settled ch (0x78 ∷ 0x4D ∷ 0x00 ∷ []) ≡ Err (Unknown 2)
 
 -- ---- of octets that are cut so, with headers that are read so
 by_parts : (ch : Choices) (s ps : List ℕ) (e : Ending) → cutting s ≡ record { places = ps; ending = e } → (hs : List Header) → readings s ps ≡ hs
@@ -120,16 +117,16 @@ by_parts ch s ps e cut hs eh =
 
 -- the headers, read
 abbrev h1 : Header
-h1 = Codeword (H.decoded_as 0xEE0E0008 8)
+h1 = Some (H.decoded_as 0xEE0E0008 8)
 
 abbrev h2 : Header
-h2 = Codeword (H.decoded_as 0x0D1D0010 16)
+h2 = Some (H.decoded_as 0x0D1D0010 16)
 
 abbrev m11 : ℕ
 m11 = message (settings 1 0) 1 0
 
 abbrev h11 : Header
-h11 = Codeword (H.decoded_as 0x3F0F0009 m11)
+h11 = Some (H.decoded_as 0x3F0F0009 m11)
 
 read_11 : ReadsAs 0x3F0F0009 m11 0
 read_11 = clean m11 0x3F0F0009 (message_lt (settings 1 0) 1 0) (word_of 1 0 1 0x09 0x00 0x0F 0x3F (Headers.table).header_1_0)
@@ -149,15 +146,15 @@ apart e =
     omega arith
 
 -- what settles 8 kHz
-eight_of : (m : ℕ) → settled_answer m (S.Settled (common_bits 8)) ≡ told 0 0 m
-eight_of m = rw (fit_is (common_bits 8) usable_8) (ap (λ (x : Settings). Read (record { settings = x; multiframes = m })) settings_8)
+eight_of : (m : ℕ) → settled_answer m (Some (common_bits 8)) ≡ told 0 0 m
+eight_of m = rw (fit_is (common_bits 8) usable_8) (ap (λ (x : Settings). Ok (record { settings = x; multiframes = m })) settings_8)
 
 -- and 11 kHz
-eleven_of : (m : ℕ) → settled_answer m (S.Settled (common_bits m11)) ≡ told 1 0 m
+eleven_of : (m : ℕ) → settled_answer m (Some (common_bits m11)) ≡ told 1 0 m
 eleven_of m =
     let r : rate_of (common_bits m11) ≡ 1 = common_rate m11 ∙ rate_back (settings 1 0) 1 0 in
     let u : Usable (common_bits m11) = record { rate = λ e. (let z : ◌≡◌ {A = ℕ} 1 2 = sym r ∙ e in omega arith); exp = common_exp m11 ∙ exp_back (settings 1 0) 1 0 } in
-    rw (fit_is (common_bits m11) u) (ap (λ (x : Settings). Read (record { settings = x; multiframes = m })) (common_settings m11 ∙ settings_back (settings 1 0) 1 0 refl))
+    rw (fit_is (common_bits m11) u) (ap (λ (x : Settings). Ok (record { settings = x; multiframes = m })) (common_settings m11 ∙ settings_back (settings 1 0) 1 0 refl))
 
 -- the tests of common bits
 t16_8 : eqb (common_bits 16) (common_bits 8) ≡ true
@@ -173,9 +170,9 @@ t16_11 : eqb (common_bits 16) (common_bits m11) ≡ false
 t16_11 = ne_eqb (common_bits 16) (common_bits m11) (λ e. apart (sym e ∙ common_16))
 
 -- ---- two that agree
-agreed_two : (first_agreeing [] (h1 ∷ h2 ∷ []) ≡ S.Settled (common_bits 8)) × (read_until [] (h1 ∷ h2 ∷ []) ≡ 2)
+agreed_two : (first_agreeing [] (h1 ∷ h2 ∷ []) ≡ Some (common_bits 8)) × (read_until [] (h1 ∷ h2 ∷ []) ≡ 2)
 unfolding first_agreeing read_until
-agreed_two = (rw t16_8 (ap S.Settled common_16), rw t16_8)
+agreed_two = (rw t16_8 (ap Some common_16), rw t16_8)
 
 two_read : readings two (cutting two).places ≡ h1 ∷ h2 ∷ []
 two_read = ap (λ (w : Cutting). readings two w.places) cut_two ∙ heads_two ∙ ap₂ (λ (g h : Header). g ∷ h ∷ []) read_1.0 read_2.0
@@ -200,9 +197,9 @@ heads_mixed : readings mixed (0 ∷ 144 ∷ 288 ∷ 432 ∷ []) ≡ H.reading 0x
 unfolding readings value fields field
 heads_mixed = refl
 
-agreed_mixed : (first_agreeing [] (h1 ∷ h11 ∷ h2 ∷ h11 ∷ []) ≡ S.Settled (common_bits 8)) × (read_until [] (h1 ∷ h11 ∷ h2 ∷ h11 ∷ []) ≡ 3)
+agreed_mixed : (first_agreeing [] (h1 ∷ h11 ∷ h2 ∷ h11 ∷ []) ≡ Some (common_bits 8)) × (read_until [] (h1 ∷ h11 ∷ h2 ∷ h11 ∷ []) ≡ 3)
 unfolding first_agreeing read_until
-agreed_mixed = (rw (t11_8, t16_11, t16_8) (ap S.Settled common_16), rw (t11_8, t16_11, t16_8))
+agreed_mixed = (rw (t11_8, t16_11, t16_8) (ap Some common_16), rw (t11_8, t16_11, t16_8))
 
 third : (ch : Choices) → until_settled ch mixed ≡ told 0 0 3
 third ch =
@@ -235,9 +232,9 @@ heads_later : readings later (0 ∷ 144 ∷ 288 ∷ []) ≡ H.reading 0x3F0F0009
 unfolding readings value fields field
 heads_later = refl
 
-agreed_later : (first_agreeing [] (h11 ∷ h1 ∷ h2 ∷ []) ≡ S.Settled (common_bits 8)) × (read_until [] (h11 ∷ h1 ∷ h2 ∷ []) ≡ 3)
+agreed_later : (first_agreeing [] (h11 ∷ h1 ∷ h2 ∷ []) ≡ Some (common_bits 8)) × (read_until [] (h11 ∷ h1 ∷ h2 ∷ []) ≡ 3)
 unfolding first_agreeing read_until
-agreed_later = (rw (t8_11, t16_8) (ap S.Settled common_16), rw (t8_11, t16_8))
+agreed_later = (rw (t8_11, t16_8) (ap Some common_16), rw (t8_11, t16_8))
 
 not_the_first : (ch : Choices) → until_settled ch later ≡ told 0 0 3
 not_the_first ch =
@@ -256,13 +253,13 @@ heads_gap : readings gap (0 ∷ 144 ∷ 288 ∷ []) ≡ H.reading 0xEE0E0008 ∷
 unfolding readings value fields field
 heads_gap = refl
 
-agreed_gap : (first_agreeing [] (h1 ∷ Lost ∷ h2 ∷ []) ≡ S.Settled (common_bits 8)) × (read_until [] (h1 ∷ Lost ∷ h2 ∷ []) ≡ 3)
+agreed_gap : (first_agreeing [] (h1 ∷ None ∷ h2 ∷ []) ≡ Some (common_bits 8)) × (read_until [] (h1 ∷ None ∷ h2 ∷ []) ≡ 3)
 unfolding first_agreeing read_until
-agreed_gap = (rw t16_8 (ap S.Settled common_16), rw t16_8)
+agreed_gap = (rw t16_8 (ap Some common_16), rw t16_8)
 
 past_the_lost : (ch : Choices) → until_settled ch gap ≡ told 0 0 3
 past_the_lost ch =
-    by_parts ch gap (0 ∷ 144 ∷ 288 ∷ []) whole cut_gap (h1 ∷ Lost ∷ h2 ∷ [])
+    by_parts ch gap (0 ∷ 144 ∷ 288 ∷ []) whole cut_gap (h1 ∷ None ∷ h2 ∷ [])
     (heads_gap ∙ ap₂ (λ (g h : Header). g ∷ H.reading 0x01010001 ∷ h ∷ []) read_1.0 read_2.0 ∙ ap (λ (h : Header). h1 ∷ h ∷ h2 ∷ []) read_lost)
     ∙ rw (agreed_gap.0, agreed_gap.1) (eight_of 3)
 
@@ -271,33 +268,33 @@ abbrev m2 : ℕ
 m2 = message (settings 2 0) 1 0
 
 abbrev h22 : Header
-h22 = Codeword (H.decoded_as 0x9D0D000A m2)
+h22 = Some (H.decoded_as 0x9D0D000A m2)
 
-agreed_rate_2 : first_agreeing [] (h22 ∷ h22 ∷ []) ≡ S.Settled (common_bits m2)
+agreed_rate_2 : first_agreeing [] (h22 ∷ h22 ∷ []) ≡ Some (common_bits m2)
 unfolding first_agreeing
 agreed_rate_2 = rw (eq-eqb (common_bits m2) (common_bits m2) refl)
 
 rate_2_read : readings (headed rate2 ++ headed rate2) (cutting (headed rate2 ++ headed rate2)).places ≡ h22 ∷ h22 ∷ []
 rate_2_read = ap (λ (w : Cutting). readings (headed rate2 ++ headed rate2) w.places) cut_twice ∙ heads_twice ∙ ap (λ (h : Header). h ∷ h ∷ []) read_rate_2.0
 
-rate_2_unfit : (m : ℕ) → settled_answer m (S.Settled (common_bits m2)) ≡ Refused Unfit
+rate_2_unfit : (m : ℕ) → settled_answer m (Some (common_bits m2)) ≡ Err Unfit
 rate_2_unfit m = rw (unfit_is (common_bits m2) (inl (common_rate m2 ∙ rate_back (settings 2 0) 1 0)))
 
-seventeen : (ch : Choices) (more : List ℕ) → until_settled ch ((headed rate2 ++ headed rate2) ++ more) ≡ Refused Unfit
+seventeen : (ch : Choices) (more : List ℕ) → until_settled ch ((headed rate2 ++ headed rate2) ++ more) ≡ Err Unfit
 seventeen ch more =
     let s = headed rate2 ++ headed rate2 in
     longer s (common_bits m2) (ap (first_agreeing []) rate_2_read ∙ agreed_rate_2) ch more
     ∙ by_parts ch s (0 ∷ 144 ∷ []) whole cut_twice (h22 ∷ h22 ∷ []) (heads_twice ∙ ap (λ (h : Header). h ∷ h ∷ []) read_rate_2.0) ∙ rw agreed_rate_2 (rate_2_unfit _)
 
 -- ---- one multiframe, with nothing behind it or with a rest
-alone : (h : Header) → first_agreeing [] (h ∷ []) ≡ S.Unsettled
+alone : (h : Header) → first_agreeing [] (h ∷ []) ≡ None
 unfolding first_agreeing
-alone Lost = refl
-alone (Codeword d) = refl
+alone None = refl
+alone (Some d) = refl
 
 -- cut so behind its place, its header read so
 module _ (ch : Choices) (s : List ℕ) (e : Ending) (cut : cutting s ≡ record { places = 0 ∷ []; ending = e }) (h : Header) (eh : readings s (0 ∷ []) ≡ h ∷ []) where
-  only_refused : (r : Refusal) → e ≡ refused r → until_settled ch s ≡ Refused r
+  only_refused : (r : Refusal) → e ≡ refused r → until_settled ch s ≡ Err r
   only_refused r er = by_parts ch s (0 ∷ []) e cut (h ∷ []) eh ∙ rw (alone h, er)
 
   only_settles : e ≡ whole → (x : Settlement) → settling ch (h ∷ []) ≡ x → until_settled ch s ≡ settled_answer 1 x
@@ -308,7 +305,7 @@ one_read : readings one (0 ∷ []) ≡ h1 ∷ []
 unfolding value fields field
 one_read = head_one 0x08 0x00 0x0E 0xEE ∙ ap (λ (h : Header). h ∷ []) read_1.0
 
-flipped_read : readings (headed flipped) (0 ∷ []) ≡ Codeword (H.decoded_as 0xEE0E0009 8) ∷ []
+flipped_read : readings (headed flipped) (0 ∷ []) ≡ Some (H.decoded_as 0xEE0E0009 8) ∷ []
 unfolding value fields field
 flipped_read = head_one 0x09 0x00 0x0E 0xEE ∙ ap (λ (h : Header). h ∷ []) read_flipped.0
 
@@ -373,7 +370,7 @@ unfolding readings value fields field
 head_287 = refl
 
 -- ---- no multiframe
-none : (ch : Choices) (s : List ℕ) (e : Ending) → cutting s ≡ record { places = []; ending = e } → until_settled ch s ≡ answer_by ch (length s) [] e S.Unsettled
+none : (ch : Choices) (s : List ℕ) (e : Ending) → cutting s ≡ record { places = []; ending = e } → until_settled ch s ≡ answer_by ch (length s) [] e None
 unfolding first_agreeing readings
 none ch s e cut = by_parts ch s [] e cut [] refl
 
@@ -389,7 +386,7 @@ cut_only : cutting (0x78 ∷ 0x4D ∷ []) ≡ record { places = []; ending = who
 unfolding walk piece_by sync_met last_met
 cut_only = refl
 
-empties : (ch : Choices) (s : List ℕ) → cutting s ≡ record { places = []; ending = whole } → until_settled ch s ≡ Refused (Empty (length s))
+empties : (ch : Choices) (s : List ℕ) → cutting s ≡ record { places = []; ending = whole } → until_settled ch s ≡ Err (Empty (length s))
 unfolding end_answer
 empties ch s cut = none ch s whole cut
 
@@ -417,36 +414,36 @@ many_front (suc k) h =
     let g = met f (omega (arith, every_length 0 k)) (omega (arith, length_many), ap (λ (i : ℕ). get_or many i 0) (sym z) ∙ octet_many k 0 (omega arith) (lit< tt), octet_many k 1 (omega arith) (lit< tt)) in
     subst (λ (ps : List ℕ). Front many (multiframe_octets * suc k) ps) (sym (every_more 0 k ∙ ap (λ (i : ℕ). every 0 k ++ (i ∷ [])) p)) (subst (λ (i : ℕ). Front many i (every 0 k ++ ((multiframe_octets * k) ∷ []))) e g)
 
-word_many : (k : ℕ) → k < 255 → H.reading (header_word many (multiframe_octets * k)) ≡ Lost
+word_many : (k : ℕ) → k < 255 → H.reading (header_word many (multiframe_octets * k)) ≡ None
 unfolding value fields field
 word_many k h =
     ap (λ (l : List ℕ). H.reading (value (bits l)))
     (part_left (again 255 (headed lost)) (0x87 ∷ 0xB2 ∷ []) (multiframe_octets * k + 2) 4 (omega (arith, length_again (headed lost) refl 255)) ∙ part_again (headed lost) refl 255 k 2 4 h (lit< tt))
     ∙ read_lost
 
-many_lost : readings many (every 0 255) ≡ each (λ k. Lost) 255
+many_lost : readings many (every 0 255) ≡ each (λ k. None) 255
 unfolding readings
 many_lost =
     ap (each (λ k. H.reading (header_word many (get_or (every 0 255) k 0)))) (every_length 0 255)
-    ∙ same_each (λ k. H.reading (header_word many (get_or (every 0 255) k 0))) (λ k. Lost) 255 (λ k h.
+    ∙ same_each (λ k. H.reading (header_word many (get_or (every 0 255) k 0))) (λ k. None) 255 (λ k h.
     let z : 0 + multiframe_octets * k ≡ multiframe_octets * k = omega arith in
     ap (λ (i : ℕ). H.reading (header_word many i)) (every_at 0 255 k h ∙ z) ∙ word_many k h)
 
-many_none : first_agreeing [] (readings many (every 0 255)) ≡ S.Unsettled
+many_none : first_agreeing [] (readings many (every 0 255)) ≡ None
 many_none =
     ap (first_agreeing []) many_lost
-    ∙ all_lost (each (λ k. Lost) 255) (λ k l. each_at (λ k. Lost) 255 k Lost (omega (arith, length_each (λ (k : ℕ). Lost) 255))) []
+    ∙ all_lost (each (λ k. None) 255) (λ k l. each_at (λ k. None) 255 k None (omega (arith, length_each {A = Header} (λ k. None) 255))) []
 
 rest_many : (m : ℕ) → m ≡ 255 → walk 0 (drop 36720 many) 36720 m ≡ ended (refused (TooMany 36720))
 unfolding walk piece_by sync_met last_met
 rest_many m e = ap (λ (l : List ℕ). walk 0 l 36720 m) (drop_at (again 255 (headed lost)) (0x87 ∷ 0xB2 ∷ []) 36720 (length_again (headed lost) refl 255)) ∙ rw e
 
-fifteen : (ch : Choices) → until_settled ch many ≡ Refused (TooMany 36720)
+fifteen : (ch : Choices) → until_settled ch many ≡ Err (TooMany 36720)
 fifteen ch = sym (ends_here ch many (many_front 255 (lit≤ tt)) (refused (TooMany 36720)) (rest_many (length (every 0 255)) (every_length 0 255)) many_none)
 
 -- ---- two that agree, in other places
 two_of : (ch : Choices) (s : List ℕ) (p q : ℕ) → cutting s ≡ record { places = p ∷ q ∷ []; ending = whole } → (g h : Header) → readings s (p ∷ q ∷ []) ≡ g ∷ h ∷ []
-    → (c : ℕ) → (first_agreeing [] (g ∷ h ∷ []) ≡ S.Settled c) × (read_until [] (g ∷ h ∷ []) ≡ 2) → until_settled ch s ≡ settled_answer 2 (S.Settled c)
+    → (c : ℕ) → (first_agreeing [] (g ∷ h ∷ []) ≡ Some c) × (read_until [] (g ∷ h ∷ []) ≡ 2) → until_settled ch s ≡ settled_answer 2 (Some c)
 two_of ch s p q cut g h eh c a = by_parts ch s (p ∷ q ∷ []) whole cut (g ∷ h ∷ []) eh ∙ rw (a.0, a.1)
 
 abbrev lost_first : List ℕ
@@ -460,13 +457,13 @@ heads_lost_first : readings lost_first (0 ∷ 144 ∷ 288 ∷ []) ≡ H.reading 
 unfolding readings value fields field
 heads_lost_first = refl
 
-agreed_lost_first : (first_agreeing [] (Lost ∷ h1 ∷ h2 ∷ []) ≡ S.Settled (common_bits 8)) × (read_until [] (Lost ∷ h1 ∷ h2 ∷ []) ≡ 3)
+agreed_lost_first : (first_agreeing [] (None ∷ h1 ∷ h2 ∷ []) ≡ Some (common_bits 8)) × (read_until [] (None ∷ h1 ∷ h2 ∷ []) ≡ 3)
 unfolding first_agreeing read_until
-agreed_lost_first = (rw t16_8 (ap S.Settled common_16), rw t16_8)
+agreed_lost_first = (rw t16_8 (ap Some common_16), rw t16_8)
 
 behind_the_lost : (ch : Choices) → until_settled ch lost_first ≡ told 0 0 3
 behind_the_lost ch =
-    by_parts ch lost_first (0 ∷ 144 ∷ 288 ∷ []) whole cut_lost_first (Lost ∷ h1 ∷ h2 ∷ [])
+    by_parts ch lost_first (0 ∷ 144 ∷ 288 ∷ []) whole cut_lost_first (None ∷ h1 ∷ h2 ∷ [])
     (heads_lost_first ∙ ap₂ (λ (g h : Header). H.reading 0x01010001 ∷ g ∷ h ∷ []) read_1.0 read_2.0 ∙ ap (λ (h : Header). h ∷ h1 ∷ h2 ∷ []) read_lost)
     ∙ rw (agreed_lost_first.0, agreed_lost_first.1) (eight_of 3)
 
@@ -482,13 +479,13 @@ heads_five : readings five (0 ∷ 144 ∷ 288 ∷ 432 ∷ 576 ∷ [])
 unfolding readings value fields field
 heads_five = refl
 
-agreed_five : (first_agreeing [] (h1 ∷ Lost ∷ Lost ∷ Lost ∷ h2 ∷ []) ≡ S.Settled (common_bits 8)) × (read_until [] (h1 ∷ Lost ∷ Lost ∷ Lost ∷ h2 ∷ []) ≡ 5)
+agreed_five : (first_agreeing [] (h1 ∷ None ∷ None ∷ None ∷ h2 ∷ []) ≡ Some (common_bits 8)) × (read_until [] (h1 ∷ None ∷ None ∷ None ∷ h2 ∷ []) ≡ 5)
 unfolding first_agreeing read_until
-agreed_five = (rw t16_8 (ap S.Settled common_16), rw t16_8)
+agreed_five = (rw t16_8 (ap Some common_16), rw t16_8)
 
 fifth : (ch : Choices) → until_settled ch five ≡ told 0 0 5
 fifth ch =
-    by_parts ch five (0 ∷ 144 ∷ 288 ∷ 432 ∷ 576 ∷ []) whole cut_five (h1 ∷ Lost ∷ Lost ∷ Lost ∷ h2 ∷ [])
+    by_parts ch five (0 ∷ 144 ∷ 288 ∷ 432 ∷ 576 ∷ []) whole cut_five (h1 ∷ None ∷ None ∷ None ∷ h2 ∷ [])
     (heads_five
     ∙ ap₂ (λ (g h : Header). g ∷ H.reading 0x01010001 ∷ H.reading 0x01010001 ∷ H.reading 0x01010001 ∷ h ∷ []) read_1.0 read_2.0
     ∙ ap (λ (h : Header). h1 ∷ h ∷ h ∷ h ∷ h2 ∷ []) read_lost)
@@ -514,7 +511,7 @@ abbrev m16 : ℕ
 m16 = message (settings 3 1) 1 0
 
 abbrev h16 : Header
-h16 = Codeword (H.decoded_as 0xFB0B000F m16)
+h16 = Some (H.decoded_as 0xFB0B000F m16)
 
 read_16 : ReadsAs 0xFB0B000F m16 0
 read_16 = clean m16 0xFB0B000F (message_lt (settings 3 1) 1 0) (word_of 3 1 1 0x0F 0x00 0x0B 0xFB (Headers.table).header_3_1)
@@ -527,7 +524,7 @@ heads_16 : readings (headed sixteen1 ++ headed sixteen1) (0 ∷ 144 ∷ []) ≡ 
 unfolding readings value fields field
 heads_16 = refl
 
-twice : (d : Decoded) → (first_agreeing [] (Codeword d ∷ Codeword d ∷ []) ≡ S.Settled (common_bits d.message)) × (read_until [] (Codeword d ∷ Codeword d ∷ []) ≡ 2)
+twice : (d : Decoded) → (first_agreeing [] (Some d ∷ Some d ∷ []) ≡ Some (common_bits d.message)) × (read_until [] (Some d ∷ Some d ∷ []) ≡ 2)
 unfolding first_agreeing read_until
 twice d = let t = eq-eqb (common_bits d.message) (common_bits d.message) refl in (rw t, rw t)
 
@@ -541,7 +538,7 @@ robust : (ch : Choices) → until_settled ch (headed sixteen1 ++ headed sixteen1
 robust ch =
     two_of ch (headed sixteen1 ++ headed sixteen1) 0 144 cut_16 h16 h16 (heads_16 ∙ ap (λ (h : Header). h ∷ h ∷ []) read_16.0) (common_bits m16) (twice (H.decoded_as 0xFB0B000F m16))
     ∙ rw (fit_is (common_bits m16) usable_16)
-    (ap (λ (x : Settings). Read (record { settings = x; multiframes = 2 })) (common_settings m16 ∙ settings_back (settings 3 1) 1 0 refl))
+    (ap (λ (x : Settings). Ok (record { settings = x; multiframes = 2 })) (common_settings m16 ∙ settings_back (settings 3 1) 1 0 refl))
 
 -- ---- mended
 cut_mended : cutting (headed flipped ++ headed flipped2) ≡ record { places = 0 ∷ 144 ∷ []; ending = whole }
@@ -552,38 +549,38 @@ heads_mended : readings (headed flipped ++ headed flipped2) (0 ∷ 144 ∷ []) �
 unfolding readings value fields field
 heads_mended = refl
 
-agreed_mended : (first_agreeing [] (Codeword (H.decoded_as 0xEE0E0009 8) ∷ Codeword (H.decoded_as 0x0D1D0013 16) ∷ []) ≡ S.Settled (common_bits 8))
-    × (read_until [] (Codeword (H.decoded_as 0xEE0E0009 8) ∷ Codeword (H.decoded_as 0x0D1D0013 16) ∷ []) ≡ 2)
+agreed_mended : (first_agreeing [] (Some (H.decoded_as 0xEE0E0009 8) ∷ Some (H.decoded_as 0x0D1D0013 16) ∷ []) ≡ Some (common_bits 8))
+    × (read_until [] (Some (H.decoded_as 0xEE0E0009 8) ∷ Some (H.decoded_as 0x0D1D0013 16) ∷ []) ≡ 2)
 unfolding first_agreeing read_until
-agreed_mended = (rw t16_8 (ap S.Settled common_16), rw t16_8)
+agreed_mended = (rw t16_8 (ap Some common_16), rw t16_8)
 
 mended : (ch : Choices) → until_settled ch (headed flipped ++ headed flipped2) ≡ told 0 0 2
 mended ch =
-    two_of ch (headed flipped ++ headed flipped2) 0 144 cut_mended (Codeword (H.decoded_as 0xEE0E0009 8)) (Codeword (H.decoded_as 0x0D1D0013 16))
+    two_of ch (headed flipped ++ headed flipped2) 0 144 cut_mended (Some (H.decoded_as 0xEE0E0009 8)) (Some (H.decoded_as 0x0D1D0013 16))
     (heads_mended ∙ ap₂ (λ (g h : Header). g ∷ h ∷ []) read_flipped.0 read_flipped_2.0) (common_bits 8) agreed_mended ∙ eight_of 2
 
 -- ---- EXP9 twice
-exp_unfit : (m : ℕ) → settled_answer m (S.Settled (common_bits 32768)) ≡ Refused Unfit
+exp_unfit : (m : ℕ) → settled_answer m (Some (common_bits 32768)) ≡ Err Unfit
 exp_unfit m =
     rw (unfit_is (common_bits 32768) (inr (λ e. (let z : ◌≡◌ {A = ℕ} 256 0 = exp_shifted 32768 (lit< tt) ∙ sym (common_exp 32768) ∙ e in omega arith))))
 
-exp_read : readings (headed exp9 ++ headed exp9) (cutting (headed exp9 ++ headed exp9)).places ≡ Codeword (H.decoded_as 0xE8808000 32768) ∷ Codeword (H.decoded_as 0xE8808000 32768) ∷ []
+exp_read : readings (headed exp9 ++ headed exp9) (cutting (headed exp9 ++ headed exp9)).places ≡ Some (H.decoded_as 0xE8808000 32768) ∷ Some (H.decoded_as 0xE8808000 32768) ∷ []
 exp_read = ap (λ (w : Cutting). readings (headed exp9 ++ headed exp9) w.places) cut_exp_twice ∙ heads_exp_twice ∙ ap (λ (h : Header). h ∷ h ∷ []) read_exp.0
 
-exp_17_always : (ch : Choices) (more : List ℕ) → until_settled ch ((headed exp9 ++ headed exp9) ++ more) ≡ Refused Unfit
+exp_17_always : (ch : Choices) (more : List ℕ) → until_settled ch ((headed exp9 ++ headed exp9) ++ more) ≡ Err Unfit
 exp_17_always ch more =
     let s = headed exp9 ++ headed exp9 in
-    let h = Codeword (H.decoded_as 0xE8808000 32768) in
+    let h = Some (H.decoded_as 0xE8808000 32768) in
     longer s (common_bits 32768) (ap (first_agreeing []) exp_read ∙ (twice (H.decoded_as 0xE8808000 32768)).0) ch more
     ∙ two_of ch s 0 144 cut_exp_twice h h (heads_exp_twice ∙ ap (λ (x : Header). x ∷ x ∷ []) read_exp.0) (common_bits 32768) (twice (H.decoded_as 0xE8808000 32768)) ∙ exp_unfit 2
 
-exp_alone : readings (headed exp9) (0 ∷ []) ≡ Codeword (H.decoded_as 0xE8808000 32768) ∷ []
+exp_alone : readings (headed exp9) (0 ∷ []) ≡ Some (H.decoded_as 0xE8808000 32768) ∷ []
 unfolding value fields field
 exp_alone = head_one 0x00 0x80 0x80 0xE8 ∙ ap (λ (h : Header). h ∷ []) read_exp.0
 
 -- ---- two that do not agree
 unlike_two : (ch : Choices) (s : List ℕ) (g h : Header) → cutting s ≡ record { places = 0 ∷ 144 ∷ []; ending = whole } → readings s (0 ∷ 144 ∷ []) ≡ g ∷ h ∷ []
-    → first_agreeing [] (g ∷ h ∷ []) ≡ S.Unsettled → until_settled ch s ≡ Refused Unsettled
+    → first_agreeing [] (g ∷ h ∷ []) ≡ None → until_settled ch s ≡ Err Unsettled
 unfolding end_answer
 unlike_two ch s g h cut eh none =
     by_parts ch s (0 ∷ 144 ∷ []) whole cut (g ∷ h ∷ []) eh ∙ rw (none, not_one ch (g ∷ h ∷ []) (λ e. omega arith) ∙ none)
@@ -596,11 +593,11 @@ heads_unlike : readings (headed count1 ++ headed eleven) (0 ∷ 144 ∷ []) ≡ 
 unfolding readings value fields field
 heads_unlike = refl
 
-none_unlike : (first_agreeing [] (h1 ∷ h11 ∷ []) ≡ S.Unsettled) × (first_agreeing [] (h1 ∷ Lost ∷ []) ≡ S.Unsettled)
+none_unlike : (first_agreeing [] (h1 ∷ h11 ∷ []) ≡ None) × (first_agreeing [] (h1 ∷ None ∷ []) ≡ None)
 unfolding first_agreeing
 none_unlike = (rw t11_8, refl)
 
-none_lost : first_agreeing [] (Lost ∷ Lost ∷ []) ≡ S.Unsettled
+none_lost : first_agreeing [] (None ∷ None ∷ []) ≡ None
 unfolding first_agreeing
 none_lost = refl
 
@@ -612,7 +609,7 @@ heads_both_lost : readings (headed lost ++ headed lost) (0 ∷ 144 ∷ []) ≡ H
 unfolding readings value fields field
 heads_both_lost = refl
 
-flipped2_read : readings (headed flipped2) (0 ∷ []) ≡ Codeword (H.decoded_as 0x0D1D0013 16) ∷ []
+flipped2_read : readings (headed flipped2) (0 ∷ []) ≡ Some (H.decoded_as 0x0D1D0013 16) ∷ []
 unfolding value fields field
 flipped2_read = head_one 0x13 0x00 0x1D 0x0D ∙ ap (λ (h : Header). h ∷ []) read_flipped_2.0
 
@@ -681,24 +678,24 @@ table ch = record {
   mended_twice = mended ch;
   rate_2_twice = seventeen ch;
   exp_9_twice = exp_17_always ch;
-  one_by_default = only_settles by_default one whole (cut_one 0x08 0x00 0x0E 0xEE) h1 one_read refl S.Unsettled (only_default by_default h1 refl);
-  one_asked = only_settles by_one_header one whole (cut_one 0x08 0x00 0x0E 0xEE) h1 one_read refl (S.Settled (common_bits 8)) (only_clean by_one_header (H.decoded_as 0xEE0E0008 8) refl read_1.1) ∙ eight_of 1;
-  mended_asked = only_settles by_one_header (headed flipped) whole (cut_one 0x09 0x00 0x0E 0xEE) (Codeword (H.decoded_as 0xEE0E0009 8)) flipped_read refl S.Unsettled
+  one_by_default = only_settles by_default one whole (cut_one 0x08 0x00 0x0E 0xEE) h1 one_read refl None (only_default by_default h1 refl);
+  one_asked = only_settles by_one_header one whole (cut_one 0x08 0x00 0x0E 0xEE) h1 one_read refl (Some (common_bits 8)) (only_clean by_one_header (H.decoded_as 0xEE0E0008 8) refl read_1.1) ∙ eight_of 1;
+  mended_asked = only_settles by_one_header (headed flipped) whole (cut_one 0x09 0x00 0x0E 0xEE) (Some (H.decoded_as 0xEE0E0009 8)) flipped_read refl None
       (only_mended by_one_header (H.decoded_as 0xEE0E0009 8) (λ e. omega (arith, read_flipped.1)));
-  rate_2_asked = only_settles by_one_header (headed rate2) whole (cut_one 0x0A 0x00 0x0D 0x9D) h22 rate_2_alone refl (S.Settled (common_bits m2)) (only_clean by_one_header (H.decoded_as 0x9D0D000A m2) refl read_rate_2.1)
+  rate_2_asked = only_settles by_one_header (headed rate2) whole (cut_one 0x0A 0x00 0x0D 0x9D) h22 rate_2_alone refl (Some (common_bits m2)) (only_clean by_one_header (H.decoded_as 0x9D0D000A m2) refl read_rate_2.1)
       ∙ rate_2_unfit 1;
-  exp_9_asked = only_settles by_one_header (headed exp9) whole (cut_one 0x00 0x80 0x80 0xE8) (Codeword (H.decoded_as 0xE8808000 32768)) exp_alone refl (S.Settled (common_bits 32768)) (only_clean by_one_header (H.decoded_as 0xE8808000 32768) refl read_exp.1)
+  exp_9_asked = only_settles by_one_header (headed exp9) whole (cut_one 0x00 0x80 0x80 0xE8) (Some (H.decoded_as 0xE8808000 32768)) exp_alone refl (Some (common_bits 32768)) (only_clean by_one_header (H.decoded_as 0xE8808000 32768) refl read_exp.1)
       ∙ exp_unfit 1;
   inverse_before = before_settles;
   two_unlike = unlike_two ch (headed count1 ++ headed eleven) h1 h11 cut_unlike (heads_unlike ∙ ap₂ (λ (g h : Header). g ∷ h ∷ []) read_1.0 read_11.0) none_unlike.0;
-  both_lost = unlike_two ch (headed lost ++ headed lost) Lost Lost cut_both_lost (heads_both_lost ∙ ap (λ (h : Header). h ∷ h ∷ []) read_lost) none_lost;
-  two_flips_asked = only_settles by_one_header (headed flipped2) whole (cut_one 0x13 0x00 0x1D 0x0D) (Codeword (H.decoded_as 0x0D1D0013 16)) flipped2_read refl S.Unsettled
+  both_lost = unlike_two ch (headed lost ++ headed lost) None None cut_both_lost (heads_both_lost ∙ ap (λ (h : Header). h ∷ h ∷ []) read_lost) none_lost;
+  two_flips_asked = only_settles by_one_header (headed flipped2) whole (cut_one 0x13 0x00 0x1D 0x0D) (Some (H.decoded_as 0x0D1D0013 16)) flipped2_read refl None
       (only_mended by_one_header (H.decoded_as 0x0D1D0013 16) (λ e. omega (arith, read_flipped_2.1)));
-  one_and_lost = unlike_two ch (headed count1 ++ headed lost) h1 Lost cut_and_lost (heads_and_lost ∙ ap₂ (λ (g h : Header). g ∷ h ∷ []) read_1.0 read_lost) none_unlike.1;
-  inverse_behind = only_settles by_one_header (one ++ (0x78 ∷ 0x4D ∷ [])) whole cut_inverse h1 (headed_so (one ++ (0x78 ∷ 0x4D ∷ [])) head_inverse) refl (S.Settled (common_bits 8))
+  one_and_lost = unlike_two ch (headed count1 ++ headed lost) h1 None cut_and_lost (heads_and_lost ∙ ap₂ (λ (g h : Header). g ∷ h ∷ []) read_1.0 read_lost) none_unlike.1;
+  inverse_behind = only_settles by_one_header (one ++ (0x78 ∷ 0x4D ∷ [])) whole cut_inverse h1 (headed_so (one ++ (0x78 ∷ 0x4D ∷ [])) head_inverse) refl (Some (common_bits 8))
       (only_clean by_one_header (H.decoded_as 0xEE0E0008 8) refl read_1.1) ∙ eight_of 1;
-  inverse_by_default = only_settles by_default (one ++ (0x78 ∷ 0x4D ∷ [])) whole cut_inverse h1 (headed_so (one ++ (0x78 ∷ 0x4D ∷ [])) head_inverse) refl S.Unsettled (only_default by_default h1 refl);
-  eleven_asked = only_settles by_one_header (headed eleven) whole (cut_one 0x09 0x00 0x0F 0x3F) h11 head_eleven refl (S.Settled (common_bits m11)) (only_clean by_one_header (H.decoded_as 0x3F0F0009 m11) refl read_11.1) ∙ eleven_of 1;
+  inverse_by_default = only_settles by_default (one ++ (0x78 ∷ 0x4D ∷ [])) whole cut_inverse h1 (headed_so (one ++ (0x78 ∷ 0x4D ∷ [])) head_inverse) refl None (only_default by_default h1 refl);
+  eleven_asked = only_settles by_one_header (headed eleven) whole (cut_one 0x09 0x00 0x0F 0x3F) h11 head_eleven refl (Some (common_bits m11)) (only_clean by_one_header (H.decoded_as 0x3F0F0009 m11) refl read_11.1) ∙ eleven_of 1;
   lone_78_behind = only_refused ch (one ++ (0x78 ∷ [])) (refused (CutShort 144)) cut_78 h1 (headed_so (one ++ (0x78 ∷ [])) head_78) (CutShort 144) refl;
   rate_2_unknown_behind = only_refused ch (headed rate2 ++ (0x00 ∷ [])) (refused (Unknown 144)) cut_rate_2 h22 (head_rate_2 ∙ ap (λ (h : Header). h ∷ []) read_rate_2.0) (Unknown 144) refl;
   sync_256 = fifteen ch;

@@ -1,7 +1,7 @@
 -- The writer's answers, case by case (01, "Writing"): each number with its place, each pair of neighbours in the order with both applying, and
 -- what is accepted. A line for every output says that it stays as it came. Sizes stand as 01 prints them.
 -- Assumes nothing.
-use Rattle.std.specs.Prelude.{◌≡◌, refl, List, [], ◌∷◌, ◌++◌, ℕ, ◌*◌, ◌≤◌, length, replicate}
+use Rattle.std.specs.Prelude.{◌≡◌, refl, List, [], ◌∷◌, ◌++◌, ℕ, ◌*◌, ◌≤◌, length, replicate, Ok}
 use Rattle.std.proofs.Common.{ap, lit≤}
 use Rattle.std.proofs.Math.Bool.{xor}
 use Rattle.lists.specs.Search.{first_from}
@@ -13,8 +13,7 @@ use Rattle.crc.specs.Crc.{crc, after}
 use Rattle.packet.specs.Packet.{packet, guarded, row, packet_of, stream}
 use Rattle.image.specs.Image.{image}
 use Rattle.writer.specs.Writing.{number_of, place_of, room_answer, verdict, writing}
-use Rattle.writer.specs.declared.Answer.{Answer}
-use Rattle.writer.specs.declared.Answer.TheVariants.{Written}
+use Rattle.writer.specs.Types.{Answer}
 use Rattle.page_images.specs.Headers.{header, multiframe_is}
 use Rattle.page_images.specs.Headers as H
 use Rattle.page_images.specs.Images.{lent}
@@ -105,7 +104,7 @@ no_stream : octets stream_octets (stream [] (first_pair 0) multiframe_pairs) ≡
 unfolding numbers value stream packet_of packet guarded crc after laid field xor row
 no_stream = refl
 
-silent : (rate kind : ℕ) (h : List ℕ) → verdict (settings rate kind) [] 146 ≡ Written 144 → header rate kind 1 ≡ h
+silent : (rate kind : ℕ) (h : List ℕ) → verdict (settings rate kind) [] 146 ≡ Ok 144 → header rate kind 1 ≡ h
     → write rate kind [] (lent 146) ≡ seen 0 144 (0x87 ∷ 0xB2 ∷ ((h ++ replicate 138 0) ++ lent 2))
 unfolding writing image
 silent rate kind h e f = rw e (ap (λ (i : List ℕ). seen 0 144 (i ++ lent 2)) (multiframe_is rate kind [] 0 h (replicate 138 0) f no_stream))

@@ -1,7 +1,7 @@
 -- NO PAIR NAMED. "No pair named, headers perhaps mended: frames, then zeros, speech = n, end = 1. And: the last multiframe wholly unnamed gives
 -- speech and end as sent." Headers may be lost too, if two are readable.
 -- Assumes nothing.
-use Rattle.std.specs.Prelude.{◌≡◌, refl, Bool, List, ℕ, zero, suc, ◌+◌, ◌-◌, ◌*◌, ◌/◌, ◌≤◌, ◌<◌, length}
+use Rattle.std.specs.Prelude.{◌≡◌, refl, Bool, List, ℕ, zero, suc, ◌+◌, ◌-◌, ◌*◌, ◌/◌, ◌≤◌, ◌<◌, length, Ok}
 use Rattle.std.proofs.Math.Path.{sym, ap}
 use Rattle.std.proofs.Common.{ap₂, ◌∙◌}
 use native.Mathlib.Omega.{arith}
@@ -14,9 +14,9 @@ use Rattle.frames.specs.Frames.{all_zero, zero_frame}
 use Rattle.cutting.proofs.Laws.{every_length}
 use Rattle.replacing.specs.Speech.{last_nonzero, speech_of, end_of}
 use Rattle.deciding.specs.Deciding.{received_notes}
+use Rattle.reader.specs.Types.{Answer}
 use Rattle.reader.specs.Reading.{index_part, summary, Outcome, outcome, reading}
 use Rattle.reader.specs.declared.Summary.{Summary}
-use Rattle.reader.specs.declared.Answer.TheVariants.{Read}
 use Rattle.image.specs.Made.{packet_in}
 use Rattle.image.proofs.Laws.{image_packet}
 use Rattle.wrong_frames.specs.WrongFrames.{frame_count}
@@ -55,7 +55,7 @@ module _ (ch : Choices) (u : Utterance) (s : List ℕ) (tables : Tables) (index 
   -- HEARD WHOLE: "frames, then zeros, speech = n, end = 1"; the header notes are the flips, three for a lost one
   pub heard_whole : ((q : ℕ) → q < pairs_of u → pair_note_in (reading ch s tables index report).report q ≡ 0)
       → reading ch s tables index report
-      ≡ outcome (Read (spoken u)) (over index 0 (index_octets * multiframes_of u) (padded u)) (over report 0 (report_octets * multiframes_of u) (mended_report u s))
+      ≡ outcome (Ok (spoken u)) (over index 0 (index_octets * multiframes_of u) (padded u)) (over report 0 (report_octets * multiframes_of u) (mended_report u s))
   heard_whole none = reads_undamaged ch u s p.damage (λ q h. unnamed q h (none q h)) p.headers tables index report p.lent
 
   abbrev m : ℕ
@@ -89,10 +89,10 @@ module _ (ch : Choices) (u : Utterance) (s : List ℕ) (tables : Tables) (index 
       ∙ ap (λ (t : Bool). when t 1 0) (last_zero none (multiframe_frames * m - 1) (omega arith) (omega arith)) ∙ end_is_1 u
 
   -- LAST HEARD: speech and end are as sent, whatever was named before
-  pub last_heard : LastUnnamed ch u s tables index report p → (given : Summary) → (reading ch s tables index report).answer ≡ Read given
+  pub last_heard : LastUnnamed ch u s tables index report p → (given : Summary) → (reading ch s tables index report).answer ≡ Ok given
       → (given.speech ≡ frame_count u.indices) × (given.end ≡ 1)
   last_heard none given e =
-      let r : Read given ≡ Read (summary s (row_of m) (received_notes s (row_of m) tables) (sent_common u)) =
+      let r : ◌≡◌ {A = Answer} (Ok given) (Ok (summary s (row_of m) (received_notes s (row_of m) tables) (sent_common u))) =
       sym e ∙ ap (λ (o : Outcome). o.answer) (NL.read_is ch u s tables index report p) in
       let g : given ≡ summary s (row_of m) (received_notes s (row_of m) tables) (sent_common u) = cc in
       (ap (λ (x : Summary). x.speech) g ∙ last_speech none, ap (λ (x : Summary). x.end) g ∙ last_end none)

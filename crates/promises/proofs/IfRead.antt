@@ -1,7 +1,7 @@
 -- IF IT IS READ: with at most three flips in each header and demand 3's damage to packets, a reading that succeeds says all that names-the-damage
 -- says. The premises on headers and on a good pair, which no caller can see, follow from the success: 16 and 20 would have come else.
 -- Assumes nothing.
-use Rattle.std.specs.Prelude.{◌≡◌, List, [], ℕ, ◌*◌, ◌≤◌, ◌<◌, length, get_or}
+use Rattle.std.specs.Prelude.{◌≡◌, List, [], ℕ, ◌*◌, ◌≤◌, ◌<◌, length, get_or, Some, Ok}
 use Rattle.std.proofs.Common.{sym, ap, ◌∙◌, subst, inl, inr, ⊎_elim, arith}
 use Rattle.std.proofs.Math.Decide.{ℕ_discrete, dec_lt}
 use Rattle.lists.specs.Tests.{true_false}
@@ -14,14 +14,13 @@ use Rattle.cutting.proofs.Laws.{every_length}
 use Rattle.header_readings.specs.Readings.{readings}
 use Rattle.settling.specs.Settling.{settling}
 use Rattle.carrier.specs.Carrier.{received, pair_count}
-use Rattle.settling.specs.declared.Settlement.TheVariants.{Settled}
 use Rattle.notes.specs.Laws.{length_notes}
 use Rattle.bad_pairs.specs.BadPairs.{bad, bad_pairs}
 use Rattle.bad_pairs.specs.Laws.{few_bad, Good, some_good}
 use Rattle.deciding.specs.Deciding.{received_notes}
+use Rattle.reader.specs.Types.{Answer}
 use Rattle.reader.specs.Reading.{Outcome, outcome, reading}
 use Rattle.reader.specs.declared.Summary.{Summary}
-use Rattle.reader.specs.declared.Answer.TheVariants.{Read}
 use Rattle.image.specs.Made.{sync_in}
 use Rattle.image.proofs.Laws.{length_image, image_sync}
 use Rattle.wrong_frames.specs.WrongFrames.{frame_count}
@@ -44,7 +43,7 @@ use Rattle.promises.specs.Heard as H
 use Rattle.promises.proofs.Heard.{heard_whole, last_heard}
 
 module _ (ch : Choices) (u : Utterance) (s : List ℕ) (d : DamageUpTo 3 (multiframes_of u) (image_of u) s) (tables : Tables) (index report : List ℕ) (given : Summary)
-    (e : (reading ch s tables index report).answer ≡ Read given) where
+    (e : (reading ch s tables index report).answer ≡ Ok given) where
   abbrev m : ℕ
   m = multiframes_of u
 
@@ -62,7 +61,7 @@ module _ (ch : Choices) (u : Utterance) (s : List ℕ) (d : DamageUpTo 3 (multif
   rows : length (cutting s).places ≡ m
   rows = ap length cut ∙ every_length 0 m
 
-  settled : settling ch (readings s (row_of m)) ≡ Settled w.common
+  settled : settling ch (readings s (row_of m)) ≡ Some w.common
   settled = sym (ap (λ (ps : List ℕ). settling ch (readings s ps)) cut) ∙ w.reader_accepts.fitting.settles
 
   -- what settled them
@@ -123,14 +122,14 @@ module _ (ch : Choices) (u : Utterance) (s : List ℕ) (d : DamageUpTo 3 (multif
   pub names_if_read : N.Names u s tables given (reading ch s tables index report).index (reading ch s tables index report).report
   names_if_read =
       let n = NL.names_wider ch u s tables index report wider_if_read in
-      let r : Read n.given ≡ Read given = sym n.succeeds ∙ e in
+      let r : ◌≡◌ {A = Answer} (Ok n.given) (Ok given) = sym n.succeeds ∙ e in
       let g : n.given ≡ given = cc in
       subst (λ (x : Summary). N.Names u s tables x result.index result.report) g n.names
 
   -- HEARD WHOLE, IF IT IS READ: no pair named
   pub heard_if_read : ((q : ℕ) → q < pairs_of u → pair_note_in (reading ch s tables index report).report q ≡ 0)
       → reading ch s tables index report
-      ≡ outcome (Read (spoken u)) (over index 0 (index_octets * multiframes_of u) (padded u)) (over report 0 (report_octets * multiframes_of u) (mended_report u s))
+      ≡ outcome (Ok (spoken u)) (over index 0 (index_octets * multiframes_of u) (padded u)) (over report 0 (report_octets * multiframes_of u) (mended_report u s))
   heard_if_read = heard_whole ch u s tables index report wider_if_read
 
   -- LAST HEARD, IF IT IS READ: no pair of the last multiframe named

@@ -1,6 +1,6 @@
 -- The premises of what the yards are told are met, and not only by images as they were written.
 -- Assumes nothing.
-use Rattle.std.specs.Prelude.{◌≡◌, refl, Bool, true, false, List, [], ◌∷◌, ◌++◌, ◌⊎◌, ℕ, zero, suc, ◌+◌, ◌-◌, ◌*◌, ◌%◌, ◌^◌, ◌≤◌, ◌<◌, eqb, take, length, get_or, replicate}
+use Rattle.std.specs.Prelude.{◌≡◌, refl, Bool, true, false, List, [], ◌∷◌, ◌++◌, ◌⊎◌, ℕ, zero, suc, ◌+◌, ◌-◌, ◌*◌, ◌%◌, ◌^◌, ◌≤◌, ◌<◌, eqb, take, length, get_or, replicate, Some, None, Ok}
 use Rattle.std.proofs.Common.{sym, ap, ap₂, ◌∙◌, subst, inl, inr, le_of_eq, arith, lit<, lit≤, ne_eqb, lt-ltb, le-ltb}
 use Rattle.std.proofs.Math.Bool.{xor}
 use Rattle.std.proofs.Math.Decide.{ℕ_discrete}
@@ -23,18 +23,15 @@ use Rattle.cutting.proofs.Laws.{every_length}
 use Rattle.header_code.specs.Code.{codeword}
 use Rattle.message.specs.Message.{message}
 use Rattle.header.specs.Reading.{decoded_as}
-use Rattle.header.specs.declared.Header.TheVariants.{Codeword, Lost}
 use Rattle.header_readings.specs.Readings.{readings}
 use Rattle.settling.specs.Settling.{settling}
 use Rattle.header_notes.specs.HeaderNotes.{header_note}
 use Rattle.settling.specs.Laws.{Enough}
 use Rattle.settling.proofs.Laws.{two_settle}
 use Rattle.carrier.specs.Carrier.{received, pair_count}
-use Rattle.settling.specs.declared.Settlement.TheVariants.{Settled}
 use Rattle.notes.specs.Laws.{length_notes}
 use Rattle.report.specs.Report.{report_part}
 use Rattle.reader.specs.Reading.{index_part, summary, Outcome, outcome, reading}
-use Rattle.reader.specs.declared.Answer.TheVariants.{Read}
 use Rattle.image.specs.Made.{word_in, packet_in, framed, made}
 use Rattle.image.proofs.Laws.{image_packet}
 use Rattle.writer.specs.Utterance.{Utterance, multiframes_of, pairs_of, image_of}
@@ -104,7 +101,7 @@ module _ (ch : Choices) (u : Utterance) (b c : ℕ) (lb : b < 2 ^ 32) (lc : c < 
   others k h n = omega (arith, flips_in_others u b c lb lc f k h n)
 
   -- the first header and the third settle the settings
-  settled : settling ch (readings s (row_of m)) ≡ Settled (sent_common u)
+  settled : settling ch (readings s (row_of m)) ≡ Some (sent_common u)
   settled =
       two_settle (readings s (row_of m)) (sent_common u) 1 (others_sent u s 1 (λ k h n. omega (arith, others k h n))) ch 0 2 (lit< tt)
       (has_common_lem u s 0 (omega arith) (others 0 (omega arith) (λ e. omega arith))) (has_common_lem u s 2 (omega arith) (others 2 (omega arith) (λ e. omega arith)))
@@ -113,11 +110,11 @@ module _ (ch : Choices) (u : Utterance) (b c : ℕ) (lb : b < 2 ^ 32) (lc : c < 
   far_11 : header_flips (image_of (at11 u)) s 1 ≡ n
   far_11 = flips_at_11 u eight (in_second b c) f (in_second_lt b c lb lc) 1 (omega arith) ∙ near
 
-  second : get_or (readings s (row_of m)) 1 Lost ≡ Codeword (decoded_as (word_in s 1) (sent_message (at11 u) 1))
+  second : get_or (readings s (row_of m)) 1 None ≡ Some (decoded_as (word_in s 1) (sent_message (at11 u) 1))
   second = header_at s m 1 (omega arith) ∙ header_read_lem (at11 u) s 1 (omega arith) (omega (arith, far_11))
 
   read_is : zero_read ch u s
-      ≡ outcome (Read (summary s (row_of m) (zero_notes u s) (sent_common u))) (over (index_for m) 0 (index_octets * length (row_of m)) (index_part s (row_of m) (zero_notes u s)))
+      ≡ outcome (Ok (summary s (row_of m) (zero_notes u s) (sent_common u))) (over (index_for m) 0 (index_octets * length (row_of m)) (index_part s (row_of m) (zero_notes u s)))
       (over (report_for m) 0 (report_octets * length (row_of m)) (report_part s (row_of m) (zero_notes u s) (sent_common u)))
   read_is =
       reads_settled ch u s (flipped_size u (in_second b c) f) (flipped_syncs u (in_second b c) f) zero_tables (index_for m) (report_for m) (lent_zeros m) (sent_common u)
@@ -465,7 +462,7 @@ near_24 = record {
 }
 
 -- ---- CUT OFF: of 48 frames, which are three multiframes, the first two came. They are read by either choice, with no end
-pub first_two_of_48 : (ch : Choices) → (reading ch (take (multiframe_octets * 2) (image_of says48)) zero_tables (index_for 2) (report_for 2)).answer ≡ Read (C.heard says48 2)
+pub first_two_of_48 : (ch : Choices) → (reading ch (take (multiframe_octets * 2) (image_of says48)) zero_tables (index_for 2) (report_for 2)).answer ≡ Ok (C.heard says48 2)
 first_two_of_48 ch = ap (λ (o : Outcome). o.answer) (C.cut_off_reads ch says48 2 (lit< tt) (omega (arith, three_multiframes)) (inl (lit≤ tt)) zero_tables (index_for 2) (report_for 2) (lent_zeros 2))
 
 pub no_end_of_48 : (ch : Choices) → (C.heard says48 2).end ≡ 0

@@ -2,7 +2,7 @@
 -- or an only header has at most five, a reading that succeeds gives the settings and the count sent." So 8 kHz never goes to the 11 kHz model.
 -- An only header settles only where the caller asks for the old rule; by default no reading of one multiframe succeeds (02, C-20).
 -- Assumes nothing.
-use Rattle.std.specs.Prelude.{◌≡◌, List, [], false, ℕ, ◌<◌, length}
+use Rattle.std.specs.Prelude.{◌≡◌, List, [], false, ℕ, ◌<◌, length, Some, Ok}
 use Rattle.std.proofs.Common.{sym, ap, ◌∙◌, subst, ⊎_elim, arith}
 use Rattle.std.proofs.Math.Decide.{ℕ_discrete}
 use Rattle.choices.specs.Choices.{one_settles}
@@ -16,15 +16,12 @@ use Rattle.message.specs.Message.{settings_of, common_bits}
 use Rattle.message.specs.Message.Laws.{message_lt}
 use Rattle.header.specs.Reading as H
 use Rattle.header.proofs.Laws.{flips_counted, reads}
-use Rattle.header.specs.declared.Header.{Header}
-use Rattle.header.specs.declared.Header.TheVariants.{Codeword}
+use Rattle.header.specs.Types.{Header}
 use Rattle.header_readings.specs.Readings.{readings}
 use Rattle.settling.specs.Settling.{settling}
 use Rattle.settling.proofs.Laws.{only_settles}
-use Rattle.settling.specs.declared.Settlement.TheVariants.{Settled}
 use Rattle.reader.specs.Reading.{reading}
 use Rattle.reader.specs.declared.Summary.{Summary}
-use Rattle.reader.specs.declared.Answer.TheVariants.{Read}
 use Rattle.reader.proofs.Chosen.{default_two}
 use Rattle.image.specs.Made.{sync_in, word_in}
 use Rattle.image.proofs.Laws.{length_image, image_sync}
@@ -51,10 +48,10 @@ module _ (ch : Choices) (u : Utterance) (s : List ℕ) (p : Premises u s) where
       (λ k h. p.syncs k h ∙ image_sync u.settings u.indices m k h))
 
   -- an only header that is a codeword and has at most five flips is the one sent: six bits lie between two codewords
-  only_sent : OnlyFive u s → (d : ℕ) → settling ch (readings s (row_of m)) ≡ Settled d → d ≡ sent_common u
+  only_sent : OnlyFive u s → (d : ℕ) → settling ch (readings s (row_of m)) ≡ Some d → d ≡ sent_common u
   only_sent o d e =
       let x = only_settles ch (H.reading (word_in s 0)) d (sym (ap (settling ch) (readings_are s m) ∙ ap (λ (n : ℕ). settling ch (each (λ k. H.reading (word_in s k)) n)) o.single) ∙ e) in
-      let r : H.ReadAs (word_in s 0) (Codeword x.decoded) = read x.read_as in
+      let r : H.ReadAs (word_in s 0) (Some x.decoded) = read x.read_as in
       sym x.bits
       ∙ elim (ℕ_discrete x.decoded.message (sent_message u 0)) [
         | yes y ↦ ap common_bits y ∙ common_sent u 0
@@ -73,10 +70,10 @@ module _ (ch : Choices) (u : Utterance) (s : List ℕ) (p : Premises u s) where
       read : {h : Header} → H.reading (word_in s 0) ≡ h → H.ReadAs (word_in s 0) h
       read e = subst (H.ReadAs (word_in s 0)) e (reads (word_in s 0))
 
-  settled_sent : (d : ℕ) → settling ch (readings s (row_of m)) ≡ Settled d → d ≡ sent_common u
+  settled_sent : (d : ℕ) → settling ch (readings s (row_of m)) ≡ Some d → d ≡ sent_common u
   settled_sent d e = ⊎_elim (λ a. settles_nothing_else u s a.but (λ k h n. let l = a.others k h n in omega arith) ch d a.two e) (λ o. only_sent o d e) p.headers
 
-  module _ (tables : Tables) (index report : List ℕ) (given : Summary) (e : (reading ch s tables index report).answer ≡ Read given) where
+  module _ (tables : Tables) (index report : List ℕ) (given : Summary) (e : (reading ch s tables index report).answer ≡ Ok given) where
     w : A.WasRead ch s tables index report [] given
     w = AL.was_read ch s tables index report [] given e
 
@@ -90,13 +87,13 @@ module _ (ch : Choices) (u : Utterance) (s : List ℕ) (p : Premises u s) where
     }
 
 pub never_misled : (ch : Choices) (u : Utterance) (s : List ℕ) → Premises u s → (tables : Tables) (index report : List ℕ) (given : Summary)
-    → (reading ch s tables index report).answer ≡ Read given → AsSent u s given
+    → (reading ch s tables index report).answer ≡ Ok given → AsSent u s given
 never_misled ch = proof ch
 
 -- BY DEFAULT ONE MULTIFRAME MISLEADS NOBODY, whatever its header is: no reading of it succeeds (02, C-20)
 pub none_by_default : (ch : Choices) (u : Utterance) (s : List ℕ) → one_settles ch ≡ false → multiframes_of u ≡ 1 → length s ≡ length (image_of u)
     → ((k : ℕ) → k < multiframes_of u → sync_in s k ≡ sync_in (image_of u) k) → (tables : Tables) (index report : List ℕ) (given : Summary)
-    → (reading ch s tables index report).answer ≡ Read given → ⊥
+    → (reading ch s tables index report).answer ≡ Ok given → ⊥
 none_by_default ch u s default one size syncs tables index report given e =
     let m = multiframes_of u in
     let w = AL.was_read ch s tables index report [] given e in

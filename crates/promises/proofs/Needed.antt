@@ -1,6 +1,6 @@
 -- What happens without a premise of what the yards are told, for the premises tried here; Inverse, CutOff and CutDamaged have their own.
 -- Assumes nothing.
-use Rattle.std.specs.Prelude.{◌≡◌, refl, Bool, true, false, List, [], ◌∷◌, ◌⊎◌, ℕ, zero, suc, ◌+◌, ◌-◌, ◌*◌, ◌^◌, ◌≤◌, ◌<◌, eqb, leb, take, length, get_or}
+use Rattle.std.specs.Prelude.{◌≡◌, refl, Bool, true, false, List, [], ◌∷◌, ◌⊎◌, ℕ, zero, suc, ◌+◌, ◌-◌, ◌*◌, ◌^◌, ◌≤◌, ◌<◌, eqb, leb, take, length, get_or, Some, None, Ok, Err}
 use Rattle.std.proofs.Common.{sym, ap₂, ◌∙◌, subst, inl, inr, le_of_eq, lit<, lit≤, eq-eqb, ne_eqb, le-leb, length-append}
 use Rattle.std.proofs.Math.Path.{ap}
 use Rattle.std.proofs.Math.Decide.{ℕ_discrete, dec_lt}
@@ -31,14 +31,12 @@ use Rattle.header_code.specs.Code.{codeword}
 use Rattle.message.specs.Message.{message}
 use Rattle.header.specs.Reading.{decoded_as}
 use Rattle.header.specs.declared.Decoded.{Decoded}
-use Rattle.header.specs.declared.Header.{Header}
-use Rattle.header.specs.declared.Header.TheVariants.{Codeword, Lost}
+use Rattle.header.specs.Types.{Header}
 use Rattle.header_readings.specs.Readings.{readings}
 use Rattle.settling.specs.Settling.{settling, first_agreeing}
 use Rattle.settling.specs.Laws.{Enough}
 use Rattle.settling.proofs.Laws.{two_or_more}
 use Rattle.carrier.specs.Carrier.{received, pair_count}
-use Rattle.settling.specs.declared.Settlement.TheVariants as Set
 use Rattle.notes.specs.Laws.{length_notes, length_all}
 use Rattle.bad_pairs.specs.Laws.{Good}
 use Rattle.replacing.specs.Replacing.{frame_before, frame_after, source}
@@ -48,7 +46,6 @@ use Rattle.replacing.specs.Speech.{last_nonzero, speech_of, end_of, place_le, ze
 use Rattle.reader.specs.Reading.{index_part, summary, Outcome, outcome, reading, received_frames}
 use Rattle.reader.specs.declared.Summary.{Summary}
 use Rattle.refusals.specs.declared.Reading.TheVariants.{Unsettled}
-use Rattle.reader.specs.declared.Answer.TheVariants.{Read, Refused}
 use Rattle.image.specs.Made.{sync_in, word_in, packet_in}
 use Rattle.image.proofs.Laws.{length_image, image_sync, image_word, image_packet, image_small}
 use Rattle.wrong_frames.specs.WrongFrames.{frame_count}
@@ -100,7 +97,7 @@ module _ (ch : Choices) (u : Utterance) (eight : u.settings.rate ≡ 0) where
   not_sent s x = let z : ◌≡◌ {A = ℕ} 1 0 = ap (λ (s : Settings). s.rate) x.settings ∙ eight in omega arith
 
   module _ (tables : Tables) (index report : List ℕ) (lent : Lent (multiframes_of u) tables index report) where
-    four_read : 2 ≤ multiframes_of u → (reading ch (four_off u) tables index report).answer ≡ Read (spoken (at11 u))
+    four_read : 2 ≤ multiframes_of u → (reading ch (four_off u) tables index report).answer ≡ Ok (spoken (at11 u))
     four_read two =
         let e : ℕ → ℕ = λ k. bit_xor four_bits rate_bits in
         let lt : (k : ℕ) → e k < 2 ^ 32 = λ k. lit< tt in
@@ -126,7 +123,7 @@ module _ (ch : Choices) (u : Utterance) (eight : u.settings.rate ≡ 0) where
           misled = not_sent (four_off u);
         }
 
-    six_read : Enough ch (multiframes_of u) → (reading ch (image_of (at11 u)) tables index report).answer ≡ Read (spoken (at11 u))
+    six_read : Enough ch (multiframes_of u) → (reading ch (image_of (at11 u)) tables index report).answer ≡ Ok (spoken (at11 u))
     six_read sent = ap (λ (o : Outcome). o.answer) (reads_image ch (at11 u) sent tables index report lent)
 
     six_each : (k : ℕ) → k < multiframes_of u → header_flips (image_of u) (image_of (at11 u)) k ≡ 6
@@ -166,7 +163,7 @@ pub one_of_six : Misleads by_one_header says1 (image_of (at11 says1)) 6 zero_tab
 one_of_six = six_mislead by_one_header says1 refl zero_tables (index_for 1) (report_for 1) (lent_zeros 1) (inr refl)
 
 -- which by default misleads nobody: "a codeword can be the wrong codeword" (02, C-20)
-pub six_refused : reading by_default (image_of (at11 says1)) zero_tables (index_for 1) (report_for 1) ≡ outcome (Refused Unsettled) (index_for 1) (report_for 1)
+pub six_refused : reading by_default (image_of (at11 says1)) zero_tables (index_for 1) (report_for 1) ≡ outcome (Err Unsettled) (index_for 1) (report_for 1)
 six_refused = default_unsettled by_default (at11 says1) (image_of (at11 says1)) (unharmed (at11 says1)) zero_tables (index_for 1) (report_for 1) (lent_zeros 1) refl refl
 
 module _ (ch : Choices) (u v : Utterance) (same : u.settings ≡ v.settings) (longer : multiframes_of u < multiframes_of v) (tables : Tables) (index report : List ℕ)
@@ -248,9 +245,9 @@ one_lt k = by_test (λ (n : ℕ). n < 2 ^ 32) (eqb k 0) (λ t. lit< tt) (λ t. l
 one_three : (k : ℕ) → ones (one_readable k) ≤ 3
 one_three k = by_test (λ (n : ℕ). ones n ≤ 3) (eqb k 0) (λ t. omega (arith, two_flipped)) (λ t. omega (arith, three_flipped))
 
-one_settles_nothing : (ch : Choices) (d : Decoded) → settling ch (Codeword d ∷ Lost ∷ []) ≡ Set.Unsettled
+one_settles_nothing : (ch : Choices) (d : Decoded) → settling ch (Some d ∷ None ∷ []) ≡ None
 unfolding first_agreeing
-one_settles_nothing ch d = two_or_more ch (Codeword d ∷ Lost ∷ []) (omega arith)
+one_settles_nothing ch d = two_or_more ch (Some d ∷ None ∷ []) (omega arith)
 
 module _ (ch : Choices) (u : Utterance) (two : multiframes_of u ≡ 2) where
   abbrev s : List ℕ
@@ -265,19 +262,19 @@ module _ (ch : Choices) (u : Utterance) (two : multiframes_of u ≡ 2) where
   flips : (k : ℕ) → k < m → header_flips (image_of u) s k ≡ ones (one_readable k)
   flips k h = flips_are u one_readable (packet_of u.indices) one_lt k h
 
-  two_heard : heard_as (word_in s 0) (sent_message u 0) ≡ Codeword (decoded_as (word_in s 0) (sent_message u 0))
+  two_heard : heard_as (word_in s 0) (sent_message u 0) ≡ Some (decoded_as (word_in s 0) (sent_message u 0))
   two_heard = heard_read (word_in s 0) (sent_message u 0) (omega (arith, header_near u s 0 (omega arith), flips 0 (omega arith), two_flipped))
 
-  three_heard : heard_as (word_in s 1) (sent_message u 1) ≡ Lost
+  three_heard : heard_as (word_in s 1) (sent_message u 1) ≡ None
   three_heard = heard_lost (word_in s 1) (sent_message u 1) (omega (arith, header_near u s 1 (omega arith), flips 1 (omega arith), three_flipped))
 
-  unsettled : settling ch (readings s (row_of m)) ≡ Set.Unsettled
+  unsettled : settling ch (readings s (row_of m)) ≡ None
   unsettled =
       ap (settling ch) (headers_read u s damaged.headers)
       ∙ ap (λ (n : ℕ). settling ch (each (λ k. heard_as (word_in s k) (sent_message u k)) n)) two
       ∙ ap₂ (λ (a b : Header). settling ch (a ∷ b ∷ [])) two_heard three_heard ∙ one_settles_nothing ch (decoded_as (word_in s 0) (sent_message u 0))
 
-  refused : zero_read ch u s ≡ outcome (Refused Unsettled) (index_for m) (report_for m)
+  refused : zero_read ch u s ≡ outcome (Err Unsettled) (index_for m) (report_for m)
   refused =
       refuses_16 ch s m (few_multiframes u.settings u.indices (is_accepted u).sizes) (damaged.size ∙ length_image u.settings u.indices m)
       (λ k h. damaged.syncs k h ∙ image_sync u.settings u.indices m k h) zero_tables (index_for m) (report_for m) (omega arith) (lent_zeros m) unsettled
@@ -292,7 +289,7 @@ module _ (ch : Choices) (u : Utterance) (two : multiframes_of u ≡ 2) where
     not_named = λ x. not_read x.given (sym (ap (λ (o : Outcome). o.answer) refused) ∙ x.succeeds);
   }
     where
-      not_read : (g : Summary) → Refused Unsettled ≡ Read g → ⊥
+      not_read : (g : Summary) → Err Unsettled ≡ Ok g → ⊥
       not_read g e = let z : ◌≡◌ {A = ℕ} 0 1 = cc in omega arith
 
 -- so of 24 frames
@@ -479,7 +476,7 @@ module _ (ch : Choices) (u : Utterance) (two : 2 ≤ multiframes_of u) (full : f
       (NL.index_frame ch u got zero_tables (index_for ms) (report_for ms) wide i h (good_at (pair_of i) (omega arith) (behind (pair_of i) (omega arith) (omega arith)))
       ∙ row_past u.indices (frame_indices * i) frame_indices (omega (arith, whole_frames u)))
 
-  given_is : (zero_read ch u got).answer ≡ Read (summary got (row_of ms) ns (sent_common u))
+  given_is : (zero_read ch u got).answer ≡ Ok (summary got (row_of ms) ns (sent_common u))
   given_is = ap (λ (o : Outcome). o.answer) (NL.read_is ch u got zero_tables (index_for ms) (report_for ms) wide)
 
   speech_is : (n : ℕ) → last_nonzero all (multiframe_frames * (ms - 1)) multiframe_frames ≡ n → (summary got (row_of ms) ns (sent_common u)).speech ≡ frame_count u.indices + n
@@ -623,7 +620,7 @@ module _ (ch : Choices) (u : Utterance) (k : ℕ) (some : 0 < k) (last : multifr
       ∙ ap ones (xor_self (word_in (image_of u) i)) ∙ none_flipped
 
   -- it is read as the first k multiframes alone are
-  read_gone : (zero_read ch u gone).answer ≡ Read (C.heard u k)
+  read_gone : (zero_read ch u gone).answer ≡ Ok (C.heard u k)
   read_gone =
       let i = index_for (multiframes_of u) in
       let r = report_for (multiframes_of u) in

@@ -2,7 +2,7 @@
 -- it, one after the other, up to the first consistent one. The premises of `names_the_damage` are met with such pairs, of one multiframe (by the old rule, 02, C-20) and of two, and a
 -- pair that is only undamaged is not enough for them. The tables are not zero, and no threshold is negative.
 -- Assumes nothing.
-use Rattle.std.specs.Prelude.{◌≡◌, refl, List}
+use Rattle.std.specs.Prelude.{◌≡◌, refl, List, Err}
 use Rattle.std.proofs.Common.{sym, ◌∙◌, subst, arith}
 use Rattle.std.proofs.Math.Logic.{inl, inr, ⊎_elim}
 use Prim.Native.Nat.{ℕ, zero, suc, ◌+◌, ◌-◌, ◌≤◌, ◌<◌}
@@ -13,7 +13,6 @@ use Rattle.lists.specs.Tests.{true_false}
 use Rattle.tables.specs.Tables.{Tables}
 use Rattle.reader.specs.Reading.{outcome, reading}
 use Rattle.refusals.specs.declared.Reading.TheVariants.{AllBad}
-use Rattle.reader.specs.declared.Answer.TheVariants.{Refused}
 use Rattle.settling.specs.Laws.{Enough}
 use Rattle.writer.specs.Utterance.{Utterance, multiframes_of, pairs_of, image_of}
 use Rattle.demands.proofs.HeadersLaws.{can_settle}
@@ -172,7 +171,7 @@ stops_7 = record {
 pub undamaged_not_enough : (ch : Choices) (u : Utterance) → Enough ch (multiframes_of u) → (tables : Tables) (index report : List ℕ) → ((q : ℕ) → q < pairs_of u → Inconsistent u (hit_image u 0) tables q)
     → Lent (multiframes_of u) tables index report
     → ((q : ℕ) → 0 < q → q < pairs_of u → Touched (image_of u) (hit_image u 0) q → ⊥)
-    × (reading ch (hit_image u 0) tables index report ≡ outcome (Refused AllBad) index report)
+    × (reading ch (hit_image u 0) tables index report ≡ outcome (Err AllBad) index report)
 undamaged_not_enough ch u sent tables index report inconsistent lent = (
   (λ q h l. not_hit u 0 q l (λ e. omega arith)),
   all_bad_refuses ch u (hit_image u 0) (hits u 0) tables index report lent (can_settle ch (multiframes_of u) _ sent (clean_header u 0 0 (omega arith))) every,
@@ -183,8 +182,8 @@ undamaged_not_enough ch u sent tables index report inconsistent lent = (
     every (suc q) h = inr (ruled_behind u 0 (omega arith) tables (suc q) (omega arith) (λ i a b. inconsistent i (omega arith)))
 
 -- it is so of one multiframe, where the caller asks for the old rule, and of two
-pub all_but_one : reading by_one_header (hit_image rises23 0) stairs (index_for 1) (report_for 1) ≡ outcome (Refused AllBad) (index_for 1) (report_for 1)
+pub all_but_one : reading by_one_header (hit_image rises23 0) stairs (index_for 1) (report_for 1) ≡ outcome (Err AllBad) (index_for 1) (report_for 1)
 all_but_one = (undamaged_not_enough by_one_header rises23 (inr refl) stairs (index_for 1) (report_for 1) inconsistent_23 (lent_stairs 1)).1
 
-pub all_but_one_47 : (ch : Choices) → reading ch (hit_image rises47 0) stairs (index_for 2) (report_for 2) ≡ outcome (Refused AllBad) (index_for 2) (report_for 2)
+pub all_but_one_47 : (ch : Choices) → reading ch (hit_image rises47 0) stairs (index_for 2) (report_for 2) ≡ outcome (Err AllBad) (index_for 2) (report_for 2)
 all_but_one_47 ch = (undamaged_not_enough ch rises47 (inl (omega arith)) stairs (index_for 2) (report_for 2) inconsistent_47 (lent_stairs 2)).1

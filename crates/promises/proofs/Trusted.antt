@@ -2,7 +2,7 @@
 -- settings, frames, speech and end are those sent. Neither premise of demand 3 is needed." Nor are its limits on headers: it is enough that one
 -- of them has at most five flips, since a header with note 0 is a codeword and two codewords are six bits apart.
 -- Assumes nothing.
-use Rattle.std.specs.Prelude.{◌≡◌, List, [], ℕ, ◌+◌, ◌*◌, ◌/◌, ◌%◌, ◌≤◌, ◌<◌, length, get_or, replicate}
+use Rattle.std.specs.Prelude.{◌≡◌, List, [], ℕ, ◌+◌, ◌*◌, ◌/◌, ◌%◌, ◌≤◌, ◌<◌, length, get_or, replicate, None, Ok}
 use Rattle.std.proofs.Common.{sym, ap, ◌∙◌, subst, arith, lit<}
 use Rattle.std.proofs.Math.Decide.{ℕ_discrete}
 use Rattle.std.specs.Int.Bits.{xor_zero_r}
@@ -20,8 +20,7 @@ use Rattle.message.specs.Message.{message, settings_of}
 use Rattle.message.specs.Message.Laws.{message_lt, rate_lt, type_lt, settings_fit_lem, settings_back}
 use Rattle.header.specs.Reading as H
 use Rattle.header.proofs.Laws.{flips_of}
-use Rattle.header.specs.declared.Header.{Header}
-use Rattle.header.specs.declared.Header.TheVariants.{Lost}
+use Rattle.header.specs.Types.{Header}
 use Rattle.cutting.specs.Cutting.{Cutting, cutting}
 use Rattle.cutting.proofs.Laws.{every_length}
 use Rattle.header_readings.specs.Readings.{readings}
@@ -29,9 +28,9 @@ use Rattle.header_notes.specs.HeaderNotes.{header_note}
 use Rattle.carrier.specs.Carrier.{received, pair_count}
 use Rattle.notes.specs.Laws.{length_notes}
 use Rattle.deciding.specs.Deciding.{received_notes}
+use Rattle.reader.specs.Types.{Answer}
 use Rattle.reader.specs.Reading.{Outcome, outcome, reading}
 use Rattle.reader.specs.declared.Summary.{Summary}
-use Rattle.reader.specs.declared.Answer.TheVariants.{Read}
 use Rattle.image.specs.Made.{sync_in, word_in, packet_in}
 use Rattle.image.proofs.Laws.{length_image, image_sync}
 use Rattle.header_readings.specs.Laws.{length_readings}
@@ -92,9 +91,9 @@ module _ (ch : Choices) (u : Utterance) (s : List ℕ) (p : Premises u s) (table
   -- each header is a codeword with the settled bits
   settled_word : (k : ℕ) → k < m → word_in s k ≡ codeword (message (settings_of c) (k + 1) 0)
   settled_word k h =
-      let r : get_or (readings s places) k Lost ≡ H.reading (word_in s k) =
-      ap (λ (l : List ℕ). get_or (readings s l) k Lost) cut ∙ ap (λ (l : List Header). get_or l k Lost) (readings_are s m) ∙ each_at (λ k. H.reading (word_in s k)) m k Lost h in
-      let z : header_note c k (get_or (readings s places) k Lost) ≡ 0 =
+      let r : get_or (readings s places) k None ≡ H.reading (word_in s k) =
+      ap (λ (l : List ℕ). get_or (readings s l) k None) cut ∙ ap (λ (l : List Header). get_or l k None) (readings_are s m) ∙ each_at (λ k. H.reading (word_in s k)) m k None h in
+      let z : header_note c k (get_or (readings s places) k None) ≡ 0 =
       sym (ap (λ (o : Outcome). header_note_in o.report k) w.result_is ∙ header_note_is s places ns report c (report_octets * length places) notes_size k (omega (arith, rows)))
       ∙ x.notes_0 (report_octets * k) (omega (arith, count)) in
       clean_header c k (word_in s k) w.reader_accepts.fitting.usable.exp (ap (header_note c k) (sym r) ∙ z)
@@ -157,13 +156,13 @@ module _ (ch : Choices) (u : Utterance) (s : List ℕ) (p : Premises u s) (table
   enough = subst (Enough ch) (length_readings s places ∙ rows) (settled_enough ch (readings s places) c w.reader_accepts.fitting.settles)
 
   read_is : result ch s tables index report given
-      ≡ outcome (Read (spoken u)) (over index 0 (index_octets * m) (padded u)) (over report 0 (report_octets * m) (replicate (report_octets * m) 0))
+      ≡ outcome (Ok (spoken u)) (over index 0 (index_octets * m) (padded u)) (over report 0 (report_octets * m) (replicate (report_octets * m) 0))
   read_is = ap (λ (i : List ℕ). reading ch i tables index report) is_sent ∙ reads_image ch u enough tables index report lent
 
   proof : AsWritten ch u s tables index report given
   proof = record {
     image = is_sent;
-    sent = let r : Read given ≡ Read (spoken u) = sym x.succeeds ∙ ap (λ (o : Outcome). o.answer) read_is in cc;
+    sent = let r : ◌≡◌ {A = Answer} (Ok given) (Ok (spoken u)) = sym x.succeeds ∙ ap (λ (o : Outcome). o.answer) read_is in cc;
     frames = ap (λ (o : Outcome). o.index) read_is;
     notes = ap (λ (o : Outcome). o.report) read_is;
   }

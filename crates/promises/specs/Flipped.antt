@@ -2,7 +2,7 @@
 -- are made of.
 -- Assumes nothing.
 use Rattle.std.proofs.Math.Path.{◌≡◌, sym, ap, ap₂}
-use Rattle.std.specs.Prelude.{refl, Bool, true, ◌⊎◌, ℕ, suc, ◌+◌, ◌*◌, ◌/◌, ◌%◌, ◌^◌, ◌≤◌, ◌<◌, eqb, length, get_or, take, drop}
+use Rattle.std.specs.Prelude.{refl, Bool, true, ◌⊎◌, ℕ, suc, ◌+◌, ◌*◌, ◌/◌, ◌%◌, ◌^◌, ◌≤◌, ◌<◌, eqb, length, get_or, take, drop, Some, None, Ok}
 use Rattle.std.proofs.Common.{◌∙◌, subst, inl, inr, ⊎_elim, mod-eq_of_lt, lit<}
 use Rattle.std.proofs.Math.Bool.{false, not}
 use mathlib.Core.List.{List}
@@ -33,15 +33,13 @@ use Rattle.message.specs.Message.{message, rate_of, type_of, count_of, exp_of, c
 use Rattle.message.specs.Message.Laws.{message_lt, message_back, rate_back, type_back, count_back, exp_back, rate_masked, type_masked, count_masked, exp_shifted, count_mod}
 use Rattle.header.proofs.Laws.{flips_of}
 use Rattle.header.specs.Reading as H
-use Rattle.header.specs.declared.Header.{Header}
-use Rattle.header.specs.declared.Header.TheVariants.{Codeword, Lost}
+use Rattle.header.specs.Types.{Header}
 use Rattle.header_readings.specs.Readings.{readings}
 use Rattle.settling.specs.Settling.{settling}
 use Rattle.header_notes.specs.HeaderNotes.{header_note}
 use Rattle.settling.specs.Laws.{Has}
 use Rattle.settling.proofs.Laws.{read_has}
 use Rattle.unfit.specs.Laws.{Usable}
-use Rattle.settling.specs.declared.Settlement.TheVariants.{Settled}
 use Rattle.cutting.proofs.Laws.{every_length}
 use Rattle.carrier.specs.Carrier.{stream_packet, received, pair_count}
 use Rattle.notes.specs.Notes.{pair_fails, frames_of, pair_inconsistent, pair_notes}
@@ -51,11 +49,9 @@ use Rattle.bad_pairs.specs.Laws.{Good, none_good, bad_before, note_at, consisten
 use Rattle.deciding.specs.Deciding.{received_notes}
 use Rattle.report.specs.Report.{report_part}
 use Rattle.reader.specs.Reading.{index_part, summary, Outcome, outcome, reading}
-use Rattle.reader.specs.declared.Answer.TheVariants.{Read}
 use Rattle.image.specs.Made.{sync_in, word_in, packet_in, made, framed, length_made, made_sync, made_word, made_packet}
 use Rattle.image.proofs.Laws.{length_image, image_sync, image_packet}
 use Rattle.writer.specs.Writing.{verdict, needed}
-use Rattle.writer.specs.declared.Answer.TheVariants.{Written}
 use Rattle.writer.proofs.Laws.{few_multiframes, accepts}
 use Rattle.writer.specs.Utterance.{Utterance, multiframes_of, pairs_of, image_of}
 use Rattle.writer.proofs.Utterance.{is_accepted, kind_small, rate_not_2}
@@ -224,7 +220,7 @@ right_11 : (u : Utterance) → settings_right (settings 1 u.settings.kind) ≡ t
 right_11 u = rw (le-ltb 1 u.settings.kind (omega (arith, kind_small u)))
 
 -- the writer accepts at 11 kHz what it accepts at another rate
-pub written_11 : (u : Utterance) → verdict (settings 1 u.settings.kind) u.indices (needed u.indices) ≡ Written (needed u.indices)
+pub written_11 : (u : Utterance) → verdict (settings 1 u.settings.kind) u.indices (needed u.indices) ≡ Ok (needed u.indices)
 written_11 u =
     let a = is_accepted u in
     accepts (settings 1 u.settings.kind) u.indices (needed u.indices) (record { right = right_11 u; whole = a.sizes.whole; few = a.sizes.few }) a.narrow_indices a.speaks (omega arith)
@@ -307,7 +303,7 @@ module _ (u : Utterance) (eight : u.settings.rate ≡ 0) where
       ∙ flips_are (at11 u) (λ k. bit_xor (e k) rate_bits) f (λ k. xor_lt 32 (e k) rate_bits (small k) (lit< tt)) k h
 
   -- a header that is read as that of 11 kHz is noted for it
-  pub noted_11 : (k w : ℕ) → header_note (sent_common u) k (Codeword (H.decoded_as w (sent_message (at11 u) k))) ≡ flips_to w (sent_message (at11 u) k) + 8
+  pub noted_11 : (k w : ℕ) → header_note (sent_common u) k (Some (H.decoded_as w (sent_message (at11 u) k))) ≡ flips_to w (sent_message (at11 u) k) + 8
   unfolding header_note
   noted_11 k w =
       let n = flips_to w (sent_message (at11 u) k) in
@@ -320,8 +316,8 @@ module _ (u : Utterance) (eight : u.settings.rate ≡ 0) where
 
 -- ---- the headers as they are read
 -- header k in order
-pub header_at : (s : List ℕ) (m k : ℕ) → k < m → get_or (readings s (row_of m)) k Lost ≡ H.reading (word_in s k)
-header_at s m k h = ap (λ (l : List Header). get_or l k Lost) (readings_are s m) ∙ each_at (λ k. H.reading (word_in s k)) m k Lost h
+pub header_at : (s : List ℕ) (m k : ℕ) → k < m → get_or (readings s (row_of m)) k None ≡ H.reading (word_in s k)
+header_at s m k h = ap (λ (l : List Header). get_or l k None) (readings_are s m) ∙ each_at (λ k. H.reading (word_in s k)) m k None h
 
 -- with at most two flips it has the common bits sent
 pub has_common_lem : (u : Utterance) (s : List ℕ) (k : ℕ) → k < multiframes_of u → header_flips (image_of u) s k ≤ 2 → Has (readings s (row_of (multiframes_of u))) k (sent_common u)
@@ -343,9 +339,9 @@ module _ (ch : Choices) (u : Utterance) (s : List ℕ) (size : length s ≡ leng
   ns = received_notes s (row_of m) tables
 
   -- it succeeds, and this is what it gives
-  pub reads_settled : settling ch (readings s (row_of (multiframes_of u))) ≡ Settled c → Usable c → Good (received_notes s (row_of (multiframes_of u)) tables)
+  pub reads_settled : settling ch (readings s (row_of (multiframes_of u))) ≡ Some c → Usable c → Good (received_notes s (row_of (multiframes_of u)) tables)
       → reading ch s tables index report
-      ≡ outcome (Read (summary s (row_of (multiframes_of u)) (received_notes s (row_of (multiframes_of u)) tables) c))
+      ≡ outcome (Ok (summary s (row_of (multiframes_of u)) (received_notes s (row_of (multiframes_of u)) tables) c))
       (over index 0 (index_octets * length (row_of (multiframes_of u))) (index_part s (row_of (multiframes_of u)) (received_notes s (row_of (multiframes_of u)) tables)))
       (over report 0 (report_octets * length (row_of (multiframes_of u))) (report_part s (row_of (multiframes_of u)) (received_notes s (row_of (multiframes_of u)) tables) c))
   reads_settled settled usable good =

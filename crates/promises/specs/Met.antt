@@ -1,6 +1,6 @@
 -- The premises of what the yards are told are met, and not only by images as they were written.
 -- What is claimed stands here, and is proved in proofs/MetLaws.antt. Assumes nothing.
-use Rattle.std.specs.Prelude.{◌≡◌, refl, Bool, List, ◌∷◌, ℕ, zero, suc, ◌+◌, ◌-◌, ◌*◌, ◌%◌, ◌^◌, ◌<◌, eqb, ltb, replicate}
+use Rattle.std.specs.Prelude.{◌≡◌, refl, Bool, List, ◌∷◌, ℕ, zero, suc, ◌+◌, ◌-◌, ◌*◌, ◌%◌, ◌^◌, ◌<◌, eqb, ltb, replicate, Ok}
 use Rattle.std.proofs.Common.{lit<}
 use Rattle.lists.specs.Tests.{when}
 use Rattle.lists.specs.Parts.{over}
@@ -14,12 +14,10 @@ use Rattle.crc.specs.Crc.{flip}
 use Rattle.packet.specs.Packet.{packet_of}
 use Rattle.reader.specs.Reading.{reading}
 use Rattle.reader.specs.declared.Summary.{Summary}
-use Rattle.reader.specs.declared.Answer.TheVariants.{Read}
 use Rattle.image.specs.Made.{Small}
 use Rattle.wrong_frames.specs.WrongFrames.{frame_count}
 use Rattle.writer.specs.Writing.{verdict, room_answer, needed}
 use Rattle.writer.specs.Utterance.{Utterance, multiframes_of, image_of}
-use Rattle.writer.specs.declared.Answer.TheVariants.{Written}
 use Rattle.damage.specs.Damage.{header_flips}
 use Rattle.demands.specs.ReadsBack.{spoken, padded}
 use Rattle.demands.specs.Whole.{header_note_in, pair_note_in}
@@ -32,7 +30,7 @@ use Rattle.promises.specs.Flipped.{rate_bits}
 use Rattle.promises.specs.Flipped.{zero_read}
 
 -- ---- 48 frames of ones, which take three multiframes
-written_48 : verdict (settings 0 0) (replicate 336 1) (needed (replicate 336 1)) ≡ Written (needed (replicate 336 1))
+written_48 : verdict (settings 0 0) (replicate 336 1) (needed (replicate 336 1)) ≡ Ok (needed (replicate 336 1))
 unfolding verdict room_answer first_from zero_frame
 written_48 = refl
 
@@ -63,7 +61,7 @@ pub record Incident (u : Utterance) (f : ℕ → List Bool) : Type 0 where
 -- a second header that is read as one of 11 kHz is harmless alone: the reading succeeds with what was sent, and its note has 8 added
 pub record Harmless (ch : Choices) (u : Utterance) (s : List ℕ) (note : ℕ) : Type 0 where
   pub given : Summary
-  pub succeeds : (zero_read ch u s).answer ≡ Read given
+  pub succeeds : (zero_read ch u s).answer ≡ Ok given
   pub sent : M.AsSent u s given
   pub noted : header_note_in (zero_read ch u s).report 1 ≡ note + 8
 
@@ -81,7 +79,7 @@ lost_one u = flipped u lost_second (packet_of u.indices)
 
 -- so it is heard whole: the frames, then zeros, speech n, end 1; and the notes of the headers are 2, 3 and 1
 pub record Heard (ch : Choices) (u : Utterance) (tables : Tables) (index report : List ℕ) : Type 0 where
-  pub succeeds : (reading ch (lost_one u) tables index report).answer ≡ Read (spoken u)
+  pub succeeds : (reading ch (lost_one u) tables index report).answer ≡ Ok (spoken u)
   pub frames : (reading ch (lost_one u) tables index report).index ≡ over index 0 (index_octets * multiframes_of u) (padded u)
   pub first : header_note_in (reading ch (lost_one u) tables index report).report 0 ≡ 2
   pub second : header_note_in (reading ch (lost_one u) tables index report).report 1 ≡ 3
@@ -119,7 +117,7 @@ earlier_hurt u = flipped u (λ k. 3) (hit u (earlier u))
 pub record LastHeard (ch : Choices) (u : Utterance) : Type 0 where
   pub named : (q : ℕ) → q < first_pair (multiframes_of u - 1) → pair_note_in (zero_read ch u (earlier_hurt u)).report q ≡ 1
   pub given : Summary
-  pub succeeds : (zero_read ch u (earlier_hurt u)).answer ≡ Read given
+  pub succeeds : (zero_read ch u (earlier_hurt u)).answer ≡ Ok given
   pub speech : given.speech ≡ frame_count u.indices
   pub end : given.end ≡ 1
 
@@ -136,11 +134,11 @@ first_as u p = flipped u far_others (but_one u 0 p)
 abbrev pub headed : ℕ → List ℕ
 headed x = x ∷ replicate 167 1
 
-pub written_one : verdict (settings 0 0) (headed 1) (needed (headed 1)) ≡ Written (needed (headed 1))
+pub written_one : verdict (settings 0 0) (headed 1) (needed (headed 1)) ≡ Ok (needed (headed 1))
 unfolding verdict room_answer first_from zero_frame
 written_one = refl
 
-pub written_two : verdict (settings 0 0) (headed 2) (needed (headed 2)) ≡ Written (needed (headed 2))
+pub written_two : verdict (settings 0 0) (headed 2) (needed (headed 2)) ≡ Ok (needed (headed 2))
 unfolding verdict room_answer first_from zero_frame
 written_two = refl
 

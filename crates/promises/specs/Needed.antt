@@ -1,6 +1,6 @@
 -- What happens without a premise of what the yards are told, for the premises tried here; Inverse, CutOff and CutDamaged have their own.
 -- What is claimed stands here, and is proved in proofs/Needed.antt. Assumes nothing.
-use Rattle.std.specs.Prelude.{◌≡◌, List, [], ◌∷◌, ◌++◌, ◌⊎◌, ℕ, ◌+◌, ◌-◌, ◌*◌, ◌<◌, eqb, leb, take, length}
+use Rattle.std.specs.Prelude.{◌≡◌, List, [], ◌∷◌, ◌++◌, ◌⊎◌, ℕ, ◌+◌, ◌-◌, ◌*◌, ◌<◌, eqb, leb, take, length, Ok, Err}
 use Rattle.lists.specs.Tests.{when}
 use Rattle.layout.specs.Layout.{multiframe_frames, multiframe_octets, first_pair, inverse_first, inverse_second}
 use Rattle.choices.specs.declared.Choices.{Choices}
@@ -9,7 +9,6 @@ use Rattle.packet.specs.Packet.{packet_of}
 use Rattle.reader.specs.Reading.{outcome, reading}
 use Rattle.reader.specs.declared.Summary.{Summary}
 use Rattle.refusals.specs.declared.Reading.TheVariants.{Unsettled}
-use Rattle.reader.specs.declared.Answer.TheVariants.{Read, Refused}
 use Rattle.image.specs.Made.{sync_in, packet_in}
 use Rattle.wrong_frames.specs.WrongFrames.{frame_count}
 use Rattle.writer.specs.Utterance.{Utterance, multiframes_of, pairs_of, image_of}
@@ -36,7 +35,7 @@ pub record Misleads (ch : Choices) (u : Utterance) (s : List ℕ) (flips : ℕ) 
   pub packets : (q : ℕ) → q < pairs_of u → packet_in s q ≡ packet_in (image_of u) q
   pub each_header : (k : ℕ) → k < multiframes_of u → header_flips (image_of u) s k ≡ flips
   pub unmet : M.AllButOne u s ⊎ M.OnlyFive u s → ⊥
-  pub succeeds : (reading ch s tables index report).answer ≡ Read (spoken (at11 u))
+  pub succeeds : (reading ch s tables index report).answer ≡ Ok (spoken (at11 u))
   pub misled : M.AsSent u s (spoken (at11 u)) → ⊥
 
 -- four of the six bits in which the two rates differ: so two are left to 11 kHz
@@ -50,7 +49,7 @@ four_off u = flipped u (λ k. four_bits) (packet_of u.indices)
 pub record Lengthens (ch : Choices) (u v : Utterance) (tables : Tables) (index report : List ℕ) : Type 0 where
   pub syncs : (k : ℕ) → k < multiframes_of u → sync_in (image_of v) k ≡ sync_in (image_of u) k
   pub headers : M.AllButOne u (image_of v) ⊎ M.OnlyFive u (image_of v)
-  pub succeeds : (reading ch (image_of v) tables index report).answer ≡ Read (spoken v)
+  pub succeeds : (reading ch (image_of v) tables index report).answer ≡ Ok (spoken v)
   pub misled : M.AsSent u (image_of v) (spoken v) → ⊥
 
 -- ---- TRUSTED NEEDS ITS LIMITS: read without a warning, and not of the image as written
@@ -61,7 +60,7 @@ pub record Mistrusted (ch : Choices) (u : Utterance) (s : List ℕ) (given : Sum
 -- THE HEADER NOTES: no pair is damaged and all pair notes are 0, but headers are mended or lost and so not as written
 pub record Unlooked (ch : Choices) (u : Utterance) : Type 0 where
   pub premises : T.Premises u (lost_one u)
-  pub succeeds : (zero_read ch u (lost_one u)).answer ≡ Read (spoken u)
+  pub succeeds : (zero_read ch u (lost_one u)).answer ≡ Ok (spoken u)
   pub pair_notes_lem : (q : ℕ) → q < pairs_of u → pair_note_in (zero_read ch u (lost_one u)).report q ≡ 0
   pub not_written : T.AsWritten ch u (lost_one u) zero_tables (index_for (multiframes_of u)) (report_for (multiframes_of u)) (spoken u) → ⊥
 
@@ -78,7 +77,7 @@ pub record Unsettles (ch : Choices) (u : Utterance) (s : List ℕ) : Type 0 wher
   pub first : header_flips (image_of u) s 0 ≡ 2
   pub second : header_flips (image_of u) s 1 ≡ 3
   pub none_bad : (q : ℕ) → q < pairs_of u → BadPair u s zero_tables q → ⊥
-  pub refused : zero_read ch u s ≡ outcome (Refused Unsettled) (index_for (multiframes_of u)) (report_for (multiframes_of u))
+  pub refused : zero_read ch u s ≡ outcome (Err Unsettled) (index_for (multiframes_of u)) (report_for (multiframes_of u))
   pub not_named : N.Named ch u s zero_tables (index_for (multiframes_of u)) (report_for (multiframes_of u)) → ⊥
 
 -- ---- NAMES THE DAMAGE WIDER NEEDS THREE: of three multiframes or more the second header has four flips and is read as one of 11 kHz, and no pair is damaged.
@@ -90,7 +89,7 @@ pub record Misnotes (ch : Choices) (u : Utterance) (s : List ℕ) : Type 0 where
   pub four : header_flips (image_of u) s 1 ≡ 4
   pub note_is_10 : header_note_in (zero_read ch u s).report 1 ≡ 10
   pub given : Summary
-  pub succeeds : (zero_read ch u s).answer ≡ Read given
+  pub succeeds : (zero_read ch u s).answer ≡ Ok given
   pub sent : M.AsSent u s given
   pub not_named : N.Named ch u s zero_tables (index_for (multiframes_of u)) (report_for (multiframes_of u)) → ⊥
 
@@ -118,7 +117,7 @@ pub record OneMore (ch : Choices) (u : Utterance) : Type 0 where
   pub named : pair_note_in (zero_read ch u (end_hurt u)).report (last_first u) ≡ 1
   pub others : (q : ℕ) → q < pairs_of u → (q ≡ last_first u → ⊥) → pair_note_in (zero_read ch u (end_hurt u)).report q ≡ 0
   pub given : Summary
-  pub succeeds : (zero_read ch u (end_hurt u)).answer ≡ Read given
+  pub succeeds : (zero_read ch u (end_hurt u)).answer ≡ Ok given
   pub speech : given.speech ≡ frame_count u.indices + 1
 
 -- one flip in each packet of the last multiframe: all of it is named, speech is a multiframe more than was sent, and the end is gone
@@ -129,7 +128,7 @@ pub record NoEnd (ch : Choices) (u : Utterance) : Type 0 where
   pub wider : N.Wider ch u (end_gone u) zero_tables (index_for (multiframes_of u)) (report_for (multiframes_of u))
   pub others : (q : ℕ) → q < last_first u → pair_note_in (zero_read ch u (end_gone u)).report q ≡ 0
   pub given : Summary
-  pub succeeds : (zero_read ch u (end_gone u)).answer ≡ Read given
+  pub succeeds : (zero_read ch u (end_gone u)).answer ≡ Ok given
   pub speech : given.speech ≡ frame_count u.indices + multiframe_frames
   pub end : given.end ≡ 0
 
@@ -144,6 +143,6 @@ pub record Miscounts (ch : Choices) (u : Utterance) (k : ℕ) (s : List ℕ) : T
   pub syncs : (i : ℕ) → i < k → sync_in s i ≡ sync_in (image_of u) i
   pub last_sync : sync_in s k ≡ inverse_first ∷ inverse_second ∷ []
   pub given : Summary
-  pub succeeds : (zero_read ch u s).answer ≡ Read given
+  pub succeeds : (zero_read ch u s).answer ≡ Ok given
   pub count : given.multiframes ≡ k
   pub misled : M.AsSent u s given → ⊥

@@ -2,14 +2,13 @@
 -- it, one after the other, up to the first consistent one. The premises of `names_the_damage` are met with such pairs, of one multiframe (by the old rule, 02, C-20) and of two, and a
 -- pair that is only undamaged is not enough for them. The tables are not zero, and no threshold is negative.
 -- What is claimed stands here, and is proved in proofs/Ruled.antt. Assumes nothing.
-use Rattle.std.specs.Prelude.{◌≡◌, List}
+use Rattle.std.specs.Prelude.{◌≡◌, List, Ok}
 use Prim.Native.Nat.{ℕ, suc, ◌+◌, ◌-◌, ◌≤◌, ◌<◌}
 use Rattle.choices.specs.Choices.{by_one_header}
 use Rattle.choices.specs.declared.Choices.{Choices}
 use Rattle.tables.specs.Tables.{Tables}
 use Rattle.reader.specs.Reading.{reading}
 use Rattle.reader.specs.declared.Summary.{Summary}
-use Rattle.reader.specs.declared.Answer.TheVariants.{Read}
 use Rattle.writer.specs.Utterance.{Utterance, pairs_of, image_of}
 use Rattle.damage.specs.Damage.{Touched}
 use Rattle.demands.specs.Whole.{pair_note_in}
@@ -24,7 +23,7 @@ pub record Chain (ch : Choices) (u : Utterance) (p : ℕ) (tables : Tables) (ind
   pub alone : (q : ℕ) → q < pairs_of u → (q ≡ p → ⊥) → Touched (image_of u) (hit_image u p) q → ⊥
   pub premises : N.Premises ch u (hit_image u p) tables index report
   pub given : Summary
-  pub is_read : (reading ch (hit_image u p) tables index report).answer ≡ Read given
+  pub is_read : (reading ch (hit_image u p) tables index report).answer ≡ Ok given
   -- the note of the damaged pair is 1
   pub hit : pair_note_in (reading ch (hit_image u p) tables index report).report p ≡ 1
   -- that of the pair before it and of each pair behind it is 2: they are bad by the rule alone

@@ -2,14 +2,13 @@
 -- settings, frames, speech and end are those sent. Neither premise of demand 3 is needed." Nor are its limits on headers: it is enough that one
 -- of them has at most five flips, since a header with note 0 is a codeword and two codewords are six bits apart.
 -- Its terms stand here; the theorems, in proofs/Trusted.antt. Assumes nothing.
-use Rattle.std.specs.Prelude.{◌≡◌, List, ℕ, ◌*◌, ◌≤◌, ◌<◌, get_or, replicate}
+use Rattle.std.specs.Prelude.{◌≡◌, List, ℕ, ◌*◌, ◌≤◌, ◌<◌, get_or, replicate, Ok}
 use Rattle.lists.specs.Parts.{over}
 use Rattle.layout.specs.Layout.{index_octets, report_octets}
 use Rattle.choices.specs.declared.Choices.{Choices}
 use Rattle.tables.specs.Tables.{Tables}
 use Rattle.reader.specs.Reading.{Outcome, reading}
 use Rattle.reader.specs.declared.Summary.{Summary}
-use Rattle.reader.specs.declared.Answer.TheVariants.{Read}
 use Rattle.writer.specs.Utterance.{Utterance, multiframes_of, image_of}
 use Rattle.damage.specs.Damage.{DamageUpTo, header_bits, header_flips}
 use Rattle.demands.specs.ReadsBack.{spoken, padded}
@@ -20,7 +19,7 @@ module _ (ch : Choices) (s : List ℕ) (tables : Tables) (index report : List �
   result = reading ch s tables index report
 
   pub record WithoutWarning : Type 0 where
-    pub succeeds : result.answer ≡ Read given
+    pub succeeds : result.answer ≡ Ok given
     pub notes_0 : (i : ℕ) → i < report_octets * given.multiframes → get_or result.report i 0 ≡ 0
 
 -- ---- "is of the image as written: settings, frames, speech and end are those sent"

@@ -1,6 +1,6 @@
 -- The first tests of a reading, as the code makes them. Nothing that 01 says stands here.
 -- Assumes nothing.
-use Rattle.std.specs.Prelude.{ℕ, ◌≡◌}
+use Rattle.std.specs.Prelude.{ℕ, ◌≡◌, Err}
 use Rattle.std.proofs.Math.Path.{ap}
 use Rattle.std.proofs.Common.{◌∙◌}
 use mathlib.Core.List.{List}
@@ -9,17 +9,16 @@ use Rattle.tables.specs.Tables.{Tables, admission}
 use Rattle.tables.specs.declared.Admission.TheVariants as A
 use Rattle.cutting.specs.Cutting.{whole, refused, cutting}
 use Rattle.reader.specs.Reading.{verdict, Outcome, outcome, reading_found, reading}
-use Rattle.reader.specs.declared.Answer.TheVariants.{Refused}
 use Rattle.refusals.specs.declared.Reading.{Reading as Refusal}
 
 -- ---- the first tests of a reading
 module _ (ch : Choices) (octets : List ℕ) (tables : Tables) (index report : List ℕ) where
-  pub not_admitted : (r : Refusal) → admission tables ≡ A.Refused r → outcome (Refused r) index report ≡ reading ch octets tables index report
+  pub not_admitted : (r : Refusal) → admission tables ≡ A.Refused r → outcome (Err r) index report ≡ reading ch octets tables index report
   unfolding reading verdict
   not_admitted r e = rw e
 
   module _ (right : admission tables ≡ A.Admitted) where
-    pub not_cut : (r : Refusal) → (cutting octets).ending ≡ refused r → outcome (Refused r) index report ≡ reading ch octets tables index report
+    pub not_cut : (r : Refusal) → (cutting octets).ending ≡ refused r → outcome (Err r) index report ≡ reading ch octets tables index report
     unfolding reading verdict
     not_cut r e = rw (right, e)
 

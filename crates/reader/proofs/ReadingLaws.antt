@@ -1,6 +1,6 @@
 -- What an accepted input has, and that nothing else is accepted: the refusals read backwards.
 -- Assumes nothing.
-use Rattle.std.specs.Prelude.{ℕ, ◌*◌, List}
+use Rattle.std.specs.Prelude.{ℕ, ◌*◌, List, Ok, Err}
 use native.Mathlib.Omega.{arith}
 use Rattle.std.proofs.Math.Path.{◌≡◌, refl}
 use Rattle.std.proofs.Common.{ap, ◌∙◌}
@@ -25,10 +25,8 @@ use Rattle.report.specs.Report.{report_part}
 use Rattle.reader.specs.Reading.{index_part, summary, end_verdict, verdict, finished, outcome, end_reading, reading, received_frames}
 use Rattle.refusals.specs.declared.Reading.{Reading as Refusal}
 use Rattle.reader.specs.declared.Summary.{Summary}
-use Rattle.reader.specs.declared.Answer.{Answer}
-use Rattle.reader.specs.declared.Answer.TheVariants.{Read, Refused}
-use Rattle.deciding.specs.declared.Verdict.{Verdict}
-use Rattle.deciding.specs.declared.Verdict.TheVariants.{Refuse, Accept}
+use Rattle.reader.specs.Types.{Answer}
+use Rattle.deciding.specs.Types.{Verdict}
 use Rattle.reader.specs.ReadingLaws.{Accepted}
 
 module _ (ch : Choices) (octets : List ℕ) (tables : Tables) (index report : ℕ) where
@@ -36,8 +34,8 @@ module _ (ch : Choices) (octets : List ℕ) (tables : Tables) (index report : �
   places = (cutting octets).places
 
   abbrev AcceptedBy : Verdict → Type 0
-  AcceptedBy (Refuse r) = Unit
-  AcceptedBy (Accept c) = Accepted ch octets tables index report c
+  AcceptedBy (Err r) = Unit
+  AcceptedBy (Ok c) = Accepted ch octets tables index report c
 
   accepted_by : AcceptedBy (verdict ch octets tables index report)
   unfolding verdict
@@ -45,23 +43,23 @@ module _ (ch : Choices) (octets : List ℕ) (tables : Tables) (index report : �
       by (admission tables) refl
     where
       fit : (v : Verdict) → RightTables tables → (cutting octets).ending ≡ whole → WholeSays ch octets tables index report places v → AcceptedBy v
-      fit (Refuse r) t e h = tt
-      fit (Accept c) t e h = record { right_tables = t; uncut = e; some = h.0; fitting = h.1 }
+      fit (Err r) t e h = tt
+      fit (Ok c) t e h = record { right_tables = t; uncut = e; some = h.0; fitting = h.1 }
 
       ended : (e : Ending) → (cutting octets).ending ≡ e → RightTables tables → AcceptedBy (end_verdict ch octets tables index report places e)
       ended (refused r) e t = tt
       ended whole e t = fit (whole_verdict ch octets tables index report places) t e (whole_says ch octets tables index report places)
 
-      by : (a : Admission) → admission tables ≡ a → AcceptedBy (if_admitted a Refuse (end_verdict ch octets tables index report places (cutting octets).ending))
+      by : (a : Admission) → admission tables ≡ a → AcceptedBy (if_admitted a Err (end_verdict ch octets tables index report places (cutting octets).ending))
       by A.Admitted e = ended (cutting octets).ending refl (passes_right tables e)
       by (A.Refused r) e = tt
 
   -- what acceptance says
-  pub accepted : (c : ℕ) → verdict ch octets tables index report ≡ Accept c → Accepted ch octets tables index report c
+  pub accepted : (c : ℕ) → verdict ch octets tables index report ≡ Ok c → Accepted ch octets tables index report c
   accepted c e = rw e at accepted_by
 
   -- and what it takes
-  pub accepting : (c : ℕ) → Accepted ch octets tables index report c → verdict ch octets tables index report ≡ Accept c
+  pub accepting : (c : ℕ) → Accepted ch octets tables index report c → verdict ch octets tables index report ≡ Ok c
   unfolding verdict whole_verdict settled_verdict room_verdict
   accepting c a =
       let f = a.fitting in
@@ -79,29 +77,29 @@ module _ (ch : Choices) (octets : List ℕ) (tables : Tables) (index report : �
 -- ---- the one outcome of each input
 module _ (ch : Choices) (octets : List ℕ) (tables : Tables) (index report : List ℕ) where
   -- a refusal changes no octet of either buffer
-  pub refused_keeps : (r : Refusal) → verdict ch octets tables (length index) (length report) ≡ Refuse r
-      → reading ch octets tables index report ≡ outcome (Refused r) index report
+  pub refused_keeps : (r : Refusal) → verdict ch octets tables (length index) (length report) ≡ Err r
+      → reading ch octets tables index report ≡ outcome (Err r) index report
   unfolding reading
   refused_keeps r e = rw e
 
   -- so an answer that is a refusal says that both buffers are as they came
-  pub refusal_keeps : (r : Refusal) → (reading ch octets tables index report).answer ≡ Refused r
-      → reading ch octets tables index report ≡ outcome (Refused r) index report
+  pub refusal_keeps : (r : Refusal) → (reading ch octets tables index report).answer ≡ Err r
+      → reading ch octets tables index report ≡ outcome (Err r) index report
   unfolding reading
   refusal_keeps r e = by (verdict ch octets tables (length index) (length report)) e
     where
-      never : (s : Summary) → Read s ≡ Refused r → ⊥
+      never : (s : Summary) → Ok s ≡ Err r → ⊥
       never s e = let z : ◌≡◌ {A = ℕ} 0 1 = cc in omega arith
 
-      by : (v : Verdict) → (finished octets tables index report (cutting octets).places v).answer ≡ Refused r
-          → finished octets tables index report (cutting octets).places v ≡ outcome (Refused r) index report
-      by (Refuse x) e = ap (λ (a : Answer). outcome a index report) e
-      by (Accept c) e = absurd (never _ e)
+      by : (v : Verdict) → (finished octets tables index report (cutting octets).places v).answer ≡ Err r
+          → finished octets tables index report (cutting octets).places v ≡ outcome (Err r) index report
+      by (Err x) e = ap (λ (a : Answer). outcome a index report) e
+      by (Ok c) e = absurd (never _ e)
 
   -- success lays both parts over the buffers' fronts
-  pub accepted_lays : (c : ℕ) → verdict ch octets tables (length index) (length report) ≡ Accept c
+  pub accepted_lays : (c : ℕ) → verdict ch octets tables (length index) (length report) ≡ Ok c
       → reading ch octets tables index report
-      ≡ outcome (Read (summary octets (cutting octets).places (received_notes octets (cutting octets).places tables) c))
+      ≡ outcome (Ok (summary octets (cutting octets).places (received_notes octets (cutting octets).places tables) c))
       (over index 0 (index_octets * length (cutting octets).places) (index_part octets (cutting octets).places (received_notes octets (cutting octets).places tables)))
       (over report 0 (report_octets * length (cutting octets).places) (report_part octets (cutting octets).places (received_notes octets (cutting octets).places tables) c))
   unfolding reading
@@ -109,14 +107,14 @@ module _ (ch : Choices) (octets : List ℕ) (tables : Tables) (index report : Li
 
   -- a reading by its parts: 11 and 10, what cutting refuses, else the reading of the multiframes found
   pub in_order : reading ch octets tables index report
-      ≡ if_admitted (admission tables) (λ r. outcome (Refused r) index report) (end_reading ch octets tables index report (cutting octets).places (cutting octets).ending)
+      ≡ if_admitted (admission tables) (λ r. outcome (Err r) index report) (end_reading ch octets tables index report (cutting octets).places (cutting octets).ending)
   unfolding reading verdict
   in_order = by (admission tables) (cutting octets).ending
     where
       by : (a : Admission) (e : Ending)
           → finished octets tables index report (cutting octets).places
-          (if_admitted a Refuse (end_verdict ch octets tables (length index) (length report) (cutting octets).places e))
-          ≡ if_admitted a (λ r. outcome (Refused r) index report) (end_reading ch octets tables index report (cutting octets).places e)
+          (if_admitted a Err (end_verdict ch octets tables (length index) (length report) (cutting octets).places e))
+          ≡ if_admitted a (λ r. outcome (Err r) index report) (end_reading ch octets tables index report (cutting octets).places e)
       by (A.Refused r) e = refl
       by A.Admitted whole = refl
       by A.Admitted (refused r) = refl

@@ -1,6 +1,6 @@
 -- When each refusal is given: the answer is that refusal exactly if its own condition, `Given`, holds and that of none before it in 01's order.
 -- Assumes nothing.
-use Rattle.std.specs.Prelude.{ℕ, ◌*◌, ◌<◌, ◌≡◌, ◌↔◌, List, ltb, eqb}
+use Rattle.std.specs.Prelude.{ℕ, ◌*◌, ◌<◌, ◌≡◌, ◌↔◌, List, ltb, eqb, Some, None, Ok, Err}
 use Rattle.std.proofs.Common.{arith, ap, sym, ◌∙◌, subst}
 use Rattle.std.proofs.Math.Path.{refl}
 use Rattle.std.proofs.Math.ListN.{length}
@@ -22,17 +22,14 @@ use Rattle.header_readings.specs.Readings.{readings}
 use Rattle.settling.specs.Settling.{settling}
 use Rattle.unfit.specs.Unfit.{unfit}
 use Rattle.unfit.specs.Laws.{Unusable, fit_is, unfit_is, fit_says, unfit_says}
-use Rattle.settling.specs.declared.Settlement.{Settlement}
-use Rattle.settling.specs.declared.Settlement.TheVariants as S
+use Rattle.settling.specs.Types.{Settlement}
 use Rattle.carrier.specs.Carrier.{pair_count}
 use Rattle.bad_pairs.specs.BadPairs.{bad_pairs}
 use Rattle.deciding.specs.Deciding.{room_verdict, settled_verdict, whole_verdict, received_notes}
 use Rattle.reader.specs.Reading.{end_verdict, verdict, finished, reading}
 use Rattle.reader.specs.declared.Summary.{Summary}
-use Rattle.reader.specs.declared.Answer.TheVariants.{Read, Refused}
-use Rattle.deciding.specs.declared.Verdict.{Verdict}
-use Rattle.deciding.specs.declared.Verdict.TheVariants.{Refuse, Accept}
-use Rattle.reader.specs.RefusalLaws.{CutUp, Some}
+use Rattle.deciding.specs.Types.{Verdict}
+use Rattle.reader.specs.RefusalLaws.{CutUp, AnyMultiframe}
 use Rattle.reader.specs.RefusalLaws as Stated
 
 module _ (ch : Choices) (octets : List ℕ) (tables : Tables) (index report : ℕ) where
@@ -52,11 +49,11 @@ module _ (ch : Choices) (octets : List ℕ) (tables : Tables) (index report : �
   Given = Stated.Given ch octets tables index report
 
   -- ---- the conditions lead to the refusals
-  pub refuses_tables : (RightSizes tables → ⊥) → verdict ch octets tables index report ≡ Refuse WrongTables
+  pub refuses_tables : (RightSizes tables → ⊥) → verdict ch octets tables index report ≡ Err WrongTables
   unfolding verdict
   refuses_tables h = rw (wrong_sizes tables h)
 
-  pub refuses_negative : (k : ℕ) → RightSizes tables → FirstNegative tables k → verdict ch octets tables index report ≡ Refuse (NegativeThreshold k)
+  pub refuses_negative : (k : ℕ) → RightSizes tables → FirstNegative tables k → verdict ch octets tables index report ≡ Err (NegativeThreshold k)
   unfolding verdict
   refuses_negative k h f = rw (negative_refused tables k h f)
 
@@ -65,63 +62,63 @@ module _ (ch : Choices) (octets : List ℕ) (tables : Tables) (index report : �
   ends t e w = rw (right_passes tables t, w)
 
   -- 12, 13 and 15
-  pub refuses_cut : RightTables tables → (r : Refusal) → (cutting octets).ending ≡ refused r → verdict ch octets tables index report ≡ Refuse r
+  pub refuses_cut : RightTables tables → (r : Refusal) → (cutting octets).ending ≡ refused r → verdict ch octets tables index report ≡ Err r
   refuses_cut t r e = ends t (refused r) e
 
-  pub refuses_empty : CutUp octets tables → length places ≡ 0 → verdict ch octets tables index report ≡ Refuse (Empty (length octets))
+  pub refuses_empty : CutUp octets tables → length places ≡ 0 → verdict ch octets tables index report ≡ Err (Empty (length octets))
   unfolding whole_verdict
   refuses_empty w z = ends w.0 whole ((whole_exactly octets).1 w.1) ∙ rw (eq-eqb (length places) 0 z)
 
-  settled : Some octets tables → (s : Settlement) → settling ch (readings octets places) ≡ s
+  settled : AnyMultiframe octets tables → (s : Settlement) → settling ch (readings octets places) ≡ s
       → verdict ch octets tables index report ≡ settled_verdict (length places) (bad_pairs (received_notes octets places tables)) (pair_count places) index report s
   unfolding whole_verdict
   settled w s e = ends w.0.0 whole ((whole_exactly octets).1 w.0.1) ∙ rw (ne_eqb (length places) 0 w.1, e)
 
-  pub refuses_unsettled : Some octets tables → settling ch (readings octets places) ≡ S.Unsettled → verdict ch octets tables index report ≡ Refuse Unsettled
+  pub refuses_unsettled : AnyMultiframe octets tables → settling ch (readings octets places) ≡ None → verdict ch octets tables index report ≡ Err Unsettled
   unfolding settled_verdict
-  refuses_unsettled w e = settled w S.Unsettled e
+  refuses_unsettled w e = settled w None e
 
-  pub refuses_unfit : Some octets tables → (c : ℕ) → settling ch (readings octets places) ≡ S.Settled c → Unusable c
-      → verdict ch octets tables index report ≡ Refuse Unfit
+  pub refuses_unfit : AnyMultiframe octets tables → (c : ℕ) → settling ch (readings octets places) ≡ Some c → Unusable c
+      → verdict ch octets tables index report ≡ Err Unfit
   unfolding settled_verdict
-  refuses_unfit w c e h = settled w (S.Settled c) e ∙ rw (unfit_is c h)
+  refuses_unfit w c e h = settled w (Some c) e ∙ rw (unfit_is c h)
 
   fits : (f : Fit) → verdict ch octets tables index report
       ≡ room_verdict (length places) (bad_pairs (received_notes octets places tables)) (pair_count places) index report f.1.0
   unfolding settled_verdict
-  fits f = settled f.0 (S.Settled f.1.0) f.1.1.0 ∙ rw (fit_is f.1.0 f.1.1.1)
+  fits f = settled f.0 (Some f.1.0) f.1.1.0 ∙ rw (fit_is f.1.0 f.1.1.1)
 
-  pub refuses_index : Fit → index < index_octets * length places → verdict ch octets tables index report ≡ Refuse (IndexShort (index_octets * length places))
+  pub refuses_index : Fit → index < index_octets * length places → verdict ch octets tables index report ≡ Err (IndexShort (index_octets * length places))
   unfolding room_verdict
   refuses_index f h = fits f ∙ rw (lt-ltb index (index_octets * length places) h)
 
-  pub refuses_report : IndexRoom → report < report_octets * length places → verdict ch octets tables index report ≡ Refuse (ReportShort (report_octets * length places))
+  pub refuses_report : IndexRoom → report < report_octets * length places → verdict ch octets tables index report ≡ Err (ReportShort (report_octets * length places))
   unfolding room_verdict
   refuses_report f h = fits f.0 ∙ rw (le-ltb index (index_octets * length places) f.1, lt-ltb report (report_octets * length places) h)
 
-  pub refuses_all_bad : Room → bad_pairs (received_notes octets places tables) ≡ pair_count places → verdict ch octets tables index report ≡ Refuse AllBad
+  pub refuses_all_bad : Room → bad_pairs (received_notes octets places tables) ≡ pair_count places → verdict ch octets tables index report ≡ Err AllBad
   unfolding room_verdict
   refuses_all_bad f h =
       fits f.0.0
       ∙ rw (le-ltb index (index_octets * length places) f.0.1, le-ltb report (report_octets * length places) f.1, eq-eqb (bad_pairs (received_notes octets places tables)) (pair_count places) h)
 
-  given_refused : (r : Refusal) → Given r → verdict ch octets tables index report ≡ Refuse r
+  given_refused : (r : Refusal) → Given r → verdict ch octets tables index report ≡ Err r
   given_refused WrongTables g = refuses_tables g
   given_refused (NegativeThreshold k) g = refuses_negative k g.0 g.1
   given_refused (Unknown p) g = refuses_cut g.0 (Unknown p) ((ends_exactly octets (refused (Unknown p))).1 g.1)
   given_refused (CutShort p) g = refuses_cut g.0 (CutShort p) ((ends_exactly octets (refused (CutShort p))).1 g.1)
   given_refused (TooMany p) g = refuses_cut g.0 (TooMany p) ((ends_exactly octets (refused (TooMany p))).1 g.1)
-  given_refused (Empty n) g = refuses_empty g.0 g.1 ∙ ap (λ (k : ℕ). Refuse (Empty k)) (sym g.2)
+  given_refused (Empty n) g = refuses_empty g.0 g.1 ∙ ap (λ (k : ℕ). Err (Empty k)) (sym g.2)
   given_refused Unsettled g = refuses_unsettled g.0 g.1
   given_refused Unfit g = refuses_unfit g.0 g.1.0 g.1.1.0 g.1.1.1
-  given_refused (IndexShort n) g = refuses_index g.0 g.1 ∙ ap (λ (k : ℕ). Refuse (IndexShort k)) (sym g.2)
-  given_refused (ReportShort n) g = refuses_report g.0 g.1 ∙ ap (λ (k : ℕ). Refuse (ReportShort k)) (sym g.2)
+  given_refused (IndexShort n) g = refuses_index g.0 g.1 ∙ ap (λ (k : ℕ). Err (IndexShort k)) (sym g.2)
+  given_refused (ReportShort n) g = refuses_report g.0 g.1 ∙ ap (λ (k : ℕ). Err (ReportShort k)) (sym g.2)
   given_refused AllBad g = refuses_all_bad g.0 g.1
 
   -- ---- and the refusals show the conditions
   abbrev Shows : Verdict → Type 0
-  Shows (Refuse r) = Given r
-  Shows (Accept c) = Unit
+  Shows (Err r) = Given r
+  Shows (Ok c) = Unit
 
   shows_room : (f : Fit) → Shows (room_verdict (length places) (bad_pairs (received_notes octets places tables)) (pair_count places) index report f.1.0)
   unfolding room_verdict
@@ -132,11 +129,11 @@ module _ (ch : Choices) (octets : List ℕ) (tables : Tables) (index report : �
       by_test Shows (eqb (bad_pairs (received_notes octets places tables)) (pair_count places))
       (λ b. (((f, i), ltb-false report (report_octets * length places) k), eqb-true (bad_pairs (received_notes octets places tables)) (pair_count places) b)) (λ b. tt)))
 
-  shows_settled : Some octets tables → (s : Settlement) → settling ch (readings octets places) ≡ s
+  shows_settled : AnyMultiframe octets tables → (s : Settlement) → settling ch (readings octets places) ≡ s
       → Shows (settled_verdict (length places) (bad_pairs (received_notes octets places tables)) (pair_count places) index report s)
   unfolding settled_verdict
-  shows_settled w S.Unsettled e = (w, e)
-  shows_settled w (S.Settled c) e =
+  shows_settled w None e = (w, e)
+  shows_settled w (Some c) e =
       by_test Shows (unfit c) (λ h. (w, (c, (e, unfit_says c h)))) (λ h. shows_room (w, (c, (e, fit_says c h))))
 
   shows_whole : CutUp octets tables → Shows (whole_verdict ch octets tables index report places)
@@ -166,17 +163,17 @@ module _ (ch : Choices) (octets : List ℕ) (tables : Tables) (index report : �
   unfolding verdict
   shows = by (admission tables) (shown tables)
     where
-      by : (a : Admission) → Shown tables a → Shows (if_admitted a Refuse (end_verdict ch octets tables index report places (cutting octets).ending))
+      by : (a : Admission) → Shown tables a → Shows (if_admitted a Err (end_verdict ch octets tables index report places (cutting octets).ending))
       by A.Admitted t = shows_end t (cutting octets).ending refl
       -- what turns the tables away is 11 or 10
       by (A.Refused r) h = by_shown tables Given (λ n. n) (λ k n. n) r h
 
-  pub decided_exactly : (r : Refusal) → (verdict ch octets tables index report ≡ Refuse r) ↔ Given r
+  pub decided_exactly : (r : Refusal) → (verdict ch octets tables index report ≡ Err r) ↔ Given r
   decided_exactly r = (λ e. subst Shows e shows, given_refused r)
 
 -- ---- of the answer: each refusal exactly where it is given
 pub refused_exactly : (ch : Choices) (octets : List ℕ) (tables : Tables) (index report : List ℕ) (r : Refusal)
-    → ((reading ch octets tables index report).answer ≡ Refused r) ↔ Given ch octets tables (length index) (length report) r
+    → ((reading ch octets tables index report).answer ≡ Err r) ↔ Given ch octets tables (length index) (length report) r
 unfolding reading
 refused_exactly ch octets tables index report r =
     let v = verdict ch octets tables (length index) (length report) in (
@@ -184,9 +181,9 @@ refused_exactly ch octets tables index report r =
       λ g. ap (λ (x : Verdict). (finished octets tables index report (cutting octets).places x).answer) ((decided_exactly ch octets tables (length index) (length report) r).1 g),
     )
   where
-    never : (s : Summary) → Read s ≡ Refused r → ⊥
+    never : (s : Summary) → Ok s ≡ Err r → ⊥
     never s e = let z : ◌≡◌ {A = ℕ} 0 1 = cc in omega arith
 
-    by : (v : Verdict) → (finished octets tables index report (cutting octets).places v).answer ≡ Refused r → v ≡ Refuse r
-    by (Refuse x) e = cc
-    by (Accept c) e = absurd (never _ e)
+    by : (v : Verdict) → (finished octets tables index report (cutting octets).places v).answer ≡ Err r → v ≡ Err r
+    by (Err x) e = cc
+    by (Ok c) e = absurd (never _ e)

@@ -1,5 +1,6 @@
 -- The last steps of the code's proofs, over lists and numbers alone: what each function's calls and branches give, put together.
 -- Assumes nothing.
+use Rattle.std.specs.Prelude.{Ok, Err}
 use Prim.Native.Nat.{ℕ, zero, suc, ◌+◌, ◌-◌, ◌*◌, ◌≤◌, ◌<◌}
 use mathlib.Core.Path.{◌≡◌, refl, ap, ap₂, ◌∙◌}
 use mathlib.Core.List.{List, ◌++◌}
@@ -20,7 +21,6 @@ use Rattle.notes.specs.Laws.{length_all, length_notes}
 use Rattle.bad_pairs.specs.BadPairs.{bad_pairs}
 use Rattle.bad_pairs.specs.Laws.{Good, some_good, few_bad}
 use Rattle.cutting.specs.Cutting.{Ending, whole, refused, Cutting, answered_by, answered, laid}
-use Rattle.cutting.specs.declared.Cut.TheVariants as C
 use Rattle.replacing.specs.Replacing.{pairs_octets, replaced}
 use Rattle.replacing.proofs.Laws.{same_replaced}
 use Rattle.replacing.specs.Speech.{last_nonzero, speech_of, end_of}
@@ -30,10 +30,8 @@ use Rattle.reader.specs.Reading.{answer_number, answer_values, index_part, summa
 use Rattle.deciding.specs.Laws.{whole_accepted}
 use Rattle.reader.proofs.ReadingLaws.{length_index}
 use Rattle.reader.specs.declared.Summary.{Summary}
-use Rattle.reader.specs.declared.Answer.TheVariants.{Read, Refused}
 use Rattle.refusals.specs.declared.Reading.{Reading as Refusal}
-use Rattle.deciding.specs.declared.Verdict.{Verdict}
-use Rattle.deciding.specs.declared.Verdict.TheVariants.{Refuse, Accept}
+use Rattle.deciding.specs.Types.{Verdict}
 
 -- ---- the index octets, taken apart and then replaced
 module _ (octets places ns l m n : List ℕ) (size : length ns ≡ pair_count places) (room : index_octets * length places ≤ length l)
@@ -96,7 +94,7 @@ pub record Ready (octets : List ℕ) (tables : Tables) (index report : ℕ) (pla
   pub report_room : report_octets * length places ≤ report
 
 pub ready : (ch : Choices) (octets : List ℕ) (tables : Tables) (index report : ℕ) (places : List ℕ) (c : ℕ)
-    → whole_verdict ch octets tables index report places ≡ Accept c → Ready octets tables index report places
+    → whole_verdict ch octets tables index report places ≡ Ok c → Ready octets tables index report places
 ready ch octets tables index report places c e =
     let h = whole_accepted ch octets tables index report places c e in
     let ns = received_notes octets places tables in
@@ -116,26 +114,26 @@ ready ch octets tables index report places c e =
     fewer a b h n = omega arith
 
 module _ (octets : List ℕ) (tables : Tables) (index report places : List ℕ) (v : Verdict) where
-  pub finished_refused : (r : Refusal) → v ≡ Refuse r → outcome (Refused r) index report ≡ finished octets tables index report places v
+  pub finished_refused : (r : Refusal) → v ≡ Err r → outcome (Err r) index report ≡ finished octets tables index report places v
   finished_refused r e = rw e
 
-  pub finished_read : (c : ℕ) (s : Summary) (i r ns : List ℕ) → v ≡ Accept c → ns ≡ received_notes octets places tables → s ≡ summary octets places ns c
+  pub finished_read : (c : ℕ) (s : Summary) (i r ns : List ℕ) → v ≡ Ok c → ns ≡ received_notes octets places tables → s ≡ summary octets places ns c
       → i ≡ over index 0 (index_octets * length places) (index_part octets places ns) → r ≡ over report 0 (report_octets * length places) (report_part octets places ns c)
-      → outcome (Read s) i r ≡ finished octets tables index report places v
+      → outcome (Ok s) i r ≡ finished octets tables index report places v
   finished_read c s i r ns ev en es ei er = rw (ev, es, ei, er, en)
 
 -- ---- what cutting answered
-pub cut_whole : (w : Cutting) (n : ℕ) → answered w ≡ C.Whole n → (w.ending ≡ whole) × (n ≡ length w.places)
+pub cut_whole : (w : Cutting) (n : ℕ) → answered w ≡ Ok n → (w.ending ≡ whole) × (n ≡ length w.places)
 cut_whole w n e = by w.ending refl e
   where
-    by : (x : Ending) → w.ending ≡ x → answered_by (length w.places) x ≡ C.Whole n → (w.ending ≡ whole) × (n ≡ length w.places)
+    by : (x : Ending) → w.ending ≡ x → answered_by (length w.places) x ≡ Ok n → (w.ending ≡ whole) × (n ≡ length w.places)
     by whole p q = (p, cc)
     by (refused r) p q = let z : ◌≡◌ {A = ℕ} 0 1 = cc in absurd (omega arith)
 
-pub cut_refused : (w : Cutting) (r : Refusal) → answered w ≡ C.Refused r → w.ending ≡ refused r
+pub cut_refused : (w : Cutting) (r : Refusal) → answered w ≡ Err r → w.ending ≡ refused r
 cut_refused w r e = by w.ending refl e
   where
-    by : (x : Ending) → w.ending ≡ x → answered_by (length w.places) x ≡ C.Refused r → w.ending ≡ refused r
+    by : (x : Ending) → w.ending ≡ x → answered_by (length w.places) x ≡ Err r → w.ending ≡ refused r
     by whole a q = let z : ◌≡◌ {A = ℕ} 0 1 = cc in absurd (omega arith)
     by (refused x) a q = a ∙ cc
 

@@ -1,3 +1,4 @@
+pub mod Types
 pub mod Reading
 pub mod ReadingLaws
 pub mod RefusalLaws

@@ -1,7 +1,7 @@
 -- One definition of what a reading answers and leaves in both buffers, for every input (01, "Reading"; 02, C-12 and C-20). ch is what the caller chose.
 -- Frames, pairs and multiframes count from 0.
 -- Assumes nothing.
-use Rattle.std.specs.Prelude.{ℕ, ◌*◌, List, [], ◌∷◌, length}
+use Rattle.std.specs.Prelude.{ℕ, ◌*◌, List, [], ◌∷◌, length, Ok, Err}
 use Rattle.lists.specs.Parts.{over}
 use Rattle.layout.specs.Layout.{index_octets, report_octets}
 use Rattle.choices.specs.declared.Choices.{Choices}
@@ -17,19 +17,17 @@ use Rattle.replacing.specs.Speech.{speech_of, end_of}
 use Rattle.reader.specs.declared.Summary.{Summary}
 use Rattle.report.specs.Report.{report_part}
 use Rattle.deciding.specs.Deciding.{received_notes, whole_verdict}
-use Rattle.deciding.specs.declared.Verdict.{Verdict}
-use Rattle.deciding.specs.declared.Verdict.TheVariants.{Refuse, Accept}
-use Rattle.reader.specs.declared.Answer.{Answer}
-use Rattle.reader.specs.declared.Answer.TheVariants.{Read, Refused}
+use Rattle.deciding.specs.Types.{Verdict}
+use Rattle.reader.specs.Types.{Answer}
 
 -- ---- 01's number and values of each answer: success gives settings, m, speech, the number of bad pairs and end; a refusal gives its place
 abbrev pub answer_number : Answer → ℕ
-answer_number (Read s) = success
-answer_number (Refused r) = reading_number r
+answer_number (Ok s) = success
+answer_number (Err r) = reading_number r
 
 abbrev pub answer_values : Answer → List ℕ
-answer_values (Read s) = s.settings.rate ∷ s.settings.kind ∷ s.multiframes ∷ s.speech ∷ s.bad ∷ s.end ∷ []
-answer_values (Refused r) = reading_place r ∷ []
+answer_values (Ok s) = s.settings.rate ∷ s.settings.kind ∷ s.multiframes ∷ s.speech ∷ s.bad ∷ s.end ∷ []
+answer_values (Err r) = reading_place r ∷ []
 
 -- ---- what a reading gives, of multiframes at places of the octets; ns are the notes of all pairs
 
@@ -57,11 +55,11 @@ module _ (ch : Choices) (octets : List ℕ) (tables : Tables) (index report : �
   -- 12, 13 and 15, as cutting meets them
   abbrev pub end_verdict : List ℕ → Ending → Verdict
   end_verdict places whole = whole_verdict ch octets tables index report places
-  end_verdict places (refused r) = Refuse r
+  end_verdict places (refused r) = Err r
 
   -- 11 and 10: the tables are turned away (`admission`). They come first
   unfoldable pub verdict : Verdict
-  verdict = if_admitted (admission tables) Refuse (end_verdict (cutting octets).places (cutting octets).ending)
+  verdict = if_admitted (admission tables) Err (end_verdict (cutting octets).places (cutting octets).ending)
 
 -- ---- the answer and both buffers
 pub record Outcome : Type 0 where
@@ -75,9 +73,9 @@ outcome a i r = record { answer = a; index = i; report = r }
 module _ (octets : List ℕ) (tables : Tables) (index report : List ℕ) where
   -- a refusal changes no octet; success lays both parts over the buffers' fronts, and octets beyond stay
   abbrev pub finished : List ℕ → Verdict → Outcome
-  finished places (Refuse r) = outcome (Refused r) index report
-  finished places (Accept c) =
-      outcome (Read (summary octets places (received_notes octets places tables) c))
+  finished places (Err r) = outcome (Err r) index report
+  finished places (Ok c) =
+      outcome (Ok (summary octets places (received_notes octets places tables) c))
       (over index 0 (index_octets * length places) (index_part octets places (received_notes octets places tables)))
       (over report 0 (report_octets * length places) (report_part octets places (received_notes octets places tables) c))
 
@@ -90,7 +88,7 @@ module _ (ch : Choices) (octets : List ℕ) (tables : Tables) (index report : Li
   -- what cutting refuses, else the reading of what it found
   abbrev pub end_reading : List ℕ → Ending → Outcome
   end_reading places whole = reading_found places
-  end_reading places (refused r) = outcome (Refused r) index report
+  end_reading places (refused r) = outcome (Err r) index report
 
   -- decided first, then finished; `in_order` says it by its parts: 11 and 10, what cutting refuses, else `reading_found`
   unfoldable pub reading : Outcome

@@ -2,7 +2,7 @@
 -- 01's order, 10 behind 11 (02, C-12). `Given` has a line for each of 10 to 20, in 01's words, of 10 in 02's; of 12, 13 and 15 it speaks by where cutting gets to and what stands there,
 -- not by cutting's answer.
 -- Assumes nothing.
-use Rattle.std.specs.Prelude.{ℕ, ◌*◌, ◌≤◌, ◌<◌, ◌≡◌, List}
+use Rattle.std.specs.Prelude.{ℕ, ◌*◌, ◌≤◌, ◌<◌, ◌≡◌, List, Some, None}
 use Rattle.std.proofs.Math.ListN.{length}
 use Rattle.layout.specs.Layout.{index_octets, report_octets}
 use Rattle.choices.specs.declared.Choices.{Choices}
@@ -15,7 +15,6 @@ use Rattle.cutting.specs.declared.Piece.TheVariants as P
 use Rattle.header_readings.specs.Readings.{readings}
 use Rattle.settling.specs.Settling.{settling}
 use Rattle.unfit.specs.Laws.{Usable, Unusable}
-use Rattle.settling.specs.declared.Settlement.TheVariants as S
 use Rattle.carrier.specs.Carrier.{pair_count}
 use Rattle.bad_pairs.specs.BadPairs.{bad_pairs}
 use Rattle.deciding.specs.Deciding.{received_notes}
@@ -26,8 +25,8 @@ abbrev pub CutUp : List ℕ → Tables → Type 0
 CutUp octets tables = RightTables tables × Reached octets (length octets) (length (cutting octets).places)
 
 -- nor 14
-abbrev pub Some : List ℕ → Tables → Type 0
-Some octets tables = CutUp octets tables × (length (cutting octets).places ≡ 0 → ⊥)
+abbrev pub AnyMultiframe : List ℕ → Tables → Type 0
+AnyMultiframe octets tables = CutUp octets tables × (length (cutting octets).places ≡ 0 → ⊥)
 
 module _ (ch : Choices) (octets : List ℕ) (tables : Tables) (index report : ℕ) where
   abbrev places : List ℕ
@@ -35,7 +34,7 @@ module _ (ch : Choices) (octets : List ℕ) (tables : Tables) (index report : �
 
   -- nor 16 and 17: the settings are settled, and can be used
   abbrev pub Fit : Type 0
-  Fit = Some octets tables × ((c : ℕ) × ((settling ch (readings octets places) ≡ S.Settled c) × Usable c))
+  Fit = AnyMultiframe octets tables × ((c : ℕ) × ((settling ch (readings octets places) ≡ Some c) × Usable c))
 
   -- nor 18
   abbrev pub IndexRoom : Type 0
@@ -61,9 +60,9 @@ module _ (ch : Choices) (octets : List ℕ) (tables : Tables) (index report : �
   -- 14: no multiframe
   Given (Empty n) = CutUp octets tables × (length places ≡ 0) × (n ≡ length octets)
   -- 16: settings not settled
-  Given Unsettled = Some octets tables × (settling ch (readings octets places) ≡ S.Unsettled)
+  Given Unsettled = AnyMultiframe octets tables × (settling ch (readings octets places) ≡ None)
   -- 17: settled rate is 2 or any EXP is 1
-  Given Unfit = Some octets tables × ((c : ℕ) × ((settling ch (readings octets places) ≡ S.Settled c) × Unusable c))
+  Given Unfit = AnyMultiframe octets tables × ((c : ℕ) × ((settling ch (readings octets places) ≡ Some c) × Unusable c))
   -- 18: index buffer under 168m
   Given (IndexShort n) = Fit × (index < index_octets * length places) × (n ≡ index_octets * length places)
   -- 19: report buffer under 13m

@@ -15,8 +15,6 @@ ghost use Rattle.reader.specs.Reading.{answer_number, answer_values, index_part,
 ghost use Rattle.reader.specs.Reading.{outcome, reading_found, reading};
 
 use choices::Choices;
-use cutting::Cut;
-use deciding::Verdict;
 use layout::{MultiframeLayout, UtteranceLayout};
 use message::Fields;
 use refusals::Reading;
@@ -31,12 +29,6 @@ pub struct Summary {
     pub speech: usize,
     pub bad: usize,
     pub end: u8,
-}
-
-#[derive(Clone, Copy)]
-pub enum Answer {
-    Read(Summary),
-    Refused(Reading),
 }
 
 // Places and headers for as many multiframes, and notes for as many pairs, as an utterance may have: the arrays of a reading.
@@ -88,7 +80,7 @@ fn read_found(
     thresholds: &[i32],
     index: &mut [u8],
     report: &mut [u8],
-) -> Answer
+) -> Result<Summary, Reading>
     requires placed { Placed octets.now places.now × (length places.now ≤ most_multiframes) }
     requires right_sizes { RightSizes (tables_of codebook.now thresholds.now) }
     ensures { outcome result index.new report.new
@@ -109,8 +101,8 @@ fn read_found(
         &mut headers[..m],
         &mut notes[..pairs],
     ) {
-        Verdict::Refuse(r) => Answer::Refused(r),
-        Verdict::Accept { common } => Answer::Read(write(
+        Err(r) => Err(r),
+        Ok(common) => Ok(write(
             octets,
             places,
             &headers[..m],
@@ -133,7 +125,7 @@ pub fn read(
     thresholds: &[i32],
     index: &mut [u8],
     report: &mut [u8],
-) -> Answer
+) -> Result<Summary, Reading>
     ensures all { outcome result index.new report.new
         ≡ reading choices octets.now (tables_of codebook.now thresholds.now) index.old report.old }
     ensures number { answer_number result
@@ -142,11 +134,11 @@ pub fn read(
         ≡ answer_values (reading choices octets.now (tables_of codebook.now thresholds.now) index.old report.old).answer }
 {
     if let Admission::Refused(r) = tables::admit(codebook, thresholds) {
-        return Answer::Refused(r);
+        return Err(r);
     }
     let mut places = [0usize; MULTIFRAMES];
     match cutting::cut_into(octets, &mut places) {
-        Cut::Whole { count } => read_found(
+        Ok(count) => read_found(
             octets,
             &places[..count],
             choices,
@@ -155,6 +147,6 @@ pub fn read(
             index,
             report,
         ),
-        Cut::Refused(r) => Answer::Refused(r),
+        Err(r) => Err(r),
     }
 }

@@ -10,7 +10,7 @@ ghost use Rattle.entries.specs.Settle.{settle_numbers, beginning_numbers, settle
 
 use hunting::Counted;
 use reader::Summary;
-use refusals::Refusal;
+use refusals::{Hunting, Reading, Refusal};
 use until_settled::Beginning;
 
 // put_summary puts the six numbers of a success, in 01's order. It asks for their room, which dsr_read has tested.
@@ -51,16 +51,16 @@ pub fn put_beginning(b: Beginning, answer: &mut [u64])
 
 // tell_reading puts a reading's six numbers into answer, and place stays; or the refusal's place into place, and answer stays. The buffers are
 // the reader's, so none is told of here. It asks for the numbers' room, which dsr_read has tested.
-pub fn tell_reading(a: reader::Answer, answer: &mut [u64], place: &mut u64) -> u32
+pub fn tell_reading(a: Result<Summary, Reading>, answer: &mut [u64], place: &mut u64) -> u32
     requires { answer_numbers ≤ length answer.old }
     ensures { returned result [] [] answer.new place.new ≡ answered answer_numbers answer.old place.old [] [] (told_of a) }
 {
     match a {
-        reader::Answer::Read(s) => {
+        Ok(s) => {
             put_summary(s, answer);
             refusals::SUCCESS
         }
-        reader::Answer::Refused(r) => {
+        Err(r) => {
             *place = r.place() as u64;
             r.number()
         }
@@ -68,16 +68,16 @@ pub fn tell_reading(a: reader::Answer, answer: &mut [u64], place: &mut u64) -> u
 }
 
 // tell_beginning does the same for settings before the end, of three numbers.
-pub fn tell_beginning(a: until_settled::Answer, answer: &mut [u64], place: &mut u64) -> u32
+pub fn tell_beginning(a: Result<Beginning, Reading>, answer: &mut [u64], place: &mut u64) -> u32
     requires { settle_numbers ≤ length answer.old }
     ensures { returned result [] [] answer.new place.new ≡ answered settle_numbers answer.old place.old [] [] (settle_told a) }
 {
     match a {
-        until_settled::Answer::Read(b) => {
+        Ok(b) => {
             put_beginning(b, answer);
             refusals::SUCCESS
         }
-        until_settled::Answer::Refused(refusal) => {
+        Err(refusal) => {
             *place = refusal.place() as u64;
             refusal.number()
         }
@@ -85,16 +85,16 @@ pub fn tell_beginning(a: until_settled::Answer, answer: &mut [u64], place: &mut 
 }
 
 // tell_hunting_reading does the same for a hunting reading, of eight numbers. Its places are those of bits.
-pub fn tell_hunting_reading(a: hunting::Answer, answer: &mut [u64], place: &mut u64) -> u32
+pub fn tell_hunting_reading(a: Result<Counted, Hunting>, answer: &mut [u64], place: &mut u64) -> u32
     requires { counted_numbers ≤ length answer.old }
     ensures { returned result [] [] answer.new place.new ≡ answered counted_numbers answer.old place.old [] [] (bits_told a) }
 {
     match a {
-        hunting::Answer::Read(c) => {
+        Ok(c) => {
             put_counted(c, answer);
             refusals::SUCCESS
         }
-        hunting::Answer::Refused(q) => {
+        Err(q) => {
             *place = q.place() as u64;
             q.number()
         }

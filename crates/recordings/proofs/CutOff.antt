@@ -1,6 +1,6 @@
 -- What follows from specs/CutOff.antt: an image as it was written, cut inside a multiframe, before the first or anywhere; and examples.
 -- Assumes nothing.
-use Rattle.std.specs.Prelude.{◌≡◌, refl, ℕ, ◌+◌, ◌*◌, ◌/◌, ◌%◌, ◌<◌, length, take}
+use Rattle.std.specs.Prelude.{◌≡◌, refl, ℕ, ◌+◌, ◌*◌, ◌/◌, ◌%◌, ◌<◌, length, take, Ok, Err}
 use Rattle.std.proofs.Common.{sym, ◌∙◌, inr, arith}
 use Rattle.std.proofs.Math.Path.{ap}
 use mathlib.Core.List.{List, []}
@@ -12,7 +12,6 @@ use Rattle.tables.specs.Tables.{Tables, RightTables, zero_tables}
 use Rattle.settings.specs.Settings.{settings}
 use Rattle.reader.specs.Reading.{Outcome, reading}
 use Rattle.reader.specs.declared.Summary.{Summary}
-use Rattle.reader.specs.declared.Answer.TheVariants.{Read, Refused}
 use Rattle.image.proofs.Laws.{length_image}
 use Rattle.writer.specs.Utterance.{Utterance, multiframes_of, image_of}
 use Rattle.damage.proofs.Damages.{unharmed}
@@ -36,7 +35,7 @@ nothing_refused ch u tables index report sized = nothing_14 ch tables index repo
 
 -- ---- CUT OFF ANYWHERE: whatever is read of fewer octets than the image's is whole multiframes, with end 0
 pub cut_anywhere : (ch : Choices) (u : Utterance) (n : ℕ) → n < length (image_of u) → (tables : Tables) (index report : List ℕ) (given : Summary)
-    → (reading ch (take n (image_of u)) tables index report).answer ≡ Read given → (n ≡ multiframe_octets * given.multiframes) × (given.end ≡ 0)
+    → (reading ch (take n (image_of u)) tables index report).answer ≡ Ok given → (n ≡ multiframe_octets * given.multiframes) × (given.end ≡ 0)
 cut_anywhere ch u n short tables index report given e =
     elim (ℕ_discrete (n % multiframe_octets) 0) [
       | yes z ↦
@@ -47,7 +46,7 @@ cut_anywhere ch u n short tables index report given e =
       | no z ↦
           let w : multiframe_octets * (n / multiframe_octets) + n % multiframe_octets ≡ n = omega arith in
           let r = cut_inside ch u (n / multiframe_octets) (n % multiframe_octets) less (omega arith) (omega arith) tables index report sized in
-          let x : Refused r.refusal ≡ Read given =
+          let x : Err r.refusal ≡ Ok given =
           sym (ap (λ (o : Outcome). o.answer) r.is_refused) ∙ ap (λ (i : ℕ). (reading ch (take i (image_of u)) tables index report).answer) w ∙ e in
           let y : ◌≡◌ {A = ℕ} 0 1 = cc in
           absurd (omega arith)
@@ -64,7 +63,7 @@ cut_anywhere ch u n short tables index report given e =
 -- ---- the premises are met
 -- of 24 frames of ones the first multiframe alone is read where the caller asks for the old rule: rate 0, one multiframe, 24 frames of speech, end 0
 pub first_of_24 : (reading by_one_header (take multiframe_octets (image_of ones24)) zero_tables (index_for 1) (report_for 1)).answer
-    ≡ Read (record { settings = settings 0 0; multiframes = 1; speech = 24; bad = 0; end = 0 })
+    ≡ Ok (record { settings = settings 0 0; multiframes = 1; speech = 24; bad = 0; end = 0 })
 first_of_24 = ap (λ (o : Outcome). o.answer) (cut_off_reads by_one_header ones24 1 (omega arith) (omega arith) (inr refl) zero_tables (index_for 1) (report_for 1) (lent_zeros 1))
 
 -- 01's example: 143 octets that open with a sync are 13

@@ -1,6 +1,6 @@
 -- CUT OFF AND DAMAGED, examples: the premises of specs/CutDamaged.antt are met, and the note is needed, since a damaged last pair can hide a cut.
 -- Assumes nothing.
-use Rattle.std.specs.Prelude.{◌≡◌, refl, Bool, false, ℕ, ◌-◌, ◌*◌, ◌≤◌, ◌<◌, length, take, drop, get_or}
+use Rattle.std.specs.Prelude.{◌≡◌, refl, Bool, false, ℕ, ◌-◌, ◌*◌, ◌≤◌, ◌<◌, length, take, drop, get_or, Ok}
 use Rattle.std.proofs.Common.{sym, ◌∙◌, inr, inl, arith}
 use Rattle.std.proofs.Math.Path.{ap}
 use Rattle.std.proofs.Math.Bool.{true, not}
@@ -24,7 +24,6 @@ use Rattle.deciding.specs.Deciding.{received_notes}
 use Rattle.report.specs.Report.{report_part}
 use Rattle.reader.specs.Reading.{index_part, summary, Outcome, outcome, received_frames}
 use Rattle.reader.specs.declared.Summary.{Summary}
-use Rattle.reader.specs.declared.Answer.TheVariants.{Read}
 use Rattle.image.specs.Made.{packet_in}
 use Rattle.writer.specs.Utterance.{Utterance, multiframes_of, pairs_of}
 use Rattle.damage.specs.Damage.{Fate, whole, hit, fate, not_touched}
@@ -92,7 +91,7 @@ module _ (u : Utterance) (two : 2 ≤ multiframes_of u) (p : ℕ) (inside : p < 
     one_good = record { pair = g; within = omega (arith, notes_12); good = else_zero g other differs }
 
     outcome_is : rest_read u p
-        ≡ outcome (Read (rest_given u p)) (over (index_for 1) 0 (index_octets * length (row_of 1)) (index_part (rest u p) (row_of 1) (rest_notes u p)))
+        ≡ outcome (Ok (rest_given u p)) (over (index_for 1) 0 (index_octets * length (row_of 1)) (index_part (rest u p) (row_of 1) (rest_notes u p)))
         (over (report_for 1) 0 (report_octets * length (row_of 1)) (report_part (rest u p) (row_of 1) (rest_notes u p) (sent_common u)))
     outcome_is =
         F.read_first u s (hits u p) 1 (omega arith) zero_tables by_one_header (index_for 1) (report_for 1) (omega arith) (inr (refl, clean_header u p 0 (omega arith))) one_good (lent_zeros 1)

@@ -1,7 +1,7 @@
 -- ANY NUMBER OF INVERSE SYNCS before, between and behind the multiframes of an image changes nothing; the premises of specs/Inverse.antt are met, and they
 -- are needed.
 -- Assumes nothing.
-use Rattle.std.specs.Prelude.{◌≡◌, refl, take, get_or}
+use Rattle.std.specs.Prelude.{◌≡◌, refl, take, get_or, Err}
 use Rattle.std.proofs.Math.Path.{sym, ap}
 use Rattle.std.proofs.Common.{ap₂, ◌∙◌, subst, length-append, length-drop, drop-drop, get_or-take}
 use mathlib.Core.List.{List, [], ◌∷◌, ◌++◌, append-nil}
@@ -19,8 +19,8 @@ use Rattle.cutting.specs.Laws.{Chunk, multiframe, inverse, octets_of, places_of,
 use Rattle.cutting.proofs.Laws.{one_too_many, lone_sync, every_length, cut_chunks}
 use Rattle.refusals.specs.Refusals.{reading_place}
 use Rattle.refusals.specs.declared.Reading.TheVariants as RR
+use Rattle.reader.specs.Types.{Answer}
 use Rattle.reader.specs.Reading.{Outcome, reading}
-use Rattle.reader.specs.declared.Answer.TheVariants.{Refused}
 use Rattle.image.specs.Made.{sync_in}
 use Rattle.image.proofs.Laws.{length_image, image_sync}
 use Rattle.writer.proofs.Laws.{few_multiframes}
@@ -211,7 +211,7 @@ apart_24 ch = record {
 -- outcomes that are refused at different places are different
 moved : (o₁ o₂ : Outcome) (index report : List ℕ) (n p q : ℕ) → Refuses o₁ index report n p → Refuses o₂ index report n q → (p ≡ q → ⊥) → o₁ ≡ o₂ → ⊥
 moved o₁ o₂ index report n p q x y d e =
-    let r : Refused x.refusal ≡ Refused y.refusal = ap (λ (o : Outcome). o.answer) (sym x.is_refused ∙ e ∙ y.is_refused) in
+    let r : ◌≡◌ {A = Answer} (Err x.refusal) (Err y.refusal) = ap (λ (o : Outcome). o.answer) (sym x.is_refused ∙ e ∙ y.is_refused) in
     let f : x.refusal ≡ y.refusal = cc in
     d (sym x.place_is ∙ ap reading_place f ∙ y.place_is)
 

@@ -1,7 +1,7 @@
 -- Whole multiframes and inverse syncs in any order, as cutting's laws call them chunks: what is cut behind them, that octets which are cut to
 -- their end are chunks, and how a reading refuses what cutting refuses.
 -- Assumes nothing.
-use Rattle.std.specs.Prelude.{◌≡◌, refl, List, [], ◌∷◌, ◌++◌, ℕ, zero, suc, ◌+◌, ◌*◌, ◌≤◌, ◌<◌, length, take, drop, get_or}
+use Rattle.std.specs.Prelude.{◌≡◌, refl, List, [], ◌∷◌, ◌++◌, ℕ, zero, suc, ◌+◌, ◌*◌, ◌≤◌, ◌<◌, length, take, drop, get_or, Err}
 use Rattle.std.proofs.Common.{sym, ap₂, ◌∙◌, append_assoc, arith, length-append, length-drop, take-append-drop, length-take-le, drop_at, get_or-take, ext_get_or}
 use Rattle.std.proofs.Math.Path.{ap}
 use Rattle.std.proofs.Math.ListN.{get_or-append}
@@ -20,7 +20,6 @@ use Rattle.reader.proofs.ReadingLaws.{refused_keeps}
 use Rattle.refusals.specs.Refusals.{reading_number, reading_place}
 use Rattle.refusals.specs.declared.Reading.{Reading as Refusal}
 use Rattle.refusals.specs.declared.Reading.TheVariants as RR
-use Rattle.reader.specs.declared.Answer.TheVariants.{Refused}
 
 -- ---- chunks
 -- the octets of each multiframe, in order
@@ -145,7 +144,7 @@ chunked s e = chunked_from (length s) s 0 0 (omega arith) e
 -- refused with 01's number and place, and both buffers as they came
 pub record Refuses (o : Outcome) (index report : List ℕ) (number place : ℕ) : Type 0 where
   pub refusal : Refusal
-  pub is_refused : o ≡ outcome (Refused refusal) index report
+  pub is_refused : o ≡ outcome (Err refusal) index report
   pub number_is : reading_number refusal ≡ number
   pub place_is : reading_place refusal ≡ place
 

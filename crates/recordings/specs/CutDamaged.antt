@@ -1,7 +1,7 @@
 -- CUT OFF AND DAMAGED. The first k multiframes of a damaged image, fewer than all: if they are read, and the last pair that came has note 0, `end` is 0.
 -- The note is needed: the frames of a damaged last pair are replaced, and can be zero.
 -- Examples of both: proofs/Rests.antt. Assumes nothing.
-use Rattle.std.specs.Prelude.{◌≡◌, false, ℕ, ◌-◌, ◌*◌, ◌/◌, ◌≤◌, ◌<◌, length, take, get_or}
+use Rattle.std.specs.Prelude.{◌≡◌, false, ℕ, ◌-◌, ◌*◌, ◌/◌, ◌≤◌, ◌<◌, length, take, get_or, Ok}
 use Rattle.std.proofs.Common.{sym, ◌∙◌, subst, arith}
 use Rattle.std.proofs.Math.Path.{ap}
 use Rattle.std.proofs.Math.Bool.{true}
@@ -24,7 +24,6 @@ use Rattle.replacing.specs.Speech.{end_of}
 use Rattle.deciding.specs.Deciding.{received_notes}
 use Rattle.reader.specs.Reading.{index_part, Outcome, reading, received_frames}
 use Rattle.reader.specs.declared.Summary.{Summary}
-use Rattle.reader.specs.declared.Answer.TheVariants.{Read}
 use Rattle.image.specs.Made.{packet_in}
 use Rattle.writer.specs.Utterance.{Utterance, multiframes_of, pairs_of, image_of}
 use Rattle.damage.specs.Damage.{Damage, Fate, whole, hit, fate}
@@ -38,7 +37,7 @@ use Rattle.recordings.specs.Hit.{hit_image}
 
 -- ---- they are read, and the last pair that came, q, has note 0
 module _ (ch : Choices) (u : Utterance) (s : List ℕ) (d : Damage (multiframes_of u) (image_of u) s) (k : ℕ) (less : k < multiframes_of u) (tables : Tables) (index report : List ℕ)
-    (given : Summary) (e : (reading ch (take (multiframe_octets * k) s) tables index report).answer ≡ Read given)
+    (given : Summary) (e : (reading ch (take (multiframe_octets * k) s) tables index report).answer ≡ Ok given)
     (note : pair_note_in (reading ch (take (multiframe_octets * k) s) tables index report).report (multiframe_pairs * k - 1) ≡ 0) where
   within : k ≤ multiframes_of u
   within = omega arith
@@ -116,7 +115,7 @@ module _ (ch : Choices) (u : Utterance) (s : List ℕ) (d : Damage (multiframes_
 
 -- THE LAST PAIR'S NOTE DECIDES: if the first k multiframes are read, and the last of their pairs has note 0, end is 0
 pub cut_off_told_damaged : (ch : Choices) (u : Utterance) (s : List ℕ) → Damage (multiframes_of u) (image_of u) s → (k : ℕ) → k < multiframes_of u
-    → (tables : Tables) (index report : List ℕ) (given : Summary) → (reading ch (take (multiframe_octets * k) s) tables index report).answer ≡ Read given
+    → (tables : Tables) (index report : List ℕ) (given : Summary) → (reading ch (take (multiframe_octets * k) s) tables index report).answer ≡ Ok given
     → pair_note_in (reading ch (take (multiframe_octets * k) s) tables index report).report (multiframe_pairs * k - 1) ≡ 0 → given.end ≡ 0
 cut_off_told_damaged ch u s d k less tables index report given e note = ends ch u s d k less tables index report given e note
 
@@ -132,7 +131,7 @@ pub record Rest (u : Utterance) (p named last end : ℕ) : Type 0 where
   pub damage : Damage (multiframes_of u) (image_of u) (hit_image u p)
   pub cut_off : 1 < multiframes_of u
   pub given : Summary
-  pub is_read : (rest_read u p).answer ≡ Read given
+  pub is_read : (rest_read u p).answer ≡ Ok given
   pub note_p : pair_note_in (rest_read u p).report p ≡ named
   pub note_last : pair_note_in (rest_read u p).report (multiframe_pairs - 1) ≡ last
   pub end_is : given.end ≡ end

@@ -1,7 +1,7 @@
 -- A CUT-OFF UTTERANCE TELLS. The first k of its m multiframes alone, if they are read, which by default takes two (02, C-20), give `end` 0, and a cut inside a multiframe is refusal 13: a reading with `end` 1
 -- is of no image that was cut off anywhere and is otherwise whole. CutDamaged says what `end` tells with damage besides.
 -- Assumes nothing.
-use Rattle.std.specs.Prelude.{◌≡◌, refl, Bool, false, ℕ, ◌+◌, ◌-◌, ◌*◌, ◌/◌, ◌%◌, ◌≤◌, ◌<◌, length, take, drop, get_or}
+use Rattle.std.specs.Prelude.{◌≡◌, refl, Bool, false, ℕ, ◌+◌, ◌-◌, ◌*◌, ◌/◌, ◌%◌, ◌≤◌, ◌<◌, length, take, drop, get_or, Some, None, Ok}
 use Rattle.std.proofs.Common.{sym, ◌∙◌, subst, arith, lit<, ne_eqb, lt-ltb, length-drop, length-take-le, take_all, take-add, ext_get_or, get_or-take, get_or-drop}
 use Rattle.std.proofs.Math.Path.{ap, ap₂}
 use Rattle.std.proofs.Math.Bool.{not}
@@ -28,8 +28,7 @@ use Rattle.cutting.specs.Laws.{octets_of}
 use Rattle.cutting.proofs.Laws.{lone_sync, every_length}
 use Rattle.message.specs.Message.{settings_of}
 use Rattle.message.specs.Message.Laws.{count_back}
-use Rattle.header.specs.declared.Header.{Header}
-use Rattle.header.specs.declared.Header.TheVariants.{Codeword, Lost}
+use Rattle.header.specs.Types.{Header}
 use Rattle.header_readings.specs.Readings.{readings}
 use Rattle.header_notes.specs.HeaderNotes.{header_note}
 use Rattle.header_readings.specs.Laws.{length_readings}
@@ -44,10 +43,10 @@ use Rattle.bad_pairs.specs.Laws.{Good}
 use Rattle.replacing.specs.Speech.{speech_of, end_of, place_stop}
 use Rattle.deciding.specs.Deciding.{received_notes}
 use Rattle.report.specs.Report.{report_part}
+use Rattle.reader.specs.Types.{Answer}
 use Rattle.reader.specs.Reading.{index_part, summary, Outcome, outcome, reading, received_frames}
 use Rattle.reader.specs.ReadingLaws.{Accepted}
 use Rattle.reader.specs.declared.Summary.{Summary}
-use Rattle.reader.specs.declared.Answer.TheVariants.{Read}
 use Rattle.image.specs.Made.{word_in, packet_in}
 use Rattle.image.proofs.Laws.{length_image, image_packet}
 use Rattle.writer.specs.Utterance.{Utterance, multiframes_of, image_of}
@@ -141,13 +140,13 @@ module _ (ch : Choices) (u : Utterance) (k : ℕ) (some : 0 < k) (less : k < mul
     index_is = nothing_replaced ns all quiet (length_all (received first (row_of k)) (pair_count (row_of k)) ∙ omega (arith, size))
 
     note_row : (i : ℕ) → i < length (row_of k)
-        → header_note (sent_common u) i (get_or (readings first (row_of k)) i Lost) ∷ part (first_pair i) multiframe_pairs ns ≡ replicate report_octets 0
+        → header_note (sent_common u) i (get_or (readings first (row_of k)) i None) ∷ part (first_pair i) multiframe_pairs ns ≡ replicate report_octets 0
     note_row i h =
         let p = part (multiframe_pairs * i) multiframe_pairs ns in
         let l : length p ≡ multiframe_pairs = length_part ns (multiframe_pairs * i) multiframe_pairs (omega (arith, size)) in
-        let r : get_or (readings first (row_of k)) i Lost ≡ Codeword (F.decoded u s d k within i) =
-        ap (λ (hs : List Header). get_or hs i Lost) (F.headers_first u s d k within)
-        ∙ each_at (λ i. Codeword (F.decoded u s d k within i)) k i Lost (omega (arith, rows)) in
+        let r : get_or (readings first (row_of k)) i None ≡ Some (F.decoded u s d k within i) =
+        ap (λ (hs : List Header). get_or hs i None) (F.headers_first u s d k within)
+        ∙ each_at (λ i. Some (F.decoded u s d k within i)) k i None (omega (arith, rows)) in
         let z = header_near u s i (omega (arith, rows)) ∙ no_flips i in
         ap₂ (λ (x : ℕ) (y : List ℕ). x ∷ y)
         (ap (header_note (sent_common u) i) r ∙ clean_note (sent_common u) i (F.decoded u s d k within i) z (count_back u.settings (i + 1) 0) (common_sent u i))
@@ -157,7 +156,7 @@ module _ (ch : Choices) (u : Utterance) (k : ℕ) (some : 0 < k) (less : k < mul
     report_is : report_part first (row_of k) ns (sent_common u) ≡ replicate (report_octets * k) 0
     unfolding report_part
     report_is =
-        same_joined (λ i. header_note (sent_common u) i (get_or (readings first (row_of k)) i Lost) ∷ part (first_pair i) multiframe_pairs ns) (λ i. replicate report_octets 0)
+        same_joined (λ i. header_note (sent_common u) i (get_or (readings first (row_of k)) i None) ∷ part (first_pair i) multiframe_pairs ns) (λ i. replicate report_octets 0)
         (length (row_of k)) note_row
         ∙ zero_rows report_octets (length (row_of k)) ∙ ap (λ (n : ℕ). replicate (report_octets * n) 0) rows
 
@@ -182,27 +181,27 @@ module _ (ch : Choices) (u : Utterance) (k : ℕ) (some : 0 < k) (less : k < mul
 
     reads : Enough ch k → (index report : List ℕ) → Lent k tables index report
         → reading ch first tables index report
-        ≡ outcome (Read (heard u k)) (over index 0 (index_octets * k) (take (index_octets * k) u.indices)) (over report 0 (report_octets * k) (replicate (report_octets * k) 0))
+        ≡ outcome (Ok (heard u k)) (over index 0 (index_octets * k) (take (index_octets * k) u.indices)) (over report 0 (report_octets * k) (replicate (report_octets * k) 0))
     reads sent index report lent =
         F.read_first u s d k within tables ch index report some (can_settle ch k _ sent (no_flips 0)) good lent
-        ∙ ap₂ (λ (a : Summary) (i : List ℕ). outcome (Read a) i (over report 0 (report_octets * length (row_of k)) (report_part first (row_of k) ns (sent_common u)))) answer_is
+        ∙ ap₂ (λ (a : Summary) (i : List ℕ). outcome (Ok a) i (over report 0 (report_octets * length (row_of k)) (report_part first (row_of k) ns (sent_common u)))) answer_is
         (ap₂ (λ (n : ℕ) (l : List ℕ). over index 0 (index_octets * n) l) rows (index_is ∙ frames_are))
-        ∙ ap (outcome (Read (heard u k)) (over index 0 (index_octets * k) (take (index_octets * k) u.indices)))
+        ∙ ap (outcome (Ok (heard u k)) (over index 0 (index_octets * k) (take (index_octets * k) u.indices)))
         (ap₂ (λ (n : ℕ) (l : List ℕ). over report 0 (report_octets * n) l) rows report_is)
 
 -- if k is two or more, or the caller asks for the old rule (02, C-20), with 01's tables and room for k multiframes they are read: the settings sent, k, the frames of these multiframes, no note, and end 0
 pub cut_off_reads : (ch : Choices) (u : Utterance) (k : ℕ) → 0 < k → k < multiframes_of u → Enough ch k → (tables : Tables) (index report : List ℕ) → Lent k tables index report
     → reading ch (take (multiframe_octets * k) (image_of u)) tables index report
-    ≡ outcome (Read (heard u k)) (over index 0 (index_octets * k) (take (index_octets * k) u.indices)) (over report 0 (report_octets * k) (replicate (report_octets * k) 0))
+    ≡ outcome (Ok (heard u k)) (over index 0 (index_octets * k) (take (index_octets * k) u.indices)) (over report 0 (report_octets * k) (replicate (report_octets * k) 0))
 cut_off_reads ch u k some less sent tables index report lent = reads ch u k some less tables sent index report lent
 
 -- and whatever the tables and the buffers: if they are read, that is the answer
 pub cut_off_answer : (ch : Choices) (u : Utterance) (k : ℕ) → k < multiframes_of u → (tables : Tables) (index report : List ℕ) (given : Summary)
-    → (reading ch (take (multiframe_octets * k) (image_of u)) tables index report).answer ≡ Read given → given ≡ heard u k
+    → (reading ch (take (multiframe_octets * k) (image_of u)) tables index report).answer ≡ Ok given → given ≡ heard u k
 cut_off_answer ch u k less tables index report given e =
     elim (dec_lt 0 k) [
       | yes some ↦
-          let r : Read given ≡ Read (heard u k) = sym e ∙ ap (λ (o : Outcome). o.answer) (reads ch u k some less tables sent index report lent) in
+          let r : ◌≡◌ {A = Answer} (Ok given) (Ok (heard u k)) = sym e ∙ ap (λ (o : Outcome). o.answer) (reads ch u k some less tables sent index report lent) in
           cc
       | no none ↦ absurd (a.some (rows ∙ omega arith))
     ]
@@ -230,12 +229,12 @@ cut_off_answer ch u k less tables index report given e =
 
 -- A CUT-OFF UTTERANCE TELLS: if they are read, end is 0
 pub cut_off_told : (ch : Choices) (u : Utterance) (k : ℕ) → k < multiframes_of u → (tables : Tables) (index report : List ℕ) (given : Summary)
-    → (reading ch (take (multiframe_octets * k) (image_of u)) tables index report).answer ≡ Read given → given.end ≡ 0
+    → (reading ch (take (multiframe_octets * k) (image_of u)) tables index report).answer ≡ Ok given → given.end ≡ 0
 cut_off_told ch u k less tables index report given e = ap (λ (g : Summary). g.end) (cut_off_answer ch u k less tables index report given e)
 
 -- "fewer than all" is needed: all of them, if there are enough to be read, give end 1
 pub whole_ends : (ch : Choices) (u : Utterance) → Enough ch (multiframes_of u) → (tables : Tables) (index report : List ℕ) → Lent (multiframes_of u) tables index report
-    → ((reading ch (take (multiframe_octets * multiframes_of u) (image_of u)) tables index report).answer ≡ Read (spoken u)) × ((spoken u).end ≡ 1)
+    → ((reading ch (take (multiframe_octets * multiframes_of u) (image_of u)) tables index report).answer ≡ Ok (spoken u)) × ((spoken u).end ≡ 1)
 whole_ends ch u sent tables index report lent =
     let m = multiframes_of u in
     let e : take (multiframe_octets * m) (image_of u) ≡ image_of u = take_all (multiframe_octets * m) (image_of u) (omega (arith, length_image u.settings u.indices m)) in

@@ -1,7 +1,7 @@
 -- The first k multiframes of an image, damaged or not, as the reader takes them: their headers, if there are enough (02, C-20), settle the settings sent, and the frames of their
 -- undamaged pairs are those written.
 -- Assumes nothing.
-use Rattle.std.specs.Prelude.{◌≡◌, refl, Bool, true, List, [], ◌∷◌, ◌++◌, ℕ, zero, suc, ◌+◌, ◌-◌, ◌*◌, ◌/◌, ◌≤◌, ◌<◌, take, drop, get_or}
+use Rattle.std.specs.Prelude.{◌≡◌, refl, Bool, true, List, [], ◌∷◌, ◌++◌, ℕ, zero, suc, ◌+◌, ◌-◌, ◌*◌, ◌/◌, ◌≤◌, ◌<◌, take, drop, get_or, Some, None, Ok}
 use Rattle.std.proofs.Common.{sym, ◌∙◌, subst, inl, inr, take-append-drop, length-take-le}
 use Rattle.std.proofs.Math.Path.{ap, ap₂}
 use Rattle.std.proofs.Math.Bool.{false}
@@ -23,14 +23,12 @@ use Rattle.cutting.proofs.Laws.{every_length}
 use Rattle.message.specs.Message.{common_bits}
 use Rattle.header.specs.Reading as H
 use Rattle.header.specs.declared.Decoded.{Decoded}
-use Rattle.header.specs.declared.Header.{Header}
-use Rattle.header.specs.declared.Header.TheVariants.{Codeword, Lost}
+use Rattle.header.specs.Types.{Header}
 use Rattle.header_readings.specs.Readings.{readings}
 use Rattle.settling.specs.Settling.{settling}
 use Rattle.settling.specs.Laws.{AllHave}
 use Rattle.settling.proofs.Laws.{all_agree, only_clean}
 use Rattle.carrier.specs.Carrier.{stream_packet, received, pair_count}
-use Rattle.settling.specs.declared.Settlement.TheVariants.{Settled}
 use Rattle.notes.specs.Notes.{pair_fails, frames_of, pair_notes, pair_inconsistent}
 use Rattle.notes.specs.Laws.{length_notes, length_all, frames_at}
 use Rattle.bad_pairs.specs.BadPairs.{note_by, notes}
@@ -38,7 +36,6 @@ use Rattle.bad_pairs.specs.Laws.{failed_is_1, consistent_is_good, bad_before, no
 use Rattle.deciding.specs.Deciding.{received_notes}
 use Rattle.report.specs.Report.{report_part}
 use Rattle.reader.specs.Reading.{index_part, summary, outcome, reading, received_frames}
-use Rattle.reader.specs.declared.Answer.TheVariants.{Read}
 use Rattle.image.specs.Made.{sync_in, word_in, packet_in, part_within}
 use Rattle.image.proofs.Laws.{length_image, image_sync}
 use Rattle.writer.specs.Writing.{needed}
@@ -53,14 +50,14 @@ use Rattle.demands.specs.Headers.{CanSettle, sent_common}
 use Rattle.demands.proofs.HeadersLaws.{common_sent, rate_sent, exp_sent}
 
 -- ---- headers that all have the same common bits
-have_one_more : (l : List Header) (d : Decoded) (c : ℕ) → AllHave l c → common_bits d.message ≡ c → AllHave (l ++ (Codeword d ∷ [])) c
+have_one_more : (l : List Header) (d : Decoded) (c : ℕ) → AllHave l c → common_bits d.message ≡ c → AllHave (l ++ (Some d ∷ [])) c
 have_one_more [] d c a e = (e, tt)
-have_one_more (Lost ∷ l) d c a e = absurd a
-have_one_more (Codeword x ∷ l) d c a e = (a.0, have_one_more l d c a.1 e)
+have_one_more (None ∷ l) d c a e = absurd a
+have_one_more (Some x ∷ l) d c a e = (a.0, have_one_more l d c a.1 e)
 
-all_have : (g : ℕ → Decoded) (c n : ℕ) → ((k : ℕ) → common_bits (g k).message ≡ c) → AllHave (each (λ k. Codeword (g k)) n) c
+all_have : (g : ℕ → Decoded) (c n : ℕ) → ((k : ℕ) → common_bits (g k).message ≡ c) → AllHave (each (λ k. Some (g k)) n) c
 all_have g c zero h = tt
-all_have g c (suc n) h = have_one_more (each (λ k. Codeword (g k)) n) (g n) c (all_have g c n h) (h n)
+all_have g c (suc n) h = have_one_more (each (λ k. Some (g k)) n) (g n) c (all_have g c n h) (h n)
 
 -- ---- a frame that is not zero, as it was written
 pub frame_speaks : (idx l : List ℕ) (j : ℕ) → Nonzero idx j → part (frame_indices * j) frame_indices l ≡ frame_at idx j → zero_frame l j ≡ false
@@ -151,27 +148,27 @@ module _ (u : Utterance) (s : List ℕ) (d : Damage (multiframes_of u) (image_of
   abbrev pub decoded : ℕ → Decoded
   decoded i = H.decoded_as (word_in s i) (sent_message u i)
 
-  pub headers_first : readings first (row_of k) ≡ each (λ i. Codeword (decoded i)) k
+  pub headers_first : readings first (row_of k) ≡ each (λ i. Some (decoded i)) k
   headers_first =
       readings_are first k
-      ∙ same_each (λ i. H.reading (word_in first i)) (λ i. Codeword (decoded i)) k (λ i h.
+      ∙ same_each (λ i. H.reading (word_in first i)) (λ i. Some (decoded i)) k (λ i h.
       ap (λ (l : List ℕ). H.reading (value (bits l))) (part_first (multiframe_octets * i + 2) 4 (omega arith)) ∙ header_read_lem u s i (omega arith) (d.headers i (omega arith)))
 
-  pub settles_first : (ch : Choices) → 0 < k → CanSettle ch k (flips 0) → settling ch (readings first (row_of k)) ≡ Settled (sent_common u)
+  pub settles_first : (ch : Choices) → 0 < k → CanSettle ch k (flips 0) → settling ch (readings first (row_of k)) ≡ Some (sent_common u)
   settles_first ch some x = ap (settling ch) headers_first ∙ by (dec_lt k 2) x
     where
-      two : 2 ≤ k → settling ch (each (λ i. Codeword (decoded i)) k) ≡ Settled (sent_common u)
+      two : 2 ≤ k → settling ch (each (λ i. Some (decoded i)) k) ≡ Some (sent_common u)
       two h =
-          all_agree ch (each (λ i. Codeword (decoded i)) k) (sent_common u) (omega (arith, length_each (λ i. Codeword (decoded i)) k))
+          all_agree ch (each (λ i. Some (decoded i)) k) (sent_common u) (omega (arith, length_each (λ i. Some (decoded i)) k))
           (all_have decoded (sent_common u) k (common_sent u))
 
-      by : Dec (k < 2) → CanSettle ch k (flips 0) → settling ch (each (λ i. Codeword (decoded i)) k) ≡ Settled (sent_common u)
+      by : Dec (k < 2) → CanSettle ch k (flips 0) → settling ch (each (λ i. Some (decoded i)) k) ≡ Some (sent_common u)
       by (no n) y = two (omega arith)
       by (yes l) (inl h) = two h
       by (yes l) (inr z) =
           let e : k ≡ 1 = omega arith in
-          ap (λ (n : ℕ). settling ch (each (λ i. Codeword (decoded i)) n)) e
-          ∙ only_clean ch (decoded 0) z.0 (header_near u s 0 (omega arith) ∙ z.1) ∙ ap Settled (common_sent u 0)
+          ap (λ (n : ℕ). settling ch (each (λ i. Some (decoded i)) n)) e
+          ∙ only_clean ch (decoded 0) z.0 (header_near u s 0 (omega arith) ∙ z.1) ∙ ap Some (common_sent u 0)
 
   -- its packets are those of the image
   pub packet_first : (q : ℕ) → q < multiframe_pairs * k → received first (row_of k) q ≡ packet_in s q
@@ -215,7 +212,7 @@ module _ (u : Utterance) (s : List ℕ) (d : Damage (multiframes_of u) (image_of
     -- with a good pair, settings and room it is read
     pub read_first : (ch : Choices) (index report : List ℕ) → 0 < k → CanSettle ch k (flips 0) → Good ns → Lent k tables index report
         → reading ch first tables index report
-        ≡ outcome (Read (summary first (row_of k) ns (sent_common u))) (over index 0 (index_octets * length (row_of k)) (index_part first (row_of k) ns))
+        ≡ outcome (Ok (summary first (row_of k) ns (sent_common u))) (over index 0 (index_octets * length (row_of k)) (index_part first (row_of k) ns))
         (over report 0 (report_octets * length (row_of k)) (report_part first (row_of k) ns (sent_common u)))
     read_first ch index report some heads good lent =
         reads_as first k (omega (arith, few)) size_first syncs_first ch tables index report (sent_common u) some lent

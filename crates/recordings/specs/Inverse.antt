@@ -1,7 +1,7 @@
 -- INVERSE SYNCS CHANGE NOTHING (01, "Multiframe": "any number of them may stand before, between and after multiframes"). The whole outcome, the answer
 -- and both buffers, is that of the same multiframes without them. It needs a multiframe, and at most 255: a refusal's place counts octets.
 -- Syncs anywhere in an image, and that the premises are met and needed: proofs/Spaced.antt. Assumes nothing.
-use Rattle.std.specs.Prelude.{◌≡◌, refl, get_or, replicate}
+use Rattle.std.specs.Prelude.{◌≡◌, refl, get_or, replicate, Ok}
 use Rattle.std.proofs.Math.Path.{sym, ap}
 use Rattle.std.proofs.Common.{ap₂, ◌∙◌, subst, length-append, take_at}
 use mathlib.Core.List.{List, [], ◌∷◌, ◌++◌, append_assoc}
@@ -17,7 +17,6 @@ use Rattle.cutting.specs.Laws.{Chunk, multiframe, inverse, octets_of, places_of,
 use Rattle.cutting.proofs.Laws.{cut_chunks, places_placed}
 use Rattle.reader.specs.Reading.{reading}
 use Rattle.reader.specs.declared.Summary.{Summary}
-use Rattle.reader.specs.declared.Answer.TheVariants.{Read}
 use Rattle.demands_met.specs.Met.{hurt_image, says24}
 use Rattle.recordings.specs.Same.{same_read}
 use Rattle.recordings.specs.Chunks.{multiframes_in, multiframe_count, places_count}
@@ -104,7 +103,7 @@ pub record Apart24 (ch : Choices) (index report : List ℕ) : Type 0 where
   pub longer : length apart24 ≡ length (hurt_image says24) + 12
   pub same : reading ch apart24 zero_tables index report ≡ reading ch (hurt_image says24) zero_tables index report
   pub given : Summary
-  pub is_read : (reading ch apart24 zero_tables index report).answer ≡ Read given
+  pub is_read : (reading ch apart24 zero_tables index report).answer ≡ Ok given
   pub multiframes_2 : given.multiframes ≡ 2
 
 -- n multiframes of a sync and zeros

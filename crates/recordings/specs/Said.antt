@@ -1,6 +1,6 @@
 -- Literal utterances, and tables, on which the promises are tried. Frames and pairs count from 0 in the laws, and from 1 in the comments.
 -- Assumes nothing.
-use Rattle.std.specs.Prelude.{◌≡◌, refl, Bool, true, false, List, [], ◌∷◌, ◌++◌, ℕ, zero, suc, ◌*◌, ◌^◌, ◌<◌, T, ltb, ℤ, pos, get_or, replicate}
+use Rattle.std.specs.Prelude.{◌≡◌, refl, Bool, true, false, List, [], ◌∷◌, ◌++◌, ℕ, zero, suc, ◌*◌, ◌^◌, ◌<◌, T, ltb, ℤ, pos, get_or, replicate, Ok}
 use Rattle.std.proofs.Common.{sym, le_of_eq, lit<, ltb-true}
 use Rattle.std.proofs.lemmas.List.{length-replicate}
 use Rattle.lists.specs.Tests.{when, true_false, all_holds}
@@ -16,7 +16,6 @@ use Rattle.consistency.specs.Consistency.{flagged, flags, inconsistent}
 use Rattle.image.specs.Made.{Small}
 use Rattle.writer.specs.Writing.{verdict, room_answer, needed}
 use Rattle.writer.specs.Utterance.{Utterance, multiframes_of}
-use Rattle.writer.specs.declared.Answer.TheVariants.{Written}
 use Rattle.demands.specs.Whole.{Lent}
 use Rattle.demands_met.specs.Met.{index_for, report_for}
 
@@ -36,7 +35,7 @@ small_octets (x ∷ l) e i = by (ltb x 256) refl e i (λ z j. small_octets l z j
     by false h z i f = absurd (true_false (sym z))
 
 -- 8 kHz, type 0, 24 frames of ones, which take two multiframes
-pub written_24 : verdict (settings 0 0) (replicate 168 1) (needed (replicate 168 1)) ≡ Written (needed (replicate 168 1))
+pub written_24 : verdict (settings 0 0) (replicate 168 1) (needed (replicate 168 1)) ≡ Ok (needed (replicate 168 1))
 unfolding verdict room_answer first_from zero_frame
 written_24 = refl
 
@@ -47,7 +46,7 @@ ones24 = record { settings = settings 0 0; indices = replicate 168 1; small = sm
 abbrev pub gap : List ℕ
 gap = replicate 147 1 ++ (replicate frame_indices 0 ++ replicate 14 1)
 
-pub written_gap : verdict (settings 0 0) gap (needed gap) ≡ Written (needed gap)
+pub written_gap : verdict (settings 0 0) gap (needed gap) ≡ Ok (needed gap)
 unfolding verdict room_answer first_from zero_frame
 written_gap = refl
 
@@ -63,15 +62,15 @@ abbrev pub rising : ℕ → List ℕ
 rising zero = replicate frame_indices 1
 rising (suc n) = replicate frame_indices 1 ++ (replicate frame_indices 2 ++ rising n)
 
-pub written_23 : verdict (settings 0 0) (rising 11) (needed (rising 11)) ≡ Written (needed (rising 11))
+pub written_23 : verdict (settings 0 0) (rising 11) (needed (rising 11)) ≡ Ok (needed (rising 11))
 unfolding verdict room_answer first_from zero_frame
 written_23 = refl
 
-pub written_47 : verdict (settings 0 0) (rising 23) (needed (rising 23)) ≡ Written (needed (rising 23))
+pub written_47 : verdict (settings 0 0) (rising 23) (needed (rising 23)) ≡ Ok (needed (rising 23))
 unfolding verdict room_answer first_from zero_frame
 written_47 = refl
 
-pub written_7 : verdict (settings 0 0) (rising 3) (needed (rising 3)) ≡ Written (needed (rising 3))
+pub written_7 : verdict (settings 0 0) (rising 3) (needed (rising 3)) ≡ Ok (needed (rising 3))
 unfolding verdict room_answer first_from zero_frame
 written_7 = refl
 

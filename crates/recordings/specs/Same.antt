@@ -1,6 +1,6 @@
 -- OCTETS THAT HOLD THE SAME MULTIFRAMES ARE READ THE SAME, wherever these stand in them.
 -- Assumes nothing.
-use Rattle.std.specs.Prelude.{◌≡◌, Bool, ℕ, ◌+◌, ◌*◌, ◌/◌, ◌≤◌, ◌<◌, length, take, drop, get_or}
+use Rattle.std.specs.Prelude.{◌≡◌, Bool, ℕ, ◌+◌, ◌*◌, ◌/◌, ◌≤◌, ◌<◌, length, take, drop, get_or, None, Ok, Err}
 use Rattle.std.proofs.Math.Path.{refl, ap, ap₂}
 use Rattle.std.proofs.Common.{sym, ◌∙◌, arith}
 use Rattle.std.proofs.Math.Bool.{not}
@@ -18,8 +18,7 @@ use Rattle.consistency.specs.Consistency.{inconsistent}
 use Rattle.cutting.specs.Cutting.{whole, cutting}
 use Rattle.header.specs.Reading as H
 use Rattle.message.specs.Message.{settings_of}
-use Rattle.header.specs.declared.Header.{Header}
-use Rattle.header.specs.declared.Header.TheVariants.{Lost}
+use Rattle.header.specs.Types.{Header}
 use Rattle.header_readings.specs.Readings.{readings}
 use Rattle.settling.specs.Settling.{settling}
 use Rattle.header_notes.specs.HeaderNotes.{header_note}
@@ -31,9 +30,7 @@ use Rattle.replacing.specs.Speech.{speech_of, end_of}
 use Rattle.deciding.specs.Deciding.{settled_verdict, whole_verdict, received_notes}
 use Rattle.report.specs.Report.{report_part}
 use Rattle.reader.specs.Reading.{verdict, finished, Outcome, outcome, reading, received_frames}
-use Rattle.deciding.specs.declared.Verdict.{Verdict}
-use Rattle.deciding.specs.declared.Verdict.TheVariants.{Refuse, Accept}
-use Rattle.reader.specs.declared.Answer.TheVariants.{Read}
+use Rattle.deciding.specs.Types.{Verdict}
 use Rattle.image.specs.Made.{part_within}
 
 -- two lists of octets, each with the places of as many multiframes, the k-th of the one the same as the k-th of the other
@@ -83,7 +80,7 @@ module _ (ch : Choices) (o₁ p₁ o₂ p₂ : List ℕ) (count : length p₁ �
       -- what success gives depends on the headers, the frames, the notes and the count alone
       given : ℕ → List Header → List ℕ → List ℕ → ℕ → Outcome
       given m hs fs ns c = outcome
-          (Read (record {
+          (Ok (record {
             settings = settings_of c;
             multiframes = m;
             speech = speech_of m (replaced ns fs);
@@ -91,12 +88,12 @@ module _ (ch : Choices) (o₁ p₁ o₂ p₂ : List ℕ) (count : length p₁ �
             end = end_of m (replaced ns fs);
           }))
           (over index 0 (index_octets * m) (replaced ns fs))
-          (over report 0 (report_octets * m) (joined (λ k. header_note c k (get_or hs k Lost) ∷ part (first_pair k) multiframe_pairs ns) m))
+          (over report 0 (report_octets * m) (joined (λ k. header_note c k (get_or hs k None) ∷ part (first_pair k) multiframe_pairs ns) m))
 
       finished_same : (v : Verdict) → finished o₁ tables index report p₁ v ≡ finished o₂ tables index report p₂ v
       unfolding report_part given
-      finished_same (Refuse r) = refl
-      finished_same (Accept c) =
+      finished_same (Err r) = refl
+      finished_same (Ok c) =
           ap₂ (λ (m : ℕ) (hs : List Header). given m hs (received_frames o₁ p₁) (received_notes o₁ p₁ tables) c) count headers_same
           ∙ ap₂ (λ (fs ns : List ℕ). given (length p₂) (readings o₂ p₂) fs ns c) frames_same notes_same
 
@@ -110,7 +107,7 @@ module _ (ch : Choices) (o₁ p₁ o₂ p₂ : List ℕ) (count : length p₁ �
 
       -- the verdict, if the tables are right
       abbrev tabled : Verdict → Verdict
-      tabled v = if_admitted (admission tables) Refuse v
+      tabled v = if_admitted (admission tables) Err v
 
       -- if these are what cutting finds, and there is one, the whole outcome is the same
       pub same_read : cutting o₁ ≡ record { places = p₁; ending = whole } → cutting o₂ ≡ record { places = p₂; ending = whole } → 0 < length p₁

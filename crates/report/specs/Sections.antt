@@ -1,15 +1,14 @@
 -- How the code goes about a report, from headers as `read_headers` stores them and notes in arrays: what its contracts cite, and the law that
 -- this is the report. Nothing that 01 says stands here.
 -- Assumes nothing.
-use Rattle.std.specs.Prelude.{ℕ, ◌*◌, ◌≤◌, ◌<◌, ◌≡◌, List, ◌∷◌, length, get_or}
+use Rattle.std.specs.Prelude.{ℕ, ◌*◌, ◌≤◌, ◌<◌, ◌≡◌, List, ◌∷◌, length, get_or, None}
 use Rattle.std.proofs.Math.Path.{ap, sym}
 use Rattle.std.proofs.Common.{subst, ◌∙◌, arith}
 use Rattle.lists.specs.Parts.{part}
 use Rattle.lists.specs.Rows.{joined, each_at, length_each, same_joined}
 use Rattle.layout.specs.Layout.{multiframe_pairs, most_multiframes, report_octets, first_pair}
 use Rattle.header.specs.Reading.{reading as readHeader}
-use Rattle.header.specs.declared.Header.{Header}
-use Rattle.header.specs.declared.Header.TheVariants.{Lost}
+use Rattle.header.specs.Types.{Header}
 use Rattle.header_readings.specs.Readings.{readings}
 use Rattle.header_notes.specs.HeaderNotes.{header_note}
 use Rattle.header_readings.specs.Stored.{opened, pack_all, packed, Mended, mended, opened_packed}
@@ -44,6 +43,6 @@ module _ (octets places headers : List ℕ) (e : headers ≡ pack_all octets pla
   unfolding section report_part readings
   sections_are ns c =
       ap (sections headers ns c) stored_size
-      ∙ same_joined (section headers ns c) (λ k. header_note c k (get_or (readings octets places) k Lost) ∷ part (first_pair k) multiframe_pairs ns) (length places) (λ k h.
+      ∙ same_joined (section headers ns c) (λ k. header_note c k (get_or (readings octets places) k None) ∷ part (first_pair k) multiframe_pairs ns) (length places) (λ k h.
       ap (λ (x : Header). header_note c k x ∷ part (first_pair k) multiframe_pairs ns)
-      (stored_at k h ∙ sym (each_at (λ k. readHeader (word_at octets (in_places places) k)) (length places) k Lost h)))
+      (stored_at k h ∙ sym (each_at (λ k. readHeader (word_at octets (in_places places) k)) (length places) k None h)))

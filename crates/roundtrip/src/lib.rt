@@ -9,12 +9,11 @@ use choices::Choices;
 use reader::Summary;
 use settings::Settings;
 
-// What became of an utterance: refused by the writer, refused by the reader, or back with the reader's summary.
+// Why an utterance does not come back: refused by the writer, or refused by the reader.
 #[derive(Clone, Copy)]
-pub enum Trip {
+pub enum Failure {
     NotWritten(refusals::Writing),
     NotRead(refusals::Reading),
-    Back(Summary),
 }
 
 // write_and_read writes an utterance into the front of out and reads the octets written back into index and report. Whatever the writer
@@ -29,7 +28,7 @@ pub fn write_and_read(
     out: &mut [u8],
     index: &mut [u8],
     report: &mut [u8],
-) -> Trip
+) -> Result<Summary, Failure>
     ensures all { made result out.new index.new report.new
         ≡ trip settings indices.now (tables_of codebook.now thresholds.now) out.old index.old report.old }
     ensures back { ComesBack settings indices.now (tables_of codebook.now thresholds.now) out.old index.old report.old
@@ -43,12 +42,12 @@ pub fn write_and_read(
         one_header_settles: true,
     };
     match writer::write(settings, indices, out) {
-        writer::Answer::Written { octets } => {
+        Ok(octets) => {
             match reader::read(&out[..octets], choices, codebook, thresholds, index, report) {
-                reader::Answer::Read(s) => Trip::Back(s),
-                reader::Answer::Refused(r) => Trip::NotRead(r),
+                Ok(s) => Ok(s),
+                Err(r) => Err(Failure::NotRead(r)),
             }
         }
-        writer::Answer::Refused(r) => Trip::NotWritten(r),
+        Err(r) => Err(Failure::NotWritten(r)),
     }
 }

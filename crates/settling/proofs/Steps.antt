@@ -1,5 +1,6 @@
 -- The steps by which the code settles, one header at a time: what its functions find in the stored readings.
 -- Assumes nothing.
+use Rattle.std.specs.Prelude.{Some, None}
 use Prim.Native.Nat.{ℕ, suc, ◌+◌, ◌<◌}
 use mathlib.Core.Path.{◌≡◌, refl, ap, sym, ◌∙◌}
 use mathlib.Core.List.{List, [], ◌∷◌}
@@ -14,49 +15,47 @@ use Rattle.lists.specs.Tests.{when}
 use Rattle.lists.specs.Rows.{each_at}
 use Rattle.message.specs.Message.{common_bits}
 use Rattle.header.specs.declared.Decoded.{Decoded}
-use Rattle.header.specs.declared.Header.{Header}
-use Rattle.header.specs.declared.Header.TheVariants.{Codeword, Lost}
+use Rattle.header.specs.Types.{Header}
 use Rattle.choices.specs.Choices.{one_settles}
 use Rattle.choices.specs.declared.Choices.{Choices}
 use Rattle.settling.specs.Settling.{among, first_agreeing, only_one, or_else, settling}
-use Rattle.settling.specs.declared.Settlement.{Settlement}
-use Rattle.settling.specs.declared.Settlement.TheVariants.{Settled, Unsettled}
+use Rattle.settling.specs.Types.{Settlement}
 use Rattle.header_readings.specs.Stored.{opened, open_all, length_open}
 use Rattle.settling.specs.Steps.{with_seen, seen_before, settled_by, has_common}
 
 -- ---- the stored readings, opened
-pub open_at : (l : List ℕ) (k : ℕ) → k < length l → get_or (open_all l) k Lost ≡ opened (get_or l k 0)
+pub open_at : (l : List ℕ) (k : ℕ) → k < length l → get_or (open_all l) k None ≡ opened (get_or l k 0)
 unfolding open_all
-open_at l k h = each_at (λ k. opened (get_or l k 0)) (length l) k Lost h
+open_at l k h = each_at (λ k. opened (get_or l k 0)) (length l) k None h
 
 pub agreeing_step : (h : Header) (hs : List Header) (seen : List ℕ) → first_agreeing seen (h ∷ hs) ≡ or_else (settled_by h seen) (first_agreeing (with_seen h seen) hs)
 unfolding first_agreeing
-agreeing_step Lost hs seen = refl
-agreeing_step (Codeword d) hs seen = by (among (common_bits d.message) seen)
+agreeing_step None hs seen = refl
+agreeing_step (Some d) hs seen = by (among (common_bits d.message) seen)
   where
-    by : (t : Bool) → when t (Settled (common_bits d.message)) (first_agreeing (common_bits d.message ∷ seen) hs)
-        ≡ or_else (when t (Settled (common_bits d.message)) Unsettled) (first_agreeing (common_bits d.message ∷ seen) hs)
+    by : (t : Bool) → when t (Some (common_bits d.message)) (first_agreeing (common_bits d.message ∷ seen) hs)
+        ≡ or_else (when t (Some (common_bits d.message)) None) (first_agreeing (common_bits d.message ∷ seen) hs)
     by true = refl
     by false = refl
 
 -- what is left to settle from header k on
-pub agreeing_on : (hs : List Header) (k : ℕ) (s : Settlement) → k < length hs → s ≡ settled_by (get_or hs k Lost) (seen_before hs k)
+pub agreeing_on : (hs : List Header) (k : ℕ) (s : Settlement) → k < length hs → s ≡ settled_by (get_or hs k None) (seen_before hs k)
     → first_agreeing (seen_before hs k) (drop k hs) ≡ or_else s (first_agreeing (seen_before hs (k + 1)) (drop (k + 1) hs))
 unfolding seen_before
-agreeing_on hs k s h e = rw (drop-cons hs k Lost h, add-one k, e) (agreeing_step (get_or hs k Lost) (drop (suc k) hs) (seen_before hs k))
+agreeing_on hs k s h e = rw (drop-cons hs k None h, add-one k, e) (agreeing_step (get_or hs k None) (drop (suc k) hs) (seen_before hs k))
 
-pub agreeing_end : (hs : List Header) (seen : List ℕ) → first_agreeing seen (drop (length hs) hs) ≡ Unsettled
+pub agreeing_end : (hs : List Header) (seen : List ℕ) → first_agreeing seen (drop (length hs) hs) ≡ None
 unfolding first_agreeing
 agreeing_end hs seen = rw (drop-length hs)
 
 -- ---- looking back for common bits, from the last header to the first
-pub among_step : (hs : List Header) (c k : ℕ) (t : Bool) → t ≡ has_common (get_or hs k Lost) c → among c (seen_before hs (suc k)) ≡ when t true (among c (seen_before hs k))
+pub among_step : (hs : List Header) (c k : ℕ) (t : Bool) → t ≡ has_common (get_or hs k None) c → among c (seen_before hs (suc k)) ≡ when t true (among c (seen_before hs k))
 unfolding seen_before
-among_step hs c k t e = from (get_or hs k Lost) t e
+among_step hs c k t e = from (get_or hs k None) t e
   where
     from : (h : Header) (t : Bool) → t ≡ has_common h c → among c (with_seen h (seen_before hs k)) ≡ when t true (among c (seen_before hs k))
-    from Lost t e = rw e
-    from (Codeword d) t e = rw e
+    from None t e = rw e
+    from (Some d) t e = rw e
 
 pub among_none : (hs : List Header) (c : ℕ) → among c (seen_before hs 0) ≡ false
 unfolding seen_before
@@ -64,32 +63,32 @@ among_none hs c = refl
 
 -- ---- an only header
 abbrev pub only_by : Header → Settlement
-only_by Lost = Unsettled
-only_by (Codeword d) = when (eqb d.flips 0) (Settled (common_bits d.message)) Unsettled
+only_by None = None
+only_by (Some d) = when (eqb d.flips 0) (Some (common_bits d.message)) None
 
-pub only_is : (hs : List Header) → length hs ≡ 1 → only_one hs ≡ only_by (get_or hs 0 Lost)
+pub only_is : (hs : List Header) → length hs ≡ 1 → only_one hs ≡ only_by (get_or hs 0 None)
 unfolding only_one
 only_is [] e = absurd (omega arith)
-only_is (Lost ∷ hs) e = refl
-only_is (Codeword d ∷ []) e = refl
-only_is (Codeword d ∷ h ∷ hs) e = absurd (omega arith)
+only_is (None ∷ hs) e = refl
+only_is (Some d ∷ []) e = refl
+only_is (Some d ∷ h ∷ hs) e = absurd (omega arith)
 
 -- ---- what the code's branches find
 module _ (l : List ℕ) (k : ℕ) (h : k < length l) (r : Header) (e : r ≡ opened (get_or l k 0)) where
-  pub found_at : get_or (open_all l) k Lost ≡ r
+  pub found_at : get_or (open_all l) k None ≡ r
   found_at = open_at l k h ∙ sym e
 
-  pub lost_settles_nothing : (seen : List ℕ) → r ≡ Lost → Unsettled ≡ settled_by (get_or (open_all l) k Lost) seen
+  pub lost_settles_nothing : (seen : List ℕ) → r ≡ None → None ≡ settled_by (get_or (open_all l) k None) seen
   lost_settles_nothing seen q = rw (found_at, q)
 
-  pub seen_settles : (seen : List ℕ) (d : Decoded) (c : ℕ) (t : Bool) → r ≡ Codeword d → c ≡ common_bits d.message → t ≡ among c seen → t ≡ true
-      → Settled c ≡ settled_by (get_or (open_all l) k Lost) seen
+  pub seen_settles : (seen : List ℕ) (d : Decoded) (c : ℕ) (t : Bool) → r ≡ Some d → c ≡ common_bits d.message → t ≡ among c seen → t ≡ true
+      → Some c ≡ settled_by (get_or (open_all l) k None) seen
   seen_settles seen d c t q ec et y =
       let s : among (common_bits d.message) seen ≡ true = ap (λ (x : ℕ). among x seen) (sym ec) ∙ sym et ∙ y in
-      rw (found_at, q, s) (ap Settled ec)
+      rw (found_at, q, s) (ap Some ec)
 
-  pub new_settles_nothing : (seen : List ℕ) (d : Decoded) (c : ℕ) (t : Bool) → r ≡ Codeword d → c ≡ common_bits d.message → t ≡ among c seen → t ≡ false
-      → Unsettled ≡ settled_by (get_or (open_all l) k Lost) seen
+  pub new_settles_nothing : (seen : List ℕ) (d : Decoded) (c : ℕ) (t : Bool) → r ≡ Some d → c ≡ common_bits d.message → t ≡ among c seen → t ≡ false
+      → None ≡ settled_by (get_or (open_all l) k None) seen
   new_settles_nothing seen d c t q ec et y =
       let s : among (common_bits d.message) seen ≡ false = ap (λ (x : ℕ). among x seen) (sym ec) ∙ sym et ∙ y in
       rw (found_at, q, s)
@@ -103,25 +102,25 @@ module _ (l : List ℕ) (one : length l ≡ 1) (r : Header) (e : r ≡ opened (g
   pub only_found : only_one (open_all l) ≡ only_by r
   only_found = only_is (open_all l) (length_open l ∙ one) ∙ ap only_by (found_at l 0 (omega arith) r e)
 
-  pub only_lost : r ≡ Lost → Unsettled ≡ only_one (open_all l)
+  pub only_lost : r ≡ None → None ≡ only_one (open_all l)
   only_lost q = rw (only_found, q)
 
-  pub only_clean : (d : Decoded) (c : ℕ) → r ≡ Codeword d → d.flips ≡ 0 → c ≡ common_bits d.message → Settled c ≡ only_one (open_all l)
-  only_clean d c q z ec = rw (only_found, q, eq-eqb d.flips 0 z) (ap Settled ec)
+  pub only_clean : (d : Decoded) (c : ℕ) → r ≡ Some d → d.flips ≡ 0 → c ≡ common_bits d.message → Some c ≡ only_one (open_all l)
+  only_clean d c q z ec = rw (only_found, q, eq-eqb d.flips 0 z) (ap Some ec)
 
-  pub only_mended : (d : Decoded) → r ≡ Codeword d → (d.flips ≡ 0 → ⊥) → Unsettled ≡ only_one (open_all l)
+  pub only_mended : (d : Decoded) → r ≡ Some d → (d.flips ≡ 0 → ⊥) → None ≡ only_one (open_all l)
   only_mended d q n = rw (only_found, q, ne_eqb d.flips 0 n)
 
 -- ---- what is settled in the end: two that agree, or one alone where it is asked for
 module _ (ch : Choices) (hs : List Header) (s : Settlement) (e : s ≡ first_agreeing [] hs) where
-  pub settled_by_two : (c : ℕ) → s ≡ Settled c → Settled c ≡ settling ch hs
+  pub settled_by_two : (c : ℕ) → s ≡ Some c → Some c ≡ settling ch hs
   unfolding settling
   settled_by_two c q = rw (sym e ∙ q)
 
-  pub settled_alone : (o : Settlement) → s ≡ Unsettled → one_settles ch ≡ true → o ≡ only_one hs → o ≡ settling ch hs
+  pub settled_alone : (o : Settlement) → s ≡ None → one_settles ch ≡ true → o ≡ only_one hs → o ≡ settling ch hs
   unfolding settling
   settled_alone o q t eo = rw (sym e ∙ q, t) eo
 
-  pub settled_nothing : s ≡ Unsettled → one_settles ch ≡ false → Unsettled ≡ settling ch hs
+  pub settled_nothing : s ≡ None → one_settles ch ≡ false → None ≡ settling ch hs
   unfolding settling
   settled_nothing q t = rw (sym e ∙ q, t)

@@ -1,3 +1,4 @@
+pub mod Types
 pub mod Settling
 pub mod Laws
 pub mod Steps

@@ -1,28 +1,22 @@
 // Settings: what the readings of an utterance's headers settle.
 #![tactic(auto)]
 
-ghost use Rattle.std.specs.Prelude.{◌≡◌, [], ◌≤◌, ◌<◌, length, get_or};
-ghost use Rattle.header.specs.declared.Header.TheVariants.{Lost};
+ghost use Rattle.std.specs.Prelude.{◌≡◌, [], ◌≤◌, ◌<◌, length, get_or, None};
 ghost use Rattle.settling.specs.Settling.{among, first_agreeing, only_one, settling};
 ghost use Rattle.header_readings.specs.Stored.{open_all};
 ghost use Rattle.settling.specs.Steps.{seen_before, settled_by, has_common};
 
 use choices::Choices;
-use header::Header;
+use header::Decoded;
 use layout::Multiframe;
 
-// What the headers settle: common bits, SampRate, feType and EXP, as a message with its counter 0; or nothing.
-#[derive(Clone, Copy)]
-pub enum Settlement {
-    Settled { common: u16 },
-    Unsettled,
-}
+// What headers settle are common bits, SampRate, feType and EXP, as a message with its counter 0; or nothing.
 
 // Whether a header was read with these common bits.
-fn has_common(h: Header, common: u16) -> bool
+fn has_common(h: Option<Decoded>, common: u16) -> bool
     ensures { result ≡ has_common h common }
 {
-    let Header::Codeword(d) = h else {
+    let Some(d) = h else {
         return false;
     };
     common == message::common_of(d.message)
@@ -44,61 +38,59 @@ fn was_seen(headers: &[u32], k: Multiframe, common: u16) -> bool
 }
 
 // agreed gives what the header of multiframe k settles: its common bits, if an earlier readable one has the same.
-pub fn agreed(headers: &[u32], k: Multiframe) -> Settlement
+pub fn agreed(headers: &[u32], k: Multiframe) -> Option<u16>
     requires { k.0 < length headers.now }
-    ensures { result ≡ settled_by (get_or (open_all headers.now) k.0 Lost) (seen_before (open_all headers.now) k.0) }
+    ensures { result ≡ settled_by (get_or (open_all headers.now) k.0 None) (seen_before (open_all headers.now) k.0) }
 {
     let at = k.0;
-    let Header::Codeword(d) = header_readings::open_reading(headers[at]) else {
-        return Settlement::Unsettled;
+    let Some(d) = header_readings::open_reading(headers[at]) else {
+        return None;
     };
     let common = message::common_of(d.message);
     if was_seen(headers, k, common) {
-        return Settlement::Settled { common };
+        return Some(common);
     }
-    Settlement::Unsettled
+    None
 }
 
-fn first_agreeing(headers: &[u32]) -> Settlement
+fn first_agreeing(headers: &[u32]) -> Option<u16>
     ensures { result ≡ first_agreeing [] (open_all headers.now) }
 {
     let mut k = 0;
     while k < headers.len() {
-        if let Settlement::Settled { common } = agreed(headers, Multiframe(k)) {
-            return Settlement::Settled { common };
+        if let Some(common) = agreed(headers, Multiframe(k)) {
+            return Some(common);
         }
         k += 1;
     }
-    Settlement::Unsettled
+    None
 }
 
 // An only header settles its common bits if it is itself a codeword (house). settle asks only where the caller does.
-fn only_one(headers: &[u32]) -> Settlement
+fn only_one(headers: &[u32]) -> Option<u16>
     ensures { result ≡ only_one (open_all headers.now) }
 {
     if headers.len() != 1 {
-        return Settlement::Unsettled;
+        return None;
     }
-    let Header::Codeword(d) = header_readings::open_reading(headers[0]) else {
-        return Settlement::Unsettled;
+    let Some(d) = header_readings::open_reading(headers[0]) else {
+        return None;
     };
     if d.flips == 0 {
-        return Settlement::Settled {
-            common: message::common_of(d.message),
-        };
+        return Some(message::common_of(d.message));
     }
-    Settlement::Unsettled
+    None
 }
 
 // settle gives what the readings of all headers settle. One header alone settles only where the caller asks for it (02, C-20).
-pub fn settle(headers: &[u32], choices: Choices) -> Settlement
+pub fn settle(headers: &[u32], choices: Choices) -> Option<u16>
     ensures { result ≡ settling choices (open_all headers.now) }
 {
-    if let Settlement::Settled { common } = first_agreeing(headers) {
-        return Settlement::Settled { common };
+    if let Some(common) = first_agreeing(headers) {
+        return Some(common);
     }
     if choices.one_header_settles {
         return only_one(headers);
     }
-    Settlement::Unsettled
+    None
 }

@@ -1,7 +1,7 @@
 -- What a dispatcher would ask of settings that come before the end (02, C-11): the octets behind the settling multiframe do not count, a longer
 -- recording gives the same answer once it settled, and each refusal comes where it must.
 -- Assumes nothing.
-use Rattle.std.specs.Prelude.{ℕ, suc, ◌+◌, ◌-◌, ◌≤◌, ◌<◌, Bool, length, get_or, take, drop, eqb}
+use Rattle.std.specs.Prelude.{ℕ, suc, ◌+◌, ◌-◌, ◌≤◌, ◌<◌, Bool, length, get_or, take, drop, eqb, Some, None, Ok, Err}
 use Rattle.std.proofs.Math.Path.{◌≡◌, refl, ap, sym}
 use Rattle.std.proofs.Common.{◌∙◌, subst, take-append-drop, take-take, take_at, length-take-le, arith}
 use mathlib.Core.List.{List, [], ◌++◌, append-nil}
@@ -19,7 +19,7 @@ use Rattle.message.specs.Message.{rate_of, type_of, settings_of}
 use Rattle.message.specs.Message.Laws.{rate_lt, type_lt}
 use Rattle.refusals.specs.declared.Reading.{Reading as Refusal}
 use Rattle.refusals.specs.declared.Reading.TheVariants.{WrongTables, NegativeThreshold, Unknown, CutShort, Empty, TooMany, Unsettled, Unfit, IndexShort, ReportShort, AllBad}
-use Rattle.header.specs.declared.Header.{Header}
+use Rattle.header.specs.Types.{Header}
 use Rattle.cutting.specs.Cutting.{Ending, whole, refused, Cutting, ended, walk, cutting}
 use Rattle.cutting.proofs.Laws.{places_placed, at_most_255}
 use Rattle.cutting.specs.Reached.{Reason}
@@ -30,11 +30,9 @@ use Rattle.unfit.specs.Unfit.{unfit}
 use Rattle.header_readings.specs.Laws.{length_readings}
 use Rattle.settling.proofs.Laws.{not_one}
 use Rattle.unfit.specs.Laws.{Usable, Unusable, fit_is, unfit_is, fit_says}
-use Rattle.settling.specs.declared.Settlement.{Settlement}
-use Rattle.settling.specs.declared.Settlement.TheVariants as S
+use Rattle.settling.specs.Types.{Settlement}
 use Rattle.until_settled.specs.declared.Beginning.{Beginning}
-use Rattle.until_settled.specs.declared.Answer.{Answer}
-use Rattle.until_settled.specs.declared.Answer.TheVariants.{Read, Refused}
+use Rattle.until_settled.specs.Types.{Answer}
 use Rattle.until_settled.specs.UntilSettled.{read_until, settled_answer, end_answer, unsettled_answer, answer_by, until_settled}
 use Rattle.until_settled.proofs.Agreeing.{front_settles, front_enough, two_read, not_before}
 use Rattle.until_settled.specs.Front.{Front, got, goes, front_place, same_front, same_readings, readings_more}
@@ -49,14 +47,14 @@ module _ (ch : Choices) (s : List ℕ) {p : ℕ} {ps : List ℕ} (f : Front s p 
   all_readings = ap (readings s) (goes s f).all ∙ readings_more s ps rest.places
 
   -- two headers in front that agree make the answer, whatever stands behind
-  pub settles_here : (c : ℕ) → first_agreeing [] (readings s ps) ≡ S.Settled c → settled_answer (read_until [] (readings s ps)) (S.Settled c) ≡ until_settled ch s
+  pub settles_here : (c : ℕ) → first_agreeing [] (readings s ps) ≡ Some c → settled_answer (read_until [] (readings s ps)) (Some c) ≡ until_settled ch s
   unfolding until_settled
   settles_here c e =
       let g = front_settles [] (readings s ps) (readings s rest.places) c e in
       sym (ap (λ (hs : List Header). answer_by ch (length s) hs (cutting s).ending (first_agreeing [] hs)) all_readings ∙ rw (g.0, g.1))
 
   -- where cutting ends and no two agree, it makes the answer
-  pub ends_here : (e : Ending) → rest ≡ ended e → first_agreeing [] (readings s ps) ≡ S.Unsettled → unsettled_answer ch (length s) (readings s ps) e ≡ until_settled ch s
+  pub ends_here : (e : Ending) → rest ≡ ended e → first_agreeing [] (readings s ps) ≡ None → unsettled_answer ch (length s) (readings s ps) e ≡ until_settled ch s
   unfolding until_settled readings
   ends_here e w none =
       let nothing : rest.places ≡ [] = ap (λ (v : Cutting). v.places) w in
@@ -88,7 +86,7 @@ module _ (s : List ℕ) (c : ℕ) (a : Agreed s c) where
   pub end_inside : settling_end s ≤ length s
   end_inside = places_placed s (m - 1) (omega (arith, few.0, few.1))
 
-  settles_there : first_agreeing [] (readings s ps) ≡ S.Settled c
+  settles_there : first_agreeing [] (readings s ps) ≡ Some c
   settles_there = ap (first_agreeing []) (sym (first_of s (cutting s).places m few.1)) ∙ (front_enough [] (headers s) c a).0
 
   -- THE ANSWER DOES NOT DEPEND ON OCTETS BEHIND THE SETTLING MULTIFRAME: any octets that begin as these do, up to its end, have the same answer
@@ -97,7 +95,7 @@ module _ (s : List ℕ) (c : ℕ) (a : Agreed s c) where
       let q = settling_end s in
       let g = same_front s t q end_inside e settling_front (omega arith) in
       let r = same_readings s t q end_inside e settling_front (omega arith) in
-      sym (settles_here ch t g c (ap (first_agreeing []) r ∙ settles_there)) ∙ ap (λ (hs : List Header). settled_answer (read_until [] hs) (S.Settled c)) r ∙ settles_here ch s settling_front c settles_there
+      sym (settles_here ch t g c (ap (first_agreeing []) r ∙ settles_there)) ∙ ap (λ (hs : List Header). settled_answer (read_until [] hs) (Some c)) r ∙ settles_here ch s settling_front c settles_there
 
   -- A LONGER RECORDING THAT BEGINS WITH THE SAME OCTETS GIVES THE SAME ANSWER
   pub longer : (ch : Choices) (more : List ℕ) → until_settled ch (s ++ more) ≡ until_settled ch s
@@ -117,23 +115,23 @@ module _ (s : List ℕ) (c : ℕ) (a : Agreed s c) where
   at_least_two = two_read (headers s) c a
 
   -- the settings, or 17 at once
-  pub settled_read : (ch : Choices) → Usable c → until_settled ch s ≡ Read (record { settings = settings_of c; multiframes = multiframes_read s })
+  pub settled_read : (ch : Choices) → Usable c → until_settled ch s ≡ Ok (record { settings = settings_of c; multiframes = multiframes_read s })
   unfolding until_settled
   settled_read ch u = rw (a, fit_is c u)
 
-  pub settled_unfit : (ch : Choices) → Unusable c → until_settled ch s ≡ Refused Unfit
+  pub settled_unfit : (ch : Choices) → Unusable c → until_settled ch s ≡ Err Unfit
   unfolding until_settled
   settled_unfit ch u = rw (a, unfit_is c u)
 
 -- ---- no two headers agree
-module _ (ch : Choices) (s : List ℕ) (none : first_agreeing [] (headers s) ≡ S.Unsettled) where
+module _ (ch : Choices) (s : List ℕ) (none : first_agreeing [] (headers s) ≡ None) where
   -- 12, 13 AND 15 AS CUTTING MEETS THEM, whatever was chosen: an only multiframe is not known to be the only one before the octets end
-  pub refuses_cut : (r : Refusal) → (cutting s).ending ≡ refused r → until_settled ch s ≡ Refused r
+  pub refuses_cut : (r : Refusal) → (cutting s).ending ≡ refused r → until_settled ch s ≡ Err r
   unfolding until_settled
   refuses_cut r e = rw (none, e)
 
   -- 14
-  pub refuses_empty : (cutting s).ending ≡ whole → length (cutting s).places ≡ 0 → until_settled ch s ≡ Refused (Empty (length s))
+  pub refuses_empty : (cutting s).ending ≡ whole → length (cutting s).places ≡ 0 → until_settled ch s ≡ Err (Empty (length s))
   unfolding until_settled end_answer
   refuses_empty e z = rw (none, e, eq-eqb (length (headers s)) 0 (length_readings s (cutting s).places ∙ z))
 
@@ -156,7 +154,7 @@ module _ (s : List ℕ) (c : ℕ) (a : Agreed s c) (k : ℕ) (cut : k < settling
   long : k ≤ length s
   long = omega (arith, end_inside s c a)
 
-  none_met : length qs ≡ 0 → first_agreeing [] (headers t) ≡ S.Unsettled
+  none_met : length qs ≡ 0 → first_agreeing [] (headers t) ≡ None
   unfolding first_agreeing readings
   none_met z = rw z
 
@@ -197,14 +195,14 @@ module _ (s : List ℕ) (c : ℕ) (a : Agreed s c) (k : ℕ) (cut : k < settling
               absurd (omega (arith, within))
         ]
 
-    some_met : first_agreeing [] (headers t) ≡ S.Unsettled
+    some_met : first_agreeing [] (headers t) ≡ None
     some_met =
         let front : take (length qs) (headers s) ≡ readings s qs =
         ap (take (length qs)) (ap (readings s) (goes s also).all ∙ readings_more s qs (walk 0 (drop q s) q (length qs)).places)
         ∙ take_at (readings s qs) (readings s (walk 0 (drop q s) q (length qs)).places) (length qs) (length_readings s qs) in
         ap (first_agreeing []) (sym (front ∙ read_alike)) ∙ not_before [] (headers s) (length qs) fewer
 
-  pub no_sooner : first_agreeing [] (headers (take k s)) ≡ S.Unsettled
+  pub no_sooner : first_agreeing [] (headers (take k s)) ≡ None
   no_sooner =
       elim (dec_lt 0 (length qs)) [
         | yes y ↦ some_met (omega arith)
@@ -212,8 +210,8 @@ module _ (s : List ℕ) (c : ℕ) (a : Agreed s c) (k : ℕ) (cut : k < settling
       ]
 
 abbrev AnswerComes : Answer → Type 0
-AnswerComes (Read b) = Unit
-AnswerComes (Refused r) = Comes r
+AnswerComes (Ok b) = Unit
+AnswerComes (Err r) = Comes r
 
 reason_comes : (s : List ℕ) (r : Refusal) → Reason s r → Comes r
 reason_comes s WrongTables h = h
@@ -229,8 +227,8 @@ reason_comes s (ReportShort n) h = h
 reason_comes s AllBad h = h
 
 settled_comes : (m : ℕ) (x : Settlement) → AnswerComes (settled_answer m x)
-settled_comes m (S.Settled c) = by_test AnswerComes (unfit c) (λ e. tt) (λ e. tt)
-settled_comes m S.Unsettled = tt
+settled_comes m (Some c) = by_test AnswerComes (unfit c) (λ e. tt) (λ e. tt)
+settled_comes m None = tt
 
 module _ (ch : Choices) (s : List ℕ) where
   ending_comes : (e : Ending) → (cutting s).ending ≡ e → AnswerComes (unsettled_answer ch (length s) (headers s) e)
@@ -239,48 +237,48 @@ module _ (ch : Choices) (s : List ℕ) where
   ending_comes whole e = by_test AnswerComes (eqb (length (headers s)) 0) (λ z. tt) (λ z. settled_comes (length (headers s)) (settling ch (headers s)))
 
   answer_comes : (x : Settlement) → AnswerComes (answer_by ch (length s) (headers s) (cutting s).ending x)
-  answer_comes (S.Settled c) = settled_comes (multiframes_read s) (S.Settled c)
-  answer_comes S.Unsettled = ending_comes (cutting s).ending refl
+  answer_comes (Some c) = settled_comes (multiframes_read s) (Some c)
+  answer_comes None = ending_comes (cutting s).ending refl
 
   comes_by : AnswerComes (until_settled ch s)
   unfolding until_settled
   comes_by = answer_comes (first_agreeing [] (headers s))
 
-  pub comes : (r : Refusal) → until_settled ch s ≡ Refused r → Comes r
+  pub comes : (r : Refusal) → until_settled ch s ≡ Err r → Comes r
   comes r e = subst AnswerComes e comes_by
 
 -- ---- what is answered at all
 module _ (ch : Choices) (s : List ℕ) where
   -- which settings, of how many multiframes: settled bits that can be used, of those that cutting met, one at least
   abbrev ReadSays : Answer → Type 0
-  ReadSays (Refused r) = Unit
-  ReadSays (Read b) = (1 ≤ b.multiframes) × (b.multiframes ≤ length (cutting s).places) × ((c : ℕ) × ((settling ch (headers s) ≡ S.Settled c) × Usable c × (b.settings ≡ settings_of c)))
+  ReadSays (Err r) = Unit
+  ReadSays (Ok b) = (1 ≤ b.multiframes) × (b.multiframes ≤ length (cutting s).places) × ((c : ℕ) × ((settling ch (headers s) ≡ Some c) × Usable c × (b.settings ≡ settings_of c)))
 
-  settled_says : (m c : ℕ) → 1 ≤ m → m ≤ length (cutting s).places → settling ch (headers s) ≡ S.Settled c → ReadSays (settled_answer m (S.Settled c))
+  settled_says : (m c : ℕ) → 1 ≤ m → m ≤ length (cutting s).places → settling ch (headers s) ≡ Some c → ReadSays (settled_answer m (Some c))
   settled_says m c some most e = by_test ReadSays (unfit c) (λ h. tt) (λ h. (some, most, (c, (e, fit_says c h, refl))))
 
   end_says : (x : Settlement) → settling ch (headers s) ≡ x → (length (headers s) ≡ 0 → ⊥) → ReadSays (settled_answer (length (headers s)) x)
-  end_says S.Unsettled e n = tt
-  end_says (S.Settled c) e n = settled_says (length (headers s)) c (omega (arith, n)) (omega (arith, length_readings s (cutting s).places)) e
+  end_says None e n = tt
+  end_says (Some c) e n = settled_says (length (headers s)) c (omega (arith, n)) (omega (arith, length_readings s (cutting s).places)) e
 
   answer_says : (x : Settlement) → first_agreeing [] (headers s) ≡ x → (e : Ending) → ReadSays (answer_by ch (length s) (headers s) e x)
   unfolding end_answer settling
-  answer_says (S.Settled c) a e =
+  answer_says (Some c) a e =
       let f = front_enough [] (headers s) c a in
       settled_says (multiframes_read s) c f.2 (subst (λ (k : ℕ). multiframes_read s ≤ k) (length_readings s (cutting s).places) f.1) (rw a)
-  answer_says S.Unsettled a (refused r) = tt
-  answer_says S.Unsettled a whole = by_test ReadSays (eqb (length (headers s)) 0) (λ z. tt) (λ z. end_says (settling ch (headers s)) refl (eqb-false (length (headers s)) 0 z))
+  answer_says None a (refused r) = tt
+  answer_says None a whole = by_test ReadSays (eqb (length (headers s)) 0) (λ z. tt) (λ z. end_says (settling ch (headers s)) refl (eqb-false (length (headers s)) 0 z))
 
   read_says : ReadSays (until_settled ch s)
   unfolding until_settled
   read_says = answer_says (first_agreeing [] (headers s)) refl (cutting s).ending
 
-  module _ (b : Beginning) (e : until_settled ch s ≡ Read b) where
-    said : ReadSays (Read b)
+  module _ (b : Beginning) (e : until_settled ch s ≡ Ok b) where
+    said : ReadSays (Ok b)
     said = subst ReadSays e read_says
 
     -- the settings are what all the headers that were met would settle, and can be used
-    pub read_settled : (c : ℕ) × ((settling ch (headers s) ≡ S.Settled c) × Usable c × (b.settings ≡ settings_of c))
+    pub read_settled : (c : ℕ) × ((settling ch (headers s) ≡ Some c) × Usable c × (b.settings ≡ settings_of c))
     read_settled = said.2
 
     -- they are settings that the writer takes: rate 0, 1 or 3, type 0 or 1
@@ -305,7 +303,7 @@ module _ (ch : Choices) (s : List ℕ) where
     unfolding until_settled
     read_count c a = by (unfit c) (rw a at e)
       where
-        by : (t : Bool) → when t (Refused Unfit) (Read (record { settings = settings_of c; multiframes = multiframes_read s })) ≡ Read b → b.multiframes ≡ multiframes_read s
+        by : (t : Bool) → when t (Err Unfit) (Ok (record { settings = settings_of c; multiframes = multiframes_read s })) ≡ Ok b → b.multiframes ≡ multiframes_read s
         by true q = absurd (let z : ◌≡◌ {A = ℕ} 0 1 = cc in omega arith)
         by false q = let y : ◌≡◌ {A = Beginning} (record { settings = settings_of c; multiframes = multiframes_read s }) b = cc in ap (λ (g : Beginning). g.multiframes) (sym y)
 
@@ -318,8 +316,8 @@ not_one_alike s n ch dh = by (first_agreeing [] (headers s)) refl (cutting s).en
     other e = n (sym (length_readings s (cutting s).places) ∙ e)
 
     by : (x : Settlement) → first_agreeing [] (headers s) ≡ x → (e : Ending) → answer_by ch (length s) (headers s) e x ≡ answer_by dh (length s) (headers s) e x
-    by (S.Settled c) a e = refl
-    by S.Unsettled a (refused r) = refl
-    by S.Unsettled a whole =
-        ap (λ (y : Settlement). when (eqb (length (headers s)) 0) (Refused (Empty (length s))) (settled_answer (length (headers s)) y))
+    by (Some c) a e = refl
+    by None a (refused r) = refl
+    by None a whole =
+        ap (λ (y : Settlement). when (eqb (length (headers s)) 0) (Err (Empty (length s))) (settled_answer (length (headers s)) y))
         (not_one ch (headers s) other ∙ sym (not_one dh (headers s) other))

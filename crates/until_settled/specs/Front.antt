@@ -13,7 +13,7 @@ use Rattle.layout.specs.Layout.{multiframe_octets, sync_octets, header_octets, m
 use Rattle.bits.specs.Bits.{value, bits}
 use Rattle.carrier.specs.Carrier.{header_word, word_at, in_places}
 use Rattle.header.specs.Reading.{reading}
-use Rattle.header.specs.declared.Header.{Header}
+use Rattle.header.specs.Types.{Header}
 use Rattle.cutting.specs.declared.Piece.{Piece}
 use Rattle.cutting.specs.declared.Piece.TheVariants.{End, Multiframe, Inverse, Unknown, CutShort, TooMany}
 use Rattle.cutting.specs.Cutting.{piece_of, Cutting, step, walk, cutting}

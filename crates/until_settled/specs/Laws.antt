@@ -1,16 +1,15 @@
 -- What the laws of settings that come before the end (02, C-11) speak of: headers that agree, where the settling multiframe ends, and the refusals that come.
 -- Assumes nothing.
-use Rattle.std.specs.Prelude.{ℕ, ◌+◌, ◌-◌, get_or}
+use Rattle.std.specs.Prelude.{ℕ, ◌+◌, ◌-◌, get_or, Some}
 use Rattle.std.proofs.Math.Path.{◌≡◌}
 use mathlib.Core.List.{List, []}
 use Rattle.layout.specs.Layout.{multiframe_octets}
 use Rattle.refusals.specs.declared.Reading.{Reading as Refusal}
 use Rattle.refusals.specs.declared.Reading.TheVariants.{WrongTables, NegativeThreshold, Unknown, CutShort, Empty, TooMany, Unsettled, Unfit, IndexShort, ReportShort, AllBad}
-use Rattle.header.specs.declared.Header.{Header}
+use Rattle.header.specs.Types.{Header}
 use Rattle.cutting.specs.Cutting.{cutting}
 use Rattle.header_readings.specs.Readings.{readings}
 use Rattle.settling.specs.Settling.{first_agreeing}
-use Rattle.settling.specs.declared.Settlement.TheVariants as S
 use Rattle.until_settled.specs.UntilSettled.{read_until}
 
 -- the headers of the multiframes that cutting meets, read
@@ -19,7 +18,7 @@ headers s = readings s (cutting s).places
 
 -- two of them agree, the first two in the common bits c
 abbrev pub Agreed : List ℕ → ℕ → Type 0
-Agreed s c = first_agreeing [] (headers s) ≡ S.Settled c
+Agreed s c = first_agreeing [] (headers s) ≡ Some c
 
 -- the number of multiframes that are read, and the octet behind the last of them, which settles
 abbrev pub multiframes_read : List ℕ → ℕ

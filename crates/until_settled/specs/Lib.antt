@@ -1,3 +1,4 @@
+pub mod Types
 pub mod UntilSettled
 pub mod Front
 pub mod Laws

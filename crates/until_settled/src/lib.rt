@@ -2,7 +2,6 @@
 // `until_settled` in specs/ says what is answered, for all octets and every choice; the crate beginning reads so.
 #![tactic(auto)]
 
-use refusals::Reading;
 use settings::Settings;
 
 // What the beginning of an utterance tells: the settled settings, and how many multiframes were read for them.
@@ -10,11 +9,4 @@ use settings::Settings;
 pub struct Beginning {
     pub settings: Settings,
     pub multiframes: usize,
-}
-
-// A refusal is one of the octet reader's 12 to 17.
-#[derive(Clone, Copy)]
-pub enum Answer {
-    Read(Beginning),
-    Refused(Reading),
 }

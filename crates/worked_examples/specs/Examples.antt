@@ -1,7 +1,7 @@
 -- The worked examples of 01, "Examples at the edges", that are marked (P): one table, one line each, proved together.
 -- The header code is shut here: its examples come from its own laws. Those of the CRC and of replacing stand beside their definitions.
 -- Assumes nothing.
-use Rattle.std.specs.Prelude.{◌≡◌, refl, Bool, true, false, List, [], ◌∷◌, ◌++◌, ℕ, length, replicate}
+use Rattle.std.specs.Prelude.{◌≡◌, refl, Bool, true, false, List, [], ◌∷◌, ◌++◌, ℕ, length, replicate, None}
 use Rattle.std.proofs.Common.{ap, ◌∙◌, lit<}
 use Rattle.std.proofs.Math.Bool.{xor}
 use Rattle.std.specs.Int.Count.{ones}
@@ -12,7 +12,6 @@ use Rattle.message.specs.Message.{message}
 use Rattle.message.specs.Message.Laws.{message_counts, message_nothing, message_rate_1, message_exp_9}
 use Rattle.header.specs.Reading.{reading}
 use Rattle.header.proofs.Laws.{lost_at_three}
-use Rattle.header.specs.declared.Header.TheVariants.{Lost}
 use Rattle.layout.specs.Layout.{widths, data_bits, packet_bits}
 use Rattle.settings.specs.Settings.{settings}
 use Rattle.bits.specs.Bits.{field, laid}
@@ -45,7 +44,7 @@ pub record Table : Type 0 where
   pub halfway_octets : octets halfway ≡ 0x01 ∷ 0x00 ∷ 0x01 ∷ 0x01 ∷ []
   pub three_from_it : flips_to halfway (message (settings 1 0) 0 0) ≡ 3
   pub three_from_nothing : flips_to halfway (message (settings 0 0) 0 0) ≡ 3
-  pub halfway_lost : reading halfway ≡ Lost
+  pub halfway_lost : reading halfway ≡ None
   -- "EXP9 alone: 00 80 80 E8."
   pub exp_9_alone : octets (codeword (message (settings 0 0) 0 256)) ≡ 0x00 ∷ 0x80 ∷ 0x80 ∷ 0xE8 ∷ []
   -- "Frame 1,0,0,0,0,0,0 with a zero frame: the CRC is the single term X, stream bit 90."

@@ -1,6 +1,6 @@
 -- Laws of the writer's definitions: answers, and what an accepted utterance has.
 -- Assumes nothing.
-use Rattle.std.specs.Prelude.{◌≡◌, true, false, List, ℕ, ◌%◌, ◌≤◌, ◌<◌, length, eqb, ltb}
+use Rattle.std.specs.Prelude.{◌≡◌, true, false, List, ℕ, ◌%◌, ◌≤◌, ◌<◌, length, eqb, ltb, Ok, Err}
 use Rattle.std.proofs.Math.Path.{refl, ap}
 use Rattle.std.proofs.Common.{◌∙◌, arith}
 use borrow.Author.Tests.{eq-eqb, ne_eqb, lt-ltb, le-ltb, eqb-true, ltb-false}
@@ -11,22 +11,21 @@ use Rattle.settings.specs.Settings.{settings_right}
 use Rattle.layout.specs.Layout.{frame_indices, most_frames, most_multiframes}
 use Rattle.wrong_frames.specs.WrongFrames.{frame_count, first_wide, first_early}
 use Rattle.writer.specs.Writing.{room_answer, early_answer, wide_answer, needed, verdict, multiframes_for}
-use Rattle.writer.specs.declared.Answer.{Answer}
+use Rattle.writer.specs.Types.{Answer}
 use Rattle.refusals.specs.declared.Writing.TheVariants.{WrongSettings, PartFrame, TooMany, WideIndex, ZeroFrame, OutputShort}
-use Rattle.writer.specs.declared.Answer.TheVariants.{Written, Refused}
 use Rattle.writer.specs.Laws.{Accepted, Sized}
 
 module _ (settings : Settings) (idx : List ℕ) (out : ℕ) where
-  pub refuses_settings : settings_right settings ≡ false → verdict settings idx out ≡ Refused WrongSettings
+  pub refuses_settings : settings_right settings ≡ false → verdict settings idx out ≡ Err WrongSettings
   unfolding verdict
   refuses_settings e = rw e
 
-  pub refuses_part : settings_right settings ≡ true → (length idx % frame_indices ≡ 0 → ⊥) → verdict settings idx out ≡ Refused (PartFrame (length idx))
+  pub refuses_part : settings_right settings ≡ true → (length idx % frame_indices ≡ 0 → ⊥) → verdict settings idx out ≡ Err (PartFrame (length idx))
   unfolding verdict
   refuses_part e n = rw (e, ne_eqb (length idx % frame_indices) 0 n)
 
   pub refuses_many : settings_right settings ≡ true → length idx % frame_indices ≡ 0 → most_frames < frame_count idx
-      → verdict settings idx out ≡ Refused (TooMany (frame_count idx))
+      → verdict settings idx out ≡ Err (TooMany (frame_count idx))
   unfolding verdict
   refuses_many e w h = rw (e, eq-eqb (length idx % frame_indices) 0 w, lt-ltb most_frames (frame_count idx) h)
 
@@ -34,30 +33,30 @@ module _ (settings : Settings) (idx : List ℕ) (out : ℕ) where
   unfolding verdict
   sized s = rw (s.right, eq-eqb (length idx % frame_indices) 0 s.whole, le-ltb most_frames (frame_count idx) s.few)
 
-  pub refuses_wide : Sized settings idx → (k : ℕ) → first_wide idx ≡ at k → verdict settings idx out ≡ Refused (WideIndex (record { 0 = k }))
+  pub refuses_wide : Sized settings idx → (k : ℕ) → first_wide idx ≡ at k → verdict settings idx out ≡ Err (WideIndex (record { 0 = k }))
   refuses_wide s k e = sized s ∙ ap (wide_answer out (needed idx) (first_early idx)) e
 
   narrow : Sized settings idx → first_wide idx ≡ nowhere → verdict settings idx out ≡ early_answer out (needed idx) (first_early idx)
   narrow s e = sized s ∙ ap (wide_answer out (needed idx) (first_early idx)) e
 
   pub refuses_zero : Sized settings idx → first_wide idx ≡ nowhere → (k : ℕ) → first_early idx ≡ at k
-      → verdict settings idx out ≡ Refused (ZeroFrame (record { 0 = k }))
+      → verdict settings idx out ≡ Err (ZeroFrame (record { 0 = k }))
   refuses_zero s e k g = narrow s e ∙ ap (early_answer out (needed idx)) g
 
   pub refuses_short : Sized settings idx → first_wide idx ≡ nowhere → first_early idx ≡ nowhere → out < needed idx
-      → verdict settings idx out ≡ Refused (OutputShort (needed idx))
+      → verdict settings idx out ≡ Err (OutputShort (needed idx))
   unfolding room_answer
   refuses_short s e g h = narrow s e ∙ ap (early_answer out (needed idx)) g ∙ rw (lt-ltb out (needed idx) h)
 
   pub accepts : Sized settings idx → first_wide idx ≡ nowhere → first_early idx ≡ nowhere → needed idx ≤ out
-      → verdict settings idx out ≡ Written (needed idx)
+      → verdict settings idx out ≡ Ok (needed idx)
   unfolding room_answer
   accepts s e g h = narrow s e ∙ ap (early_answer out (needed idx)) g ∙ rw (le-ltb out (needed idx) h)
 
 module _ (settings : Settings) (idx : List ℕ) (out : ℕ) where
   abbrev AcceptedBy : Answer → Type 0
-  AcceptedBy (Written n) = Accepted settings idx out n
-  AcceptedBy (Refused r) = Unit
+  AcceptedBy (Ok n) = Accepted settings idx out n
+  AcceptedBy (Err r) = Unit
 
   accepted_by : AcceptedBy (verdict settings idx out)
   unfolding verdict room_answer
@@ -78,7 +77,7 @@ module _ (settings : Settings) (idx : List ℕ) (out : ℕ) where
       wide (at k) e z = tt
       wide nowhere e z = early (first_early idx) refl e z
 
-  pub accepted : (n : ℕ) → verdict settings idx out ≡ Written n → Accepted settings idx out n
+  pub accepted : (n : ℕ) → verdict settings idx out ≡ Ok n → Accepted settings idx out n
   accepted n e = rw e at accepted_by
 
 -- 6,119 frames are 255 multiframes, and no accepted utterance has more

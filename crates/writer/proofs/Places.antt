@@ -1,5 +1,6 @@
 -- Every place fits 64 bits, since the number of index octets does and no other place is larger than an image: by the tests of the verdict, one by one.
 -- Assumes nothing.
+use Rattle.std.specs.Prelude.{Ok, Err}
 use mathlib.Core.Path.{◌≡◌, sym, ap, subst}
 use mathlib.Core.List.{List}
 use Prim.Native.Nat.{ℕ, ◌%◌, ◌^◌, ◌≤◌, ◌<◌}
@@ -14,8 +15,7 @@ use Rattle.settings.specs.Settings.{settings_right}
 use Rattle.layout.specs.Layout.{frame_indices, most_frames}
 use Rattle.wrong_frames.specs.WrongFrames.{frame_count, is_wide, ends_early, first_wide, first_early}
 use Rattle.writer.specs.Writing.{number_of, place_of, room_answer, early_answer, wide_answer, needed, verdict, Outcome, finished, writing}
-use Rattle.writer.specs.declared.Answer.{Answer}
-use Rattle.writer.specs.declared.Answer.TheVariants.{Written, Refused}
+use Rattle.writer.specs.Types.{Answer}
 
 module _ (settings : Settings) (idx : List ℕ) (out : ℕ) (octets_fit : length idx < 2 ^ 64) where
   abbrev Fits : Answer → Type 0
@@ -43,8 +43,8 @@ unfolding writing
 place_fits settings idx out h = by (verdict settings idx (length out)) (verdict_fits settings idx (length out) h)
   where
     by : (a : Answer) → place_of a < 2 ^ 64 → place_of (finished settings idx out a).answer < 2 ^ 64
-    by (Written n) f = f
-    by (Refused r) f = f
+    by (Ok n) f = f
+    by (Err r) f = f
 
 -- what `writing` says of answer and output, it says of 01's number and place, and the place fits
 pub in_numbers : (settings : Settings) (idx out : List ℕ) {o : Outcome} → length idx < 2 ^ 64 → o ≡ writing settings idx out

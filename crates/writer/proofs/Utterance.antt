@@ -1,6 +1,6 @@
 -- The image of an accepted utterance is the image of no other (01, "Writing").
 -- Assumes nothing.
-use Rattle.std.specs.Prelude.{◌≡◌, refl, true, List, ℕ, zero, suc, ◌+◌, ◌-◌, ◌*◌, ◌/◌, ◌%◌, ◌^◌, ◌≤◌, ◌<◌, length, get_or}
+use Rattle.std.specs.Prelude.{◌≡◌, refl, true, List, ℕ, zero, suc, ◌+◌, ◌-◌, ◌*◌, ◌/◌, ◌%◌, ◌^◌, ◌≤◌, ◌<◌, length, get_or, Ok, Err}
 use Rattle.std.proofs.Common.{sym, ap, ◌∙◌, subst, arith, pow_pos, ext_get_or}
 use Rattle.std.proofs.Math.Decide.{ℕ_discrete, dec_lt}
 use Rattle.std.proofs.Math.ListN.{get_or-eq_default}
@@ -22,9 +22,8 @@ use Rattle.writer.specs.Writing.{multiframes_for, needed, verdict, outcome, fini
 use Rattle.writer.specs.Laws.{Accepted}
 use Rattle.writer.proofs.Accepted.{narrow, last_speaks}
 use Rattle.writer.proofs.Laws.{accepted, accepts}
-use Rattle.writer.specs.declared.Answer.{Answer}
+use Rattle.writer.specs.Types.{Answer}
 use Rattle.refusals.specs.declared.Writing.{Writing as Refusal}
-use Rattle.writer.specs.declared.Answer.TheVariants.{Written, Refused}
 use Rattle.writer.specs.Utterance.{Utterance, image_of, multiframes_of, pairs_of}
 
 module _ (settings : Settings) (idx : List ℕ) (out n : ℕ) (a : Accepted settings idx out n) where
@@ -64,7 +63,7 @@ module _ (u : Utterance) where
 
   -- the writer's answer and output, whatever is lent, if it is enough
   pub writes : (out : List ℕ) → needed u.indices ≤ length out
-      → writing u.settings u.indices out ≡ outcome (Written (needed u.indices)) (over out 0 (needed u.indices) (image_of u))
+      → writing u.settings u.indices out ≡ outcome (Ok (needed u.indices)) (over out 0 (needed u.indices) (image_of u))
   unfolding writing
   writes out room =
       let a = is_accepted in
@@ -90,7 +89,7 @@ module _ (u : Utterance) where
   fits_each_frame = fits u.settings u.indices (needed u.indices) (needed u.indices) is_accepted u.small
 
 -- what the writer answered with some room, it would with just enough
-pub utterance : (settings : Settings) (indices : List ℕ) (out n : ℕ) → Small indices → verdict settings indices out ≡ Written n → Utterance
+pub utterance : (settings : Settings) (indices : List ℕ) (out n : ℕ) → Small indices → verdict settings indices out ≡ Ok n → Utterance
 utterance settings indices out n small e =
     let a = accepted settings indices out n e in
     record {
@@ -173,17 +172,17 @@ same_image u v e = (s, same_indices u v count packets)
         ∙ image_packet v.settings v.indices (multiframes_of v) q (omega (arith, count))
 
 -- ---- what success says: the octets needed, and the image over the output's front
-pub success : (settings : Settings) (idx out : List ℕ) (n : ℕ) → (writing settings idx out).answer ≡ Written n
+pub success : (settings : Settings) (idx out : List ℕ) (n : ℕ) → (writing settings idx out).answer ≡ Ok n
     → (n ≡ needed idx) × ((writing settings idx out).output ≡ over out 0 n (image settings idx (multiframes_for (frame_count idx))))
 unfolding writing
 success settings idx out n e = by (verdict settings idx (length out)) refl e
   where
-    by : (v : Answer) → verdict settings idx (length out) ≡ v → (finished settings idx out v).answer ≡ Written n
+    by : (v : Answer) → verdict settings idx (length out) ≡ v → (finished settings idx out v).answer ≡ Ok n
         → (n ≡ needed idx) × ((finished settings idx out (verdict settings idx (length out))).output ≡ over out 0 n (image settings idx (multiframes_for (frame_count idx))))
-    by (Refused r) f e = absurd (other r e)
+    by (Err r) f e = absurd (other r e)
       where
-        other : (r : Refusal) → Refused r ≡ Written n → ⊥
+        other : (r : Refusal) → Err r ≡ Ok n → ⊥
         other r e = let z : ◌≡◌ {A = ℕ} 0 1 = cc in omega arith
-    by (Written k) f e =
-        let g : verdict settings idx (length out) ≡ Written n = f ∙ e in
+    by (Ok k) f e =
+        let g : verdict settings idx (length out) ≡ Ok n = f ∙ e in
         ((accepted settings idx (length out) n g).octets_needed, ap (λ (v : Answer). (finished settings idx out v).output) g)

@@ -1,3 +1,4 @@
+pub mod Types
 pub mod Writing
 pub mod Laws
 pub mod Utterance

@@ -1,20 +1,19 @@
 -- An utterance that the writer accepts, and its image (01, "Writing").
 -- Assumes nothing.
-use Rattle.std.specs.Prelude.{◌≡◌, List, ℕ, ◌*◌}
+use Rattle.std.specs.Prelude.{◌≡◌, List, ℕ, ◌*◌, Ok}
 use Rattle.settings.specs.declared.Settings.{Settings}
 use Rattle.layout.specs.Layout.{multiframe_pairs}
 use Rattle.image.specs.Image.{image}
 use Rattle.image.specs.Made.{Small}
 use Rattle.wrong_frames.specs.WrongFrames.{frame_count}
 use Rattle.writer.specs.Writing.{multiframes_for, needed, verdict}
-use Rattle.writer.specs.declared.Answer.TheVariants.{Written}
 
 -- ---- an utterance that the writer accepts, given room for its image
 pub record Utterance : Type 0 where
   pub settings : Settings
   pub indices : List ℕ
   pub small : Small indices
-  pub written : verdict settings indices (needed indices) ≡ Written (needed indices)
+  pub written : verdict settings indices (needed indices) ≡ Ok (needed indices)
 
 module _ (u : Utterance) where
   abbrev pub multiframes_of : ℕ

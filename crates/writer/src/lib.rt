@@ -8,79 +8,68 @@ use layout::{FrameLayout, MultiframeLayout, UtteranceLayout};
 use packing::Frames;
 use refusals::{Refusal, Writing};
 use settings::Settings;
-use wrong_frames::Found;
-
-#[derive(Clone, Copy)]
-pub enum Answer {
-    Written { octets: usize },
-    Refused(Writing),
-}
 
 // Every refusal, in 01's order. Nothing that can be written is lent, so that a refusal can change nothing.
-fn decide(settings: Settings, indices: &[u8], room: usize) -> Answer
+fn decide(settings: Settings, indices: &[u8], room: usize) -> Result<usize, Writing>
     ensures { result ≡ verdict settings indices.now room }
 {
     if !settings.is_right() {
-        return Answer::Refused(Writing::WrongSettings);
+        return Err(Writing::WrongSettings);
     }
     if indices.len() % FrameLayout::INDICES != 0 {
-        return Answer::Refused(Writing::PartFrame {
+        return Err(Writing::PartFrame {
             octets: indices.len(),
         });
     }
     let frames = indices.len() / FrameLayout::INDICES;
     if UtteranceLayout::FRAMES < frames {
-        return Answer::Refused(Writing::TooMany { frames });
+        return Err(Writing::TooMany { frames });
     }
-    if let Found::At(f) = wrong_frames::first_wide(indices) {
-        return Answer::Refused(Writing::WideIndex { frame: f });
+    if let Some(f) = wrong_frames::first_wide(indices) {
+        return Err(Writing::WideIndex { frame: f });
     }
-    if let Found::At(f) = wrong_frames::first_early(indices) {
-        return Answer::Refused(Writing::ZeroFrame { frame: f });
+    if let Some(f) = wrong_frames::first_early(indices) {
+        return Err(Writing::ZeroFrame { frame: f });
     }
     let needed = MultiframeLayout::OCTETS * (frames / MultiframeLayout::FRAMES + 1);
     if room < needed {
-        return Answer::Refused(Writing::OutputShort { needed });
+        return Err(Writing::OutputShort { needed });
     }
-    Answer::Written { octets: needed }
+    Ok(needed)
 }
 
 // write puts the utterance of these settings and index octets, seven a frame, into the front of out as multiframes and answers the number
 // of octets written; octets beyond stay. Or it refuses, in 01's order, and every octet of out is as it came. 01's number and place of the
 // answer are those of the definition.
-pub fn write(settings: Settings, indices: &[u8], out: &mut [u8]) -> Answer
+pub fn write(settings: Settings, indices: &[u8], out: &mut [u8]) -> Result<usize, Writing>
     ensures all { outcome result out.new ≡ writing settings indices.now out.old }
     ensures number { number_of result ≡ number_of (writing settings indices.now out.old).answer }
     ensures place { place_of result ≡ place_of (writing settings indices.now out.old).answer }
     ensures fits { place_of result < 2 ^ 64 }
 {
-    match decide(settings, indices, out.len()) {
-        Answer::Written { octets } => {
-            let frames = Frames { octets: indices };
-            image::put_image(settings, frames, octets / MultiframeLayout::OCTETS, out);
-            Answer::Written { octets }
-        }
-        Answer::Refused(r) => Answer::Refused(r),
-    }
+    let octets = decide(settings, indices, out.len())?;
+    let frames = Frames { octets: indices };
+    image::put_image(settings, frames, octets / MultiframeLayout::OCTETS, out);
+    Ok(octets)
 }
 
 // number_of gives 01's number of an answer: that of success, or the refusal's.
-pub fn number_of(a: Answer) -> u32
+pub fn number_of(a: Result<usize, Writing>) -> u32
     ensures { result ≡ number_of a }
 {
     match a {
-        Answer::Written { octets: _ } => refusals::SUCCESS,
-        Answer::Refused(r) => r.number(),
+        Ok(_) => refusals::SUCCESS,
+        Err(r) => r.number(),
     }
 }
 
 // place_of gives the octets written, or 01's place of a refusal. It asks for a number that fits, as every answer of write has.
-pub fn place_of(a: Answer) -> usize
+pub fn place_of(a: Result<usize, Writing>) -> usize
     requires { place_of a < 2 ^ 64 }
     ensures { result ≡ place_of a }
 {
     match a {
-        Answer::Written { octets } => octets,
-        Answer::Refused(r) => r.place(),
+        Ok(octets) => octets,
+        Err(r) => r.place(),
     }
 }

@@ -1,18 +1,17 @@
 -- What the searches find, and when a zero frame ends an utterance too early.
 -- Assumes nothing.
-use Rattle.std.specs.Prelude.{◌≡◌, false, List, ℕ, ◌+◌, ◌%◌}
+use Rattle.std.specs.Prelude.{◌≡◌, false, List, ℕ, ◌+◌, ◌%◌, Some, None}
 use Rattle.std.proofs.Common.{eq-eqb, ne_eqb}
 use Rattle.lists.specs.Search.{Search, at, nowhere}
 use Rattle.layout.specs.Layout.{multiframe_frames}
 use Rattle.frames.specs.Frames.{zero_frame}
 use Rattle.wrong_frames.specs.WrongFrames.{frame_count, ends_early}
-use Rattle.wrong_frames.specs.declared.Found.{Found}
-use Rattle.wrong_frames.specs.declared.Found.TheVariants.{At, Nowhere}
+use Rattle.wrong_frames.specs.Types.{Found}
 
 -- what the code's search found
 abbrev pub found_as : Found → Search
-found_as (At f) = at f.0
-found_as Nowhere = nowhere
+found_as (Some f) = at f.0
+found_as None = nowhere
 
 -- ---- when a zero frame ends the utterance too early
 module _ (idx : List ℕ) (k : ℕ) where

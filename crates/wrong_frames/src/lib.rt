@@ -11,13 +11,6 @@ use layout::{Frame, FrameLayout, MultiframeLayout};
 // The largest index of six bits.
 const LARGEST: u8 = 63;
 
-// What a search over the frames finds: a frame, or none.
-#[derive(Clone, Copy)]
-pub enum Found {
-    At(Frame),
-    Nowhere,
-}
-
 // Is one of the first six indices of the frame above 63?
 fn is_wide(indices: &[u8], frame: Frame) -> bool
     requires { frame_indices * (frame.0 + 1) ≤ length indices.now }
@@ -48,27 +41,27 @@ fn ends_early(indices: &[u8], frame: Frame) -> bool
 }
 
 // first_wide gives the first frame with an index that is too large.
-pub fn first_wide(indices: &[u8]) -> Found
+pub fn first_wide(indices: &[u8]) -> Option<Frame>
     ensures { found_as result ≡ first_wide indices.now }
 {
     let frames = indices.len() / FrameLayout::INDICES;
     for k in 0..frames {
         if is_wide(indices, Frame(k)) {
-            return Found::At(Frame(k));
+            return Some(Frame(k));
         }
     }
-    Found::Nowhere
+    None
 }
 
 // first_early gives the first zero frame that must not be one.
-pub fn first_early(indices: &[u8]) -> Found
+pub fn first_early(indices: &[u8]) -> Option<Frame>
     ensures { found_as result ≡ first_early indices.now }
 {
     let frames = indices.len() / FrameLayout::INDICES;
     for k in 0..frames {
         if ends_early(indices, Frame(k)) {
-            return Found::At(Frame(k));
+            return Some(Frame(k));
         }
     }
-    Found::Nowhere
+    None
 }

@@ -3,9 +3,9 @@ use mathlib.Core.Path.{sym}
 use Rattle.entries.specs.Bits.{hunt_found, hunt_refused}
 use Rattle.answers.proofs.tell_hunted.Goals as goal
 
-pub returns-in-Found : goal.returns-in-Found
-returns-in-Found c = hunt_found _ _ _ _ _ (sym c.in-Found.is)
+pub returns-in-Ok : goal.returns-in-Ok
+returns-in-Ok c = hunt_found _ _ _ _ _ (sym c.in-Ok.is)
 
-pub returns-in-Refused : goal.returns-in-Refused
-returns-in-Refused c =
-    hunt_refused _ _ _ _ _ _ _ (sym c.in-Refused.is) c.number.ensures c.tested.ensures c.place.ensures
+pub returns-in-Err : goal.returns-in-Err
+returns-in-Err c =
+    hunt_refused _ _ _ _ _ _ _ (sym c.in-Err.is) c.number.ensures c.tested.ensures c.place.ensures

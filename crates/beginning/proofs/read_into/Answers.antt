@@ -49,14 +49,14 @@ pub agreed-requires : goal.agreed-requires
 agreed-requires c =
     last_inside _ _ (room_for_it c.args.choices c.args.octets.now c.loop-headers.headers c.loop-headers.p c.loop-headers.m c.loop-headers.invariant.0 (met c.args.octets.now c.loop-headers.p c.loop-headers.m Multiframe c.in-Multiframe.ensures) c.reading_at.result c.reading_at.ensures)
 
-pub overflow_add-m-in-Settled : goal.overflow_add-m-in-Settled
-overflow_add-m-in-Settled c =
+pub overflow_add-m-in-Some : goal.overflow_add-m-in-Some
+overflow_add-m-in-Some c =
     let few : c.loop-headers.m < most_multiframes = below c.args.choices c.args.octets.now c.loop-headers.headers c.loop-headers.p c.loop-headers.m c.loop-headers.invariant.0 (met c.args.octets.now c.loop-headers.p c.loop-headers.m Multiframe c.in-Multiframe.ensures) in omega arith
 
-pub returns-in-Settled : goal.returns-in-Settled
-returns-in-Settled c =
+pub returns-in-Some : goal.returns-in-Some
+returns-in-Some c =
     c.settled.ensures
-    ∙ settles c.args.choices c.args.octets.now c.loop-headers.headers c.loop-headers.p c.loop-headers.m c.loop-headers.invariant.0 (met c.args.octets.now c.loop-headers.p c.loop-headers.m Multiframe c.in-Multiframe.ensures) c.reading_at.result c.reading_at.ensures c.agreed.result c.agreed.ensures _ c.in-Settled.is
+    ∙ settles c.args.choices c.args.octets.now c.loop-headers.headers c.loop-headers.p c.loop-headers.m c.loop-headers.invariant.0 (met c.args.octets.now c.loop-headers.p c.loop-headers.m Multiframe c.in-Multiframe.ensures) c.reading_at.result c.reading_at.ensures c.agreed.result c.agreed.ensures _ c.in-Some.is
 
 pub overflow_add-p : goal.overflow_add-p
 overflow_add-p c =

@@ -16,19 +16,19 @@ returns-then-places-eq0-clause-answer c =
 pub returns-in_default-clause-answer : goal.returns-in_default-clause-answer
 returns-in_default-clause-answer c =
     decided_unsettled c.args.choices c.args.octets.now (tables_of c.args.codebook.now c.args.thresholds.now) c.args.index c.args.report c.args.places.now c.if-places-eq0.false c.read_headers.new.headers
-    (all_stored c.args.octets.now c.args.places.now c.args.headers.now c.read_headers.new.headers c.requires.placed.3 c.read_headers.ensures) c.settle.result c.settle.ensures c.in_default.not-Settled
+    (all_stored c.args.octets.now c.args.places.now c.args.headers.now c.read_headers.new.headers c.requires.placed.3 c.read_headers.ensures) c.settle.result c.settle.ensures c.in_default.not-Some
 
-pub returns-in-Refuse-clause-answer : goal.returns-in-Refuse-clause-answer
-returns-in-Refuse-clause-answer c =
+pub returns-in-Err-clause-answer : goal.returns-in-Err-clause-answer
+returns-in-Err-clause-answer c =
     decided_settled c.args.choices c.args.octets.now (tables_of c.args.codebook.now c.args.thresholds.now) c.args.index c.args.report c.args.places.now c.if-places-eq0.false c.read_headers.new.headers
-    (all_stored c.args.octets.now c.args.places.now c.args.headers.now c.read_headers.new.headers c.requires.placed.3 c.read_headers.ensures) c.settle.result c.settle.ensures _ _ c.in-Settled.is
-    (refused_early (length c.args.places.now) _ (pair_count c.args.places.now) c.args.index c.args.report _ c.early.result c.early.ensures _ c.in-Refuse.is)
+    (all_stored c.args.octets.now c.args.places.now c.args.headers.now c.read_headers.new.headers c.requires.placed.3 c.read_headers.ensures) c.settle.result c.settle.ensures _ _ c.in-Some.is
+    (refused_early (length c.args.places.now) _ (pair_count c.args.places.now) c.args.index c.args.report _ c.early.result c.early.ensures _ c.in-Err.is)
 
 pub returns-then-count_bad-notes-clause-answer : goal.returns-then-count_bad-notes-clause-answer
 returns-then-count_bad-notes-clause-answer c =
     decided_settled c.args.choices c.args.octets.now (tables_of c.args.codebook.now c.args.thresholds.now) c.args.index c.args.report c.args.places.now c.if-places-eq0.false c.read_headers.new.headers
-    (all_stored c.args.octets.now c.args.places.now c.args.headers.now c.read_headers.new.headers c.requires.placed.3 c.read_headers.ensures) c.settle.result c.settle.ensures _ _ c.in-Settled.is
-    (all_bad_lem (length c.args.places.now) _ (pair_count c.args.places.now) c.args.index c.args.report _ c.early.result c.early.ensures c.count_bad.result _ c.in_default-early.not-Refuse
+    (all_stored c.args.octets.now c.args.places.now c.args.headers.now c.read_headers.new.headers c.requires.placed.3 c.read_headers.ensures) c.settle.result c.settle.ensures _ _ c.in-Some.is
+    (all_bad_lem (length c.args.places.now) _ (pair_count c.args.places.now) c.args.index c.args.report _ c.early.result c.early.ensures c.count_bad.result _ c.in_default-early.not-Err
     (c.count_bad.ensures ∙ ap bad_pairs c.judge.ensures)
     (ap length c.judge.ensures ∙ length_notes (received c.args.octets.now c.args.places.now) (pair_count c.args.places.now) (tables_of c.args.codebook.now c.args.thresholds.now)) c.if-count_bad-notes.true)
 
@@ -36,7 +36,7 @@ pub returns-clause-answer : goal.returns-clause-answer
 returns-clause-answer c =
     let stored = all_stored c.args.octets.now c.args.places.now c.args.headers.now c.read_headers.new.headers c.requires.placed.3 c.read_headers.ensures in
     decided_settled c.args.choices c.args.octets.now (tables_of c.args.codebook.now c.args.thresholds.now) c.args.index c.args.report c.args.places.now c.if-places-eq0.false c.read_headers.new.headers
-    stored c.settle.result c.settle.ensures _ _ c.in-Settled.is
-    (not_all_bad (length c.args.places.now) _ (pair_count c.args.places.now) c.args.index c.args.report _ c.early.result c.early.ensures c.count_bad.result _ c.in_default-early.not-Refuse
+    stored c.settle.result c.settle.ensures _ _ c.in-Some.is
+    (not_all_bad (length c.args.places.now) _ (pair_count c.args.places.now) c.args.index c.args.report _ c.early.result c.early.ensures c.count_bad.result _ c.in_default-early.not-Err
     (c.count_bad.ensures ∙ ap bad_pairs c.judge.ensures)
     (ap length c.judge.ensures ∙ length_notes (received c.args.octets.now c.args.places.now) (pair_count c.args.places.now) (tables_of c.args.codebook.now c.args.thresholds.now)) c.if-count_bad-notes.false)

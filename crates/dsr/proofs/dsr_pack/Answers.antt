@@ -12,12 +12,12 @@ pub returns-then-stream-ne-STREAM : goal.returns-then-stream-ne-STREAM
 returns-then-stream-ne-STREAM c =
     packs_no_room c.args.indices.now c.args.stream.now (omega (arith, c.if-indices-ne-INDEX.false)) c.if-stream-ne-STREAM.true
 
-pub returns-in-At : goal.returns-in-At
-returns-in-At c =
-    packs_no_wide c.args.indices.now c.args.stream.now (omega (arith, c.if-indices-ne-INDEX.false)) (omega (arith, c.if-stream-ne-STREAM.false)) _ (sym c.in-At.ensures) _
+pub returns-in-Some : goal.returns-in-Some
+returns-in-Some c =
+    packs_no_wide c.args.indices.now c.args.stream.now (omega (arith, c.if-indices-ne-INDEX.false)) (omega (arith, c.if-stream-ne-STREAM.false)) _ (sym c.in-Some.ensures) _
     c.number.ensures
 
-pub returns-in-Nowhere : goal.returns-in-Nowhere
-returns-in-Nowhere c =
-    packs c.args.indices.now c.args.stream.now (omega (arith, c.if-indices-ne-INDEX.false)) (omega (arith, c.if-stream-ne-STREAM.false)) (sym c.in-Nowhere.ensures) _
+pub returns-in-None : goal.returns-in-None
+returns-in-None c =
+    packs c.args.indices.now c.args.stream.now (omega (arith, c.if-indices-ne-INDEX.false)) (omega (arith, c.if-stream-ne-STREAM.false)) (sym c.in-None.ensures) _
     c.put_stream.ensures

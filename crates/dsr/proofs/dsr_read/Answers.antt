@@ -19,5 +19,5 @@ returns-in_default c =
 
 pub returns : goal.returns
 returns c =
-    returns_chosen answer_numbers c.args.answer.now _ _ _ _ _ _ (sym c.in-For.ensures) _
+    returns_chosen answer_numbers c.args.answer.now _ _ _ _ _ _ (sym c.in-Some.ensures) _
     (returns_told answer_numbers c.args.answer.now _ _ _ _ (omega (arith, c.if-answer-lt-ANSWER.false)) _ _ _ _ _ _ (ap given_of c.read-read.ensures.all) c.tell_reading.ensures)

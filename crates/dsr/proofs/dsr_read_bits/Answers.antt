@@ -20,5 +20,5 @@ returns-in_default c =
 
 pub returns : goal.returns
 returns c =
-    returns_chosen counted_numbers c.args.answer.now _ _ _ _ _ _ (sym c.in-For.ensures) _
+    returns_chosen counted_numbers c.args.answer.now _ _ _ _ _ _ (sym c.in-Some.ensures) _
     (returns_told counted_numbers c.args.answer.now _ _ _ _ (omega (arith, c.if-answer-lt-COUNTED.false)) _ _ _ _ _ _ (ap bits_given c.read-read.ensures) c.tell_hunting_reading.ensures)

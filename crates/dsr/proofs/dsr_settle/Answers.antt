@@ -17,5 +17,5 @@ returns-in_default c =
 
 pub returns : goal.returns
 returns c =
-    returns_chosen settle_numbers c.args.answer.now _ _ _ _ _ _ (sym c.in-For.ensures) _
+    returns_chosen settle_numbers c.args.answer.now _ _ _ _ _ _ (sym c.in-Some.ensures) _
     (returns_told settle_numbers c.args.answer.now _ _ _ _ (omega (arith, c.if-answer-lt-SETTLED.false)) _ _ _ _ _ _ (ap settle_given c.read.ensures) c.tell_beginning.ensures)

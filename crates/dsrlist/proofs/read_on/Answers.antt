@@ -1,4 +1,5 @@
 -- What is read lies in the part that was lent, and the rest of the buffer is as it was. Assumes nothing.
+use Rattle.std.specs.Prelude.{Ok, Err}
 use Prim.Native.Nat.{◌-◌}
 use lib.ListN.{length}
 use borrow.Rule.Slice.PartMut.{take_put}

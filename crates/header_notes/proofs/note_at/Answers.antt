@@ -1,6 +1,6 @@
 -- `note_at` meets its contract: the reading found there has its note. Assumes nothing.
 use mathlib.Core.Path.{sym, ap, ◌∙◌, subst}
-use Rattle.header.specs.declared.Header.{Header}
+use Rattle.header.specs.Types.{Header}
 use Rattle.header_notes.specs.HeaderNotes.{header_note}
 use Rattle.header_readings.specs.Stored.{Mended}
 use Rattle.header_notes.proofs.note_at.Goals as goal

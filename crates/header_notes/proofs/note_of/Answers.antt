@@ -10,25 +10,25 @@ use Rattle.header_notes.proofs.note_of.Goals as goal
 
 pub returns-in_default : goal.returns-in_default
 returns-in_default c =
-    note_lost _ _ _ c.in_default.not-Codeword
+    note_lost _ _ _ c.in_default.not-Some
 
 pub overflow_cast-result : goal.overflow_cast-result
 overflow_cast-result c =
-    let h = subst Mended c.in-Codeword.is c.requires.0 in
+    let h = subst Mended c.in-Some.is c.requires.0 in
     record { fits = omega (arith, h.1) }
 
 pub overflow_add-result : goal.overflow_add-result
 overflow_add-result c =
-    let h = subst Mended c.in-Codeword.is c.requires.0 in
+    let h = subst Mended c.in-Some.is c.requires.0 in
     record { fits = omega (arith, h.1, c.step_note-step.ensures, step_note_le c.from.result.count c.args.k.0) }
 
 pub overflow_add-result-2 : goal.overflow_add-result-2
 overflow_add-result-2 c =
-    let h = subst Mended c.in-Codeword.is c.requires.0 in
+    let h = subst Mended c.in-Some.is c.requires.0 in
     record { fits = omega (arith, h.1, c.step_note-step.ensures, step_note_le c.from.result.count c.args.k.0, c.common_note-like.ensures, common_note_le c.common_of.result c.args.common) }
 
 pub returns : goal.returns
 returns c =
-    note_sum c.args.common c.args.k.0 _ _ _ _ c.in-Codeword.is
+    note_sum c.args.common c.args.k.0 _ _ _ _ c.in-Some.is
     (c.step_note-step.ensures ∙ ap (λ (f : Fields). step_note f.count c.args.k.0) c.from.ensures)
     (c.common_note-like.ensures ∙ ap (λ (x : ℕ). common_note x c.args.common) c.common_of.ensures)

@@ -7,10 +7,10 @@ pub returns-in_default : goal.returns-in_default
 returns-in_default c = rw c.in_default.is
 
 pub overflow_mul-result-2 : goal.overflow_mul-result-2
-overflow_mul-result-2 c = let h = subst Mended c.in-Codeword.is c.requires in record { fits = omega (arith, h.1) }
+overflow_mul-result-2 c = let h = subst Mended c.in-Some.is c.requires in record { fits = omega (arith, h.1) }
 
 pub overflow_add-result : goal.overflow_add-result
-overflow_add-result c = let h = subst Mended c.in-Codeword.is c.requires in record { fits = omega (arith, h.0, h.1) }
+overflow_add-result c = let h = subst Mended c.in-Some.is c.requires in record { fits = omega (arith, h.0, h.1) }
 
 pub returns : goal.returns
-returns c = rw c.in-Codeword.is
+returns c = rw c.in-Some.is

@@ -6,21 +6,21 @@ use Rattle.hunting.proofs.read_found.Goals as goal
 
 pub returns-then-count-eq0 : goal.returns-then-count-eq0
 returns-then-count-eq0 c =
-    ends_nowhere c.args.choices c.args.octets.now c.args.from c.args.least (tables_of c.args.codebook.now c.args.thresholds.now) c.args.index.now c.args.report.now _ _ c.in-Whole.ensures.answer c.if-count-eq0.true
+    ends_nowhere c.args.choices c.args.octets.now c.args.from c.args.least (tables_of c.args.codebook.now c.args.thresholds.now) c.args.index.now c.args.report.now _ _ c.in-Ok.ensures.answer c.if-count-eq0.true
 
 pub outside_of-requires : goal.outside_of-requires
 outside_of-requires c =
-    some_room c.args.choices c.args.octets.now c.args.from c.args.least _ _ c.in-Whole.ensures.answer c.if-count-eq0.false
+    some_room c.args.choices c.args.octets.now c.args.from c.args.least _ _ c.in-Ok.ensures.answer c.if-count-eq0.false
 
 pub read_front-requires : goal.read_front-requires
 read_front-requires c =
-    ((some_room c.args.choices c.args.octets.now c.args.from c.args.least _ _ c.in-Whole.ensures.answer c.if-count-eq0.false).1, omega (arith, c.gather.auto.image))
+    ((some_room c.args.choices c.args.octets.now c.args.from c.args.least _ _ c.in-Ok.ensures.answer c.if-count-eq0.false).1, omega (arith, c.gather.auto.image))
 
-pub returns-in-TooMany : goal.returns-in-TooMany
-returns-in-TooMany c =
-    ends_many c.args.choices c.args.octets.now c.args.from c.args.least (tables_of c.args.codebook.now c.args.thresholds.now) c.args.index.now c.args.report.now _ c.in-TooMany.ensures.answer
+pub returns-in-Err : goal.returns-in-Err
+returns-in-Err c =
+    ends_many c.args.choices c.args.octets.now c.args.from c.args.least (tables_of c.args.codebook.now c.args.thresholds.now) c.args.index.now c.args.report.now _ c.in-Err.ensures.answer
 
 pub returns-else-count-eq0 : goal.returns-else-count-eq0
 returns-else-count-eq0 c =
-    ends_read c.args.choices c.args.octets.now c.args.from c.args.least (tables_of c.args.codebook.now c.args.thresholds.now) c.args.index.now c.args.report.now _ _ c.in-Whole.ensures.answer _ c.outside_of.result _ c.if-count-eq0.false c.gather.ensures.image
+    ends_read c.args.choices c.args.octets.now c.args.from c.args.least (tables_of c.args.codebook.now c.args.thresholds.now) c.args.index.now c.args.report.now _ _ c.in-Ok.ensures.answer _ c.outside_of.result _ c.if-count-eq0.false c.gather.ensures.image
     c.outside_of.ensures c.read_front.ensures

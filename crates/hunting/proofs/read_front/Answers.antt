@@ -2,8 +2,8 @@
 use Rattle.hunting.proofs.Ends.{read_counted}
 use Rattle.hunting.proofs.read_front.Goals as goal
 
-pub returns-in-Read : goal.returns-in-Read
-returns-in-Read c = read_counted _ _ _ _ _ _ _ c.read.ensures.all c.in-Read.is
+pub returns-in-Ok : goal.returns-in-Ok
+returns-in-Ok c = read_counted _ _ _ _ _ _ _ c.read.ensures.all c.in-Ok.is
 
-pub returns-in-Refused : goal.returns-in-Refused
-returns-in-Refused c = read_counted _ _ _ _ _ _ _ c.read.ensures.all c.in-Refused.is
+pub returns-in-Err : goal.returns-in-Err
+returns-in-Err c = read_counted _ _ _ _ _ _ _ c.read.ensures.all c.in-Err.is

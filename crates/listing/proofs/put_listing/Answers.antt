@@ -8,19 +8,19 @@ use Rattle.listing.proofs.put_listing.Goals as goal
 
 pub put_lines-end-requires : goal.put_lines-end-requires
 put_lines-end-requires c =
-    let f = lines_fit c.args.octets.now _ _ _ _ c.read.ensures.all c.in-Read.is in
+    let f = lines_fit c.args.octets.now _ _ _ _ c.read.ensures.all c.in-Ok.is in
     (omega (arith, f, c.read.auto.report, length-replicate {A = ℕ} (report_octets * most_multiframes) 0), omega (arith, f, c.requires))
 
 pub put_total-requires : goal.put_total-requires
 put_total-requires c =
-    let f = lines_fit c.args.octets.now _ _ _ _ c.read.ensures.all c.in-Read.is in
+    let f = lines_fit c.args.octets.now _ _ _ _ c.read.ensures.all c.in-Ok.is in
     omega (arith, f, c.requires, c.put_lines-end.ensures.upper_bound, c.put_lines-end.auto.text)
 
-pub returns-in-Read : goal.returns-in-Read
-returns-in-Read c =
-    let f = lines_fit c.args.octets.now _ _ _ _ c.read.ensures.all c.in-Read.is in
-    listing_done c.args.octets.now _ _ _ _ c.args.text.now _ _ _ _ c.read.ensures.all c.in-Read.is (omega (arith, f, c.requires, c.put_lines-end.ensures.upper_bound)) c.put_lines-end.ensures.put c.put_total.ensures
+pub returns-in-Ok : goal.returns-in-Ok
+returns-in-Ok c =
+    let f = lines_fit c.args.octets.now _ _ _ _ c.read.ensures.all c.in-Ok.is in
+    listing_done c.args.octets.now _ _ _ _ c.args.text.now _ _ _ _ c.read.ensures.all c.in-Ok.is (omega (arith, f, c.requires, c.put_lines-end.ensures.upper_bound)) c.put_lines-end.ensures.put c.put_total.ensures
 
-pub returns-in-Refused : goal.returns-in-Refused
-returns-in-Refused c =
-    refused_done c.args.octets.now _ _ _ _ c.args.text.now _ _ c.read.ensures.all c.in-Refused.is c.put_refusal.ensures
+pub returns-in-Err : goal.returns-in-Err
+returns-in-Err c =
+    refused_done c.args.octets.now _ _ _ _ c.args.text.now _ _ c.read.ensures.all c.in-Err.is c.put_refusal.ensures

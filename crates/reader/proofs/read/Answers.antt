@@ -25,32 +25,32 @@ read_found-requires c =
     let a = c.args in
     let cut = cutting a.octets.now in
     -- cutting met nothing that it refuses, and counted the places
-    let counted = cut_whole cut c.in-Whole.count (sym c.in-Whole.ensures.answer) in
+    let counted = cut_whole cut c.in-Ok.count (sym c.in-Ok.ensures.answer) in
     -- so many at the front of the array are the places
-    let lent : take c.in-Whole.count c.cut_into.new.places ≡ cut.places =
-    front_places cut.places (replicate 255 0) c.cut_into.new.places c.in-Whole.count c.in-Whole.ensures.places counted.1 in
+    let lent : take c.in-Ok.count c.cut_into.new.places ≡ cut.places =
+    front_places cut.places (replicate 255 0) c.cut_into.new.places c.in-Ok.count c.in-Ok.ensures.places counted.1 in
     record {
       placed = (subst (Placed a.octets.now) (sym lent) (places_placed a.octets.now), subst (λ (l : List ℕ). length l ≤ 255) (sym lent) (at_most_255 a.octets.now));
       right_sizes = (passes_right (tables_of a.codebook.now a.thresholds.now) (sym c.admit.ensures ∙ c.in_default.is)).0;
     }
 
-pub returns-in-Whole : goal.returns-in-Whole
-returns-in-Whole c =
+pub returns-in-Ok : goal.returns-in-Ok
+returns-in-Ok c =
     let a = c.args in
     let tables = tables_of a.codebook.now a.thresholds.now in
     let cut = cutting a.octets.now in
-    let counted = cut_whole cut c.in-Whole.count (sym c.in-Whole.ensures.answer) in
-    let lent : take c.in-Whole.count c.cut_into.new.places ≡ cut.places =
-    front_places cut.places (replicate 255 0) c.cut_into.new.places c.in-Whole.count c.in-Whole.ensures.places counted.1 in
+    let counted = cut_whole cut c.in-Ok.count (sym c.in-Ok.ensures.answer) in
+    let lent : take c.in-Ok.count c.cut_into.new.places ≡ cut.places =
+    front_places cut.places (replicate 255 0) c.cut_into.new.places c.in-Ok.count c.in-Ok.ensures.places counted.1 in
     let n = in_numbers a.choices a.octets.now tables a.index.now a.report.now
     (whole_reading a.choices a.octets.now tables a.index.now a.report.now (sym c.admit.ensures ∙ c.in_default.is) _ _ counted.0 lent c.read_found.ensures) in
     record { all = n.0; number = n.1.0; values = n.1.1 }
 
-pub returns-in-Refused-cut_into : goal.returns-in-Refused-cut_into
-returns-in-Refused-cut_into c =
+pub returns-in-Err : goal.returns-in-Err
+returns-in-Err c =
     let a = c.args in
     let tables = tables_of a.codebook.now a.thresholds.now in
     let n = in_numbers a.choices a.octets.now tables a.index.now a.report.now
     (not_cut a.choices a.octets.now tables a.index.now a.report.now (sym c.admit.ensures ∙ c.in_default.is) _
-    (cut_refused (cutting a.octets.now) _ (sym c.in-Refused-cut_into.ensures.answer))) in
+    (cut_refused (cutting a.octets.now) _ (sym c.in-Err.ensures.answer))) in
     record { all = n.0; number = n.1.0; values = n.1.1 }

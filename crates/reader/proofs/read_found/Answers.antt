@@ -20,21 +20,21 @@ write-requires c =
     let h : 12 * length a.places.now ≤ 3060 = omega arith in
     let headers_size : length c.decide.new.headers ≡ length a.places.now = c.decide.auto.headers ∙ length-take-le (length a.places.now) (replicate 255 0) few in
     let notes_size : length c.decide.new.notes ≡ 12 * length a.places.now = c.decide.auto.notes ∙ length-take-le (12 * length a.places.now) (replicate 3060 0) h in
-    let r = ready a.choices a.octets.now tables (length a.index.now) (length a.report.now) a.places.now _ (sym c.in-Accept.ensures.answer) in
-    let eh = take_at c.decide.new.headers (drop (length a.places.now) (replicate 255 0)) _ headers_size ∙ c.in-Accept.ensures.headers in
-    let en = take_at c.decide.new.notes (drop (12 * length a.places.now) (replicate 3060 0)) _ notes_size ∙ c.in-Accept.ensures.notes in
+    let r = ready a.choices a.octets.now tables (length a.index.now) (length a.report.now) a.places.now _ (sym c.in-Ok.ensures.answer) in
+    let eh = take_at c.decide.new.headers (drop (length a.places.now) (replicate 255 0)) _ headers_size ∙ c.in-Ok.ensures.headers in
+    let en = take_at c.decide.new.notes (drop (12 * length a.places.now) (replicate 3060 0)) _ notes_size ∙ c.in-Ok.ensures.notes in
     record {
       placed = (c.requires.placed.0, r.some, few);
       headers_value = (eh, ap length en ∙ length_notes (received a.octets.now a.places.now) (pair_count a.places.now) tables, subst Good (sym en) r.good);
       places_in_bounds = (r.index_room, r.report_room);
     }
 
-pub returns-in-Accept : goal.returns-in-Accept
-returns-in-Accept c =
+pub returns-in-Ok : goal.returns-in-Ok
+returns-in-Ok c =
     let a = c.args in
     let few = c.requires.placed.1 in
     let h : 12 * length a.places.now ≤ 3060 = omega arith in
     let notes_size : length c.decide.new.notes ≡ 12 * length a.places.now = c.decide.auto.notes ∙ length-take-le (12 * length a.places.now) (replicate 3060 0) h in
-    let en = take_at c.decide.new.notes (drop (12 * length a.places.now) (replicate 3060 0)) _ notes_size ∙ c.in-Accept.ensures.notes in
+    let en = take_at c.decide.new.notes (drop (12 * length a.places.now) (replicate 3060 0)) _ notes_size ∙ c.in-Ok.ensures.notes in
     finished_read a.octets.now (tables_of a.codebook.now a.thresholds.now) a.index.now a.report.now a.places.now _ _ c.write.result c.write.new.index c.write.new.report _
-    (sym c.in-Accept.ensures.answer) en c.write.ensures.answer c.write.ensures.index c.write.ensures.report
+    (sym c.in-Ok.ensures.answer) en c.write.ensures.answer c.write.ensures.index c.write.ensures.report

@@ -11,10 +11,10 @@ pub returns-then-was_seen : goal.returns-then-was_seen
 returns-then-was_seen c =
     let o = c.open_reading in
     let w = c.was_seen in
-    seen_settles _ c.args.k.0 c.requires o.result o.ensures _ _ _ w.result c.in-Codeword.is c.common_of-common.ensures w.ensures c.if-was_seen.true
+    seen_settles _ c.args.k.0 c.requires o.result o.ensures _ _ _ w.result c.in-Some.is c.common_of-common.ensures w.ensures c.if-was_seen.true
 
 pub returns : goal.returns
 returns c =
     let o = c.open_reading in
     let w = c.was_seen in
-    new_settles_nothing _ c.args.k.0 c.requires o.result o.ensures _ _ _ w.result c.in-Codeword.is c.common_of-common.ensures w.ensures c.if-was_seen.false
+    new_settles_nothing _ c.args.k.0 c.requires o.result o.ensures _ _ _ w.result c.in-Some.is c.common_of-common.ensures w.ensures c.if-was_seen.false

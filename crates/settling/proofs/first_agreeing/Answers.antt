@@ -1,7 +1,7 @@
 -- `first_agreeing` meets its contract: what is left to settle from each header on is what was left at the first. Assumes nothing.
 use Rattle.std.proofs.Common.{◌≡◌, ℕ, ◌+◌, ◌<◌, refl, sym, ap, ◌∙◌, arith, length, drop}
 use Rattle.settling.specs.Settling.{first_agreeing, or_else}
-use Rattle.settling.specs.declared.Settlement.{Settlement}
+use Rattle.settling.specs.Types.{Settlement}
 use Rattle.header_readings.specs.Stored.{open_all, length_open}
 use Rattle.settling.specs.Steps.{seen_before}
 use Rattle.settling.proofs.Steps.{agreeing_on, agreeing_end}
@@ -11,12 +11,12 @@ pub loop-k-init : goal.loop-k-init
 unfolding seen_before
 loop-k-init c = (omega arith, refl)
 
-pub returns-in-Settled : goal.returns-in-Settled
-returns-in-Settled c =
+pub returns-in-Some : goal.returns-in-Some
+returns-in-Some c =
     let l = c.loop-k in
     let hs = open_all c.args.headers.now in
     let h : l.k < length hs = rw length_open (omega arith) in
-    sym (l.invariant.1 ∙ agreeing_on hs l.k c.agreed.result h c.agreed.ensures ∙ ap (λ (s : Settlement). or_else s (first_agreeing (seen_before hs (l.k + 1)) (drop (l.k + 1) hs))) c.in-Settled.is)
+    sym (l.invariant.1 ∙ agreeing_on hs l.k c.agreed.result h c.agreed.ensures ∙ ap (λ (s : Settlement). or_else s (first_agreeing (seen_before hs (l.k + 1)) (drop (l.k + 1) hs))) c.in-Some.is)
 
 pub loop-k-preserved : goal.loop-k-preserved
 loop-k-preserved c =

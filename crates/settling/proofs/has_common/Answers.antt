@@ -5,4 +5,4 @@ pub returns-in_default : goal.returns-in_default
 returns-in_default c = rw c.in_default.is
 
 pub returns : goal.returns
-returns c = rw (c.common_of.ensures, c.in-Codeword.is)
+returns c = rw (c.common_of.ensures, c.in-Some.is)

@@ -16,9 +16,9 @@ returns-in_default c =
 pub returns-then-d-eq0 : goal.returns-then-d-eq0
 returns-then-d-eq0 c =
     let o = c.open_reading in
-    only_clean _ c.if-headers-ne1.false o.result o.ensures _ _ c.in-Codeword.is c.if-d-eq0.true c.common_of.ensures
+    only_clean _ c.if-headers-ne1.false o.result o.ensures _ _ c.in-Some.is c.if-d-eq0.true c.common_of.ensures
 
 pub returns : goal.returns
 returns c =
     let o = c.open_reading in
-    only_mended _ c.if-headers-ne1.false o.result o.ensures _ c.in-Codeword.is c.if-d-eq0.false
+    only_mended _ c.if-headers-ne1.false o.result o.ensures _ c.in-Some.is c.if-d-eq0.false

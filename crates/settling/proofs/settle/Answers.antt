@@ -2,10 +2,10 @@
 use Rattle.settling.proofs.Steps.{settled_by_two, settled_alone, settled_nothing}
 use Rattle.settling.proofs.settle.Goals as goal
 
-pub returns-in-Settled : goal.returns-in-Settled
-returns-in-Settled c =
+pub returns-in-Some : goal.returns-in-Some
+returns-in-Some c =
     let f = c.first_agreeing in
-    settled_by_two _ _ f.result f.ensures _ c.in-Settled.is
+    settled_by_two _ _ f.result f.ensures _ c.in-Some.is
 
 pub returns-then-choices : goal.returns-then-choices
 returns-then-choices c =

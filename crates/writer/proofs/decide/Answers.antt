@@ -21,18 +21,18 @@ returns-then-frames-gt-FRAMES c =
     let w : length c.args.indices.now % frame_indices ≡ 0 = omega (arith, c.if-indices-ne0.false) in
     sym (refuses_many c.args.settings c.args.indices.now c.args.room (sym c.is_right.ensures ∙ c.if-not-is_right.false) w c.if-frames-gt-FRAMES.true)
 
-pub returns-in-At : goal.returns-in-At
-returns-in-At c =
+pub returns-in-Some : goal.returns-in-Some
+returns-in-Some c =
     let z : Sized c.args.settings c.args.indices.now =
     record { right = sym c.is_right.ensures ∙ c.if-not-is_right.false; whole = omega (arith, c.if-indices-ne0.false); few = omega (arith, c.if-frames-gt-FRAMES.false) } in
-    sym (refuses_wide c.args.settings c.args.indices.now c.args.room z _ (sym c.in-At.ensures))
+    sym (refuses_wide c.args.settings c.args.indices.now c.args.room z _ (sym c.in-Some.ensures))
 
-pub returns-in-At-first_early : goal.returns-in-At-first_early
-returns-in-At-first_early c =
+pub returns-in-Some-first_early : goal.returns-in-Some-first_early
+returns-in-Some-first_early c =
     let z : Sized c.args.settings c.args.indices.now =
     record { right = sym c.is_right.ensures ∙ c.if-not-is_right.false; whole = omega (arith, c.if-indices-ne0.false); few = omega (arith, c.if-frames-gt-FRAMES.false) } in
     let none = sym c.in_default.ensures in
-    sym (refuses_zero c.args.settings c.args.indices.now c.args.room z none _ (sym c.in-At-first_early.ensures))
+    sym (refuses_zero c.args.settings c.args.indices.now c.args.room z none _ (sym c.in-Some-first_early.ensures))
 
 pub returns-then-room-needed : goal.returns-then-room-needed
 returns-then-room-needed c =

@@ -5,4 +5,4 @@ use Rattle.writer.specs.Writing.{place_of}
 use Rattle.writer.proofs.place_of.Goals as goal
 
 pub place-requires : goal.place-requires
-place-requires c = let e = ap place_of c.in-Refused.is in omega (arith, e)
+place-requires c = let e = ap place_of c.in-Err.is in omega (arith, e)
