@@ -14,5 +14,5 @@ returns c =
     let l = bits c.args.s.now in
     let at = packet_start c.args.p.0 in
     let room : at + packet_bits ≤ length l = rw length_bits (omega arith) in
-    apart_law l at c.words-a.result.0 c.words-a.result.1 c.args.idx.now c.args.to room c.requires.1 c.words-a.ensures.first c.words-a.ensures.second
+    apart_law l at c.words.result.0 c.words-2.result.1 c.args.idx.now c.args.to room c.requires.1 c.words.ensures.first c.words-2.ensures.second
     c.take_frame.ensures c.take_frame-2.ensures
