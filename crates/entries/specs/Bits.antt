@@ -15,7 +15,7 @@ use Rattle.hunting.specs.Hunting.{Outcome, hunting_reading}
 use Rattle.hunting.proofs.Says.{never_12_to_14}
 use Rattle.hunting.specs.declared.Counted.{Counted}
 use Rattle.hunting.specs.Types.{Answer}
-use Rattle.entries.specs.Entries.{summary_numbers, Told, numbers, refusal, Given, given, Returned, answered, returning, unchosen, choosing}
+use Rattle.entries.specs.Entries.{summary_numbers, Told, told, Given, given, Returned, answered, returning, unchosen, choosing}
 
 -- ---- the hunt: its number, and the three lent numbers
 pub record HuntReturned : Type 0 where
@@ -41,8 +41,7 @@ numbers_of c = summary_numbers c.summary ++ (c.outside ∷ c.tested ∷ [])
 
 -- the hunting reading in numbers
 abbrev pub bits_told : Answer → Told
-bits_told (Ok c) = numbers (numbers_of c)
-bits_told (Err x) = refusal (hunting_number x) (hunting_place x)
+bits_told = told numbers_of hunting_number hunting_place
 
 abbrev pub bits_given : Outcome → Given
 bits_given o = given (bits_told o.answer) o.index o.report

@@ -1,5 +1,5 @@
 -- What the entries for C and Rust answer, in numbers, and what they leave in lent memory. Assumes nothing.
-use Rattle.std.specs.Prelude.{◌≡◌, List, [], ◌∷◌, ℕ, eqb, ltb, length, Some, None, Ok, Err}
+use Rattle.std.specs.Prelude.{◌≡◌, List, [], ◌∷◌, ℕ, eqb, ltb, length, Some, None, Result, Ok, Err}
 use Rattle.lists.specs.Tests.{when}
 use Rattle.lists.specs.Parts.{over}
 use Rattle.lists.specs.Search.{Search, at, nowhere}
@@ -117,10 +117,14 @@ abbrev pub choosing : ℕ → List ℕ → ℕ → List ℕ → List ℕ → (Ch
 choosing w a p i r g (Some ch) = returning w a p i r (g ch)
 choosing w a p i r g None = unchosen w a p i r
 
+-- a reading's answer in numbers, by what is put of a success, and a refusal's number and place
+abbrev pub told : {A R : Type 0} → (A → List ℕ) → (R → ℕ) → (R → ℕ) → Result A R → Told
+told put number place (Ok s) = numbers (put s)
+told put number place (Err x) = refusal (number x) (place x)
+
 -- 01's reading in numbers
 abbrev pub told_of : Answer → Told
-told_of (Ok s) = numbers (summary_numbers s)
-told_of (Err x) = refusal (reading_number x) (reading_place x)
+told_of = told summary_numbers reading_number reading_place
 
 abbrev pub given_of : Outcome → Given
 given_of o = given (told_of o.answer) o.index o.report

@@ -1,12 +1,12 @@
 -- What the entry that gives the settings before the end of the octets answers, in numbers, and what it leaves in lent memory (02, C-11).
 -- Assumes nothing.
-use Rattle.std.specs.Prelude.{ℕ, List, [], ◌∷◌, Ok, Err}
+use Rattle.std.specs.Prelude.{ℕ, List, [], ◌∷◌}
 use Rattle.choices.specs.Types.{Asked}
 use Rattle.refusals.specs.Refusals.{reading_number, reading_place}
 use Rattle.until_settled.specs.UntilSettled.{until_settled}
 use Rattle.until_settled.specs.declared.Beginning.{Beginning}
 use Rattle.until_settled.specs.Types.{Answer}
-use Rattle.entries.specs.Entries.{Told, numbers, refusal, Given, given, Returned, choosing}
+use Rattle.entries.specs.Entries.{Told, told, Given, given, Returned, choosing}
 
 -- three numbers
 abbrev pub settle_numbers : ℕ
@@ -18,8 +18,7 @@ beginning_numbers b = b.settings.rate ∷ b.settings.kind ∷ b.multiframes ∷ 
 
 -- the answer in numbers; a refusal has 01's number and place, as a reading's
 abbrev pub settle_told : Answer → Told
-settle_told (Ok b) = numbers (beginning_numbers b)
-settle_told (Err r) = refusal (reading_number r) (reading_place r)
+settle_told = told beginning_numbers reading_number reading_place
 
 -- no buffer is lent: both are empty, and stay
 abbrev pub settle_given : Answer → Given
