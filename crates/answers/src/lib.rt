@@ -1,8 +1,9 @@
 // The answers of the writer, the hunt and the header code put into lent numbers, as the entries for C and Rust give them: each function that
-// tells one answers 0 or the refusal's number. And the test of settings that came as numbers of 64 bits.
+// tells one answers 0 or the refusal's number. And the settings that came as numbers of 64 bits.
 #![tactic(auto)]
 
-ghost use Rattle.std.specs.Prelude.{◌≡◌, ◌^◌, ◌<◌};
+ghost use Rattle.std.specs.Prelude.{◌≡◌, ◌^◌, ◌<◌, true, false, MatchOption};
+ghost use Rattle.settings.specs.Settings.{settings};
 ghost use Rattle.writer.specs.Writing.{number_of, place_of};
 ghost use Rattle.entries.specs.Bits.{hunt_returned, hunt_returning};
 ghost use Rattle.entries.specs.Entries.{header_read};
@@ -11,21 +12,16 @@ ghost use Rattle.entries.specs.Laws.{settings_fit};
 use header::Decoded;
 use hunt::Found;
 use refusals::{Hunt, Refusal, Writing};
+use settings::Settings;
 
-// The largest number of eight bits.
-const OCTET: u64 = 255;
-
-// fits says whether rate and type fit the octets that the writer takes. What does not is no setting, and must not be cut to one.
-pub fn fits(rate: u64, kind: u64) -> bool
-    ensures { result ≡ settings_fit rate kind }
+// settings_of gives the settings of a rate and a type that fit the octets that the writer takes. What does not fit is no setting, and must not be
+// cut to one.
+pub fn settings_of(rate: u64, kind: u64) -> Option<Settings>
+    ensures { MatchOption result (settings_fit rate kind ≡ false) (λ s. (settings_fit rate kind ≡ true) × (s ≡ settings rate kind)) }
 {
-    if OCTET < rate {
-        return false;
-    }
-    if OCTET < kind {
-        return false;
-    }
-    true
+    let rate = u8::try_from(rate).ok()?;
+    let kind = u8::try_from(kind).ok()?;
+    Some(Settings { rate, kind })
 }
 
 // tell_header puts the message and the number of flipped bits into the lent numbers; of a lost header both stay.

@@ -3,19 +3,19 @@
 // writing, a hunt, a reading or a header's reading answers into the lent numbers. c/dsr.h says the same in C.
 #![tactic(auto)]
 
-ghost use Rattle.std.specs.Prelude.{◌≡◌, []};
+ghost use Rattle.std.specs.Prelude.{◌≡◌, [], length, MatchResult};
 ghost use Rattle.choices.specs.Choices.{asked};
 ghost use Rattle.tables.specs.Tables.{tables_of};
 ghost use Rattle.header_code.specs.Code.{codeword};
 ghost use Rattle.header.specs.Reading.{reading};
 ghost use Rattle.entries.specs.Bits.{hunt_returned, dsr_hunt, dsr_read_bits};
 ghost use Rattle.entries.specs.Settle.{dsr_settle};
-ghost use Rattle.entries.specs.Entries.{header_read, packed, packing, unpacked, unpacking, write_returned, dsr_write, returned, dsr_read};
+ghost use Rattle.entries.specs.Entries.{header_read, packed, packing, unpacked, unpacking, write_returned, dsr_write, returned, dsr_read, Chosen, Unchosen};
 
+use choices::Choices;
 use layout::{MultiframeLayout, Pair, ReadingLayout};
 use packing::Frames;
 use refusals::{Refusal, Writing};
-use settings::Settings;
 
 // The numbers of a reading's answer, those of a hunting reading's, and those of settings before the end.
 const ANSWER: usize = 6;
@@ -23,6 +23,16 @@ const ANSWER: usize = 6;
 const COUNTED: usize = 8;
 
 const SETTLED: usize = 3;
+
+// chosen_by gives the choices that a number names, if the answer has room for N numbers: the room is tested first. Else the refusal's number.
+fn chosen_by<const N: usize>(choices: u64, answer: &[u64]) -> Result<Choices, u32>
+    ensures { MatchResult result (Chosen N (length answer.now) (asked choices)) (Unchosen N (length answer.now) (asked choices)) }
+{
+    if answer.len() < N {
+        return Err(refusals::NO_ROOM);
+    }
+    choices::asked_by(choices).ok_or(refusals::NO_SUCH_CHOICE)
+}
 
 // dsr_header_encode gives the codeword of a 16-bit message.
 #[unsafe(no_mangle)]
@@ -43,14 +53,12 @@ pub extern "C" fn dsr_header_read(word: u32, message: &mut u16, flips: &mut u32)
 
 // dsr_pack turns the 24 frames of a multiframe into its stream and answers 0; or 98 for a wrong length (house), or the writer's 4 for an
 // index above 63, and then the stream stays.
+#[tactic(auto, using(entries::specs::Laws::packs), unfolding(entries::specs::Entries::packing))]
 #[unsafe(no_mangle)]
 pub extern "C" fn dsr_pack(indices: &[u8], stream: &mut [u8]) -> u32
     ensures { packed result stream.new ≡ packing indices.now stream.old }
 {
-    if indices.len() != ReadingLayout::INDEX {
-        return refusals::WRONG_LENGTH;
-    }
-    if stream.len() != MultiframeLayout::STREAM {
+    if indices.len() != ReadingLayout::INDEX || stream.len() != MultiframeLayout::STREAM {
         return refusals::WRONG_LENGTH;
     }
     match wrong_frames::first_wide(indices) {
@@ -64,17 +72,15 @@ pub extern "C" fn dsr_pack(indices: &[u8], stream: &mut [u8]) -> u32
 
 // dsr_unpack turns a stream into its 24 frames and twelve notes, 0 for a right CRC and 1 for a failed one, and answers 0; or 98 for a wrong
 // length (house), and then both lent buffers stay.
+#[tactic(auto, unfolding(entries::specs::Entries::unpacking))]
 #[unsafe(no_mangle)]
 pub extern "C" fn dsr_unpack(stream: &[u8], indices: &mut [u8], notes: &mut [u8]) -> u32
     ensures { unpacked result indices.new notes.new ≡ unpacking stream.now indices.old notes.old }
 {
-    if stream.len() != MultiframeLayout::STREAM {
-        return refusals::WRONG_LENGTH;
-    }
-    if indices.len() != ReadingLayout::INDEX {
-        return refusals::WRONG_LENGTH;
-    }
-    if notes.len() != MultiframeLayout::PAIRS {
+    if stream.len() != MultiframeLayout::STREAM
+        || indices.len() != ReadingLayout::INDEX
+        || notes.len() != MultiframeLayout::PAIRS
+    {
         return refusals::WRONG_LENGTH;
     }
     notes::take_stream_apart(stream, indices, Pair(0));
@@ -84,6 +90,7 @@ pub extern "C" fn dsr_unpack(stream: &[u8], indices: &mut [u8], notes: &mut [u8]
 
 // dsr_write answers 01's number, 0 for success, and puts the octets written or the refusal's place into place. Rate and type are numbers of
 // 64 bits, so that a caller's number arrives as it is: 256 is refused, and not taken for 0.
+#[tactic(auto, using(entries::specs::Laws::unfit_refused))]
 #[unsafe(no_mangle)]
 pub extern "C" fn dsr_write(
     rate: u64,
@@ -94,20 +101,18 @@ pub extern "C" fn dsr_write(
 ) -> u32
     ensures { write_returned result out.new place.new ≡ dsr_write rate kind indices.now out.old }
 {
-    if !answers::fits(rate, kind) {
-        return answers::tell_written(Err(Writing::WrongSettings), place);
-    }
-    let settings = Settings {
-        rate: rate as u8,
-        kind: kind as u8,
+    let written = match answers::settings_of(rate, kind) {
+        Some(settings) => writer::write(settings, indices, out),
+        None => Err(Writing::WrongSettings),
     };
-    answers::tell_written(writer::write(settings, indices, out), place)
+    answers::tell_written(written, place)
 }
 
 // dsr_read answers 0 and puts six numbers (rate, type, multiframes, speech, bad, end) into answer, and place stays; or 01's number, and puts
 // the refusal's place into place, and all other lent memory stays. By default (choices 0) an only multiframe is refused with 16; choices 1 asks
 // for the old rule, by which one header alone settles (02, C-20). Room for fewer than six numbers is refused with 99 and then any other number
 // of choices with 96 (house), and all lent memory stays.
+#[tactic(auto, unfolding(entries::specs::Entries::returning, entries::specs::Entries::unchosen))]
 #[unsafe(no_mangle)]
 pub extern "C" fn dsr_read(
     octets: &[u8],
@@ -122,19 +127,19 @@ pub extern "C" fn dsr_read(
     ensures { returned result index.new report.new answer.new place.new
         ≡ dsr_read octets.now (asked choices) (tables_of codebook.now thresholds.now) index.old report.old answer.old place.old }
 {
-    if answer.len() < ANSWER {
-        return refusals::NO_ROOM;
+    match chosen_by::<ANSWER>(choices, answer) {
+        Ok(chosen) => {
+            let read = reader::read(octets, chosen, codebook, thresholds, index, report);
+            reading_answers::tell(read, answer, place)
+        }
+        Err(number) => number,
     }
-    let Some(chosen) = choices::asked_by(choices) else {
-        return refusals::NO_SUCH_CHOICE;
-    };
-    let read = reader::read(octets, chosen, codebook, thresholds, index, report);
-    reading_answers::tell_reading(read, answer, place)
 }
 
 // dsr_settle reads multiframes only until the settings are settled (02, C-11): it answers 0 and puts three numbers (rate, type, multiframes
 // read) into answer, and place stays; or 01's number, 12 to 17, and puts the refusal's place into place, and answer stays. Choices are those
 // of dsr_read. Room for fewer than three numbers is refused with 99 and then a number that names no choice with 96, and all lent memory stays.
+#[tactic(auto, unfolding(entries::specs::Entries::returning, entries::specs::Entries::unchosen))]
 #[unsafe(no_mangle)]
 pub extern "C" fn dsr_settle(
     octets: &[u8],
@@ -144,13 +149,10 @@ pub extern "C" fn dsr_settle(
 ) -> u32
     ensures { returned result [] [] answer.new place.new ≡ dsr_settle octets.now (asked choices) answer.old place.old }
 {
-    if answer.len() < SETTLED {
-        return refusals::NO_ROOM;
+    match chosen_by::<SETTLED>(choices, answer) {
+        Ok(chosen) => reading_answers::tell(beginning::read(octets, chosen), answer, place),
+        Err(number) => number,
     }
-    let Some(chosen) = choices::asked_by(choices) else {
-        return refusals::NO_SUCH_CHOICE;
-    };
-    reading_answers::tell_beginning(beginning::read(octets, chosen), answer, place)
 }
 
 // dsr_hunt answers 0 and puts the bit found and the number of places tested into found and tested; or 02's number, and puts the refusal's
@@ -174,6 +176,7 @@ pub extern "C" fn dsr_hunt(
 // tested) into answer, and place stays; or the refusal's number, and puts its place into place, and all other lent memory stays. Choices are
 // those of dsr_read. Room for fewer than eight numbers is refused with 99 and then a number that names no choice with 96, and all lent memory
 // stays.
+#[tactic(auto, unfolding(entries::specs::Entries::returning, entries::specs::Entries::unchosen))]
 #[unsafe(no_mangle)]
 pub extern "C" fn dsr_read_bits(
     octets: &[u8],
@@ -190,21 +193,20 @@ pub extern "C" fn dsr_read_bits(
     ensures { returned result index.new report.new answer.new place.new
         ≡ dsr_read_bits octets.now from least (asked choices) (tables_of codebook.now thresholds.now) index.old report.old answer.old place.old }
 {
-    if answer.len() < COUNTED {
-        return refusals::NO_ROOM;
+    match chosen_by::<COUNTED>(choices, answer) {
+        Ok(chosen) => {
+            let read = hunting::read(
+                octets,
+                from as usize,
+                least as usize,
+                chosen,
+                codebook,
+                thresholds,
+                index,
+                report,
+            );
+            reading_answers::tell(read, answer, place)
+        }
+        Err(number) => number,
     }
-    let Some(chosen) = choices::asked_by(choices) else {
-        return refusals::NO_SUCH_CHOICE;
-    };
-    let read = hunting::read(
-        octets,
-        from as usize,
-        least as usize,
-        chosen,
-        codebook,
-        thresholds,
-        index,
-        report,
-    );
-    reading_answers::tell_hunting_reading(read, answer, place)
 }

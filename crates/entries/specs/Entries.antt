@@ -1,5 +1,5 @@
 -- What the entries for C and Rust answer, in numbers, and what they leave in lent memory. Assumes nothing.
-use Rattle.std.specs.Prelude.{◌≡◌, List, [], ◌∷◌, ℕ, eqb, ltb, length, Some, None, Result, Ok, Err}
+use Rattle.std.specs.Prelude.{◌≡◌, ◌⊎◌, ◌<◌, ◌≤◌, List, [], ◌∷◌, ℕ, eqb, ltb, length, Some, None, Result, Ok, Err}
 use Rattle.lists.specs.Tests.{when}
 use Rattle.lists.specs.Parts.{over}
 use Rattle.lists.specs.Search.{Search, at, nowhere}
@@ -116,6 +116,13 @@ unchosen w a p i r = when (ltb (length a) w) (returned no_room i r a p) (returne
 abbrev pub choosing : ℕ → List ℕ → ℕ → List ℕ → List ℕ → (Choices → Given) → Asked → Returned
 choosing w a p i r g (Some ch) = returning w a p i r (g ch)
 choosing w a p i r g None = unchosen w a p i r
+
+-- whether a choice was asked for with room for w numbers, of n, and if not, with what number it is refused: no room comes first
+abbrev pub Chosen : ℕ → ℕ → Asked → Choices → Type 0
+Chosen w n q ch = (w ≤ n) × (q ≡ Some ch)
+
+abbrev pub Unchosen : ℕ → ℕ → Asked → ℕ → Type 0
+Unchosen w n q number = ((n < w) × (number ≡ no_room)) ⊎ ((w ≤ n) × (q ≡ None) × (number ≡ no_such_choice))
 
 -- a reading's answer in numbers, by what is put of a success, and a refusal's number and place
 abbrev pub told : {A R : Type 0} → (A → List ℕ) → (R → ℕ) → (R → ℕ) → Result A R → Told
