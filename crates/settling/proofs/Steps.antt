@@ -1,16 +1,18 @@
 -- The steps by which the code settles, one header at a time: what its functions find in the stored readings.
 -- Assumes nothing.
 use Rattle.std.specs.Prelude.{Some, None}
-use Prim.Native.Nat.{ℕ, suc, ◌+◌, ◌<◌}
+use Rattle.std.specs.Bool.{then_some}
+use Rattle.std.specs.List.{list_any}
+use Rattle.std.proofs.lemmas.List.Folds.{list_any_more}
+use Prim.Native.Nat.{ℕ, zero, suc, ◌+◌, ◌≤◌, ◌<◌}
 use mathlib.Core.Path.{◌≡◌, refl, ap, sym, ◌∙◌}
 use mathlib.Core.List.{List, [], ◌∷◌}
-use mathlib.Core.Bool.{Bool, true, false}
+use mathlib.Core.Bool.{Bool, true, false, ◌||◌}
 use lib.Dec.{eqb}
-use lib.ListN.{length, get_or, drop}
+use lib.ListN.{length, get_or, take, drop}
 use lib.Seq.{drop-cons, drop-length}
 use native.Mathlib.Numerals.{add-one}
 use native.Mathlib.Omega.{arith}
-use borrow.Author.Tests.{eq-eqb, ne_eqb}
 use Rattle.lists.specs.Tests.{when}
 use Rattle.lists.specs.Rows.{each_at}
 use Rattle.message.specs.Message.{common_bits}
@@ -48,18 +50,30 @@ pub agreeing_end : (hs : List Header) (seen : List ℕ) → first_agreeing seen 
 unfolding first_agreeing
 agreeing_end hs seen = rw (drop-length hs)
 
--- ---- looking back for common bits, from the last header to the first
-pub among_step : (hs : List Header) (c k : ℕ) (t : Bool) → t ≡ has_common (get_or hs k None) c → among c (seen_before hs (suc k)) ≡ when t true (among c (seen_before hs k))
+-- ---- looking back for common bits
+pub among_step : (hs : List Header) (c k : ℕ) → among c (seen_before hs (suc k)) ≡ when (has_common (get_or hs k None) c) true (among c (seen_before hs k))
 unfolding seen_before
-among_step hs c k t e = from (get_or hs k None) t e
+among_step hs c k = from (get_or hs k None)
   where
-    from : (h : Header) (t : Bool) → t ≡ has_common h c → among c (with_seen h (seen_before hs k)) ≡ when t true (among c (seen_before hs k))
-    from None t e = rw e
-    from (Some d) t e = rw e
+    from : (h : Header) → among c (with_seen h (seen_before hs k)) ≡ when (has_common h c) true (among c (seen_before hs k))
+    from None = refl
+    from (Some d) = refl
 
-pub among_none : (hs : List Header) (c : ℕ) → among c (seen_before hs 0) ≡ false
+pub any_is_among : (l : List ℕ) (c k : ℕ) → k ≤ length l → list_any (λ x. has_common (opened x) c) (take k l) ≡ among c (seen_before (open_all l) k)
 unfolding seen_before
-among_none hs c = refl
+any_is_among l c zero h = refl
+any_is_among l c (suc k) h =
+    let p : ℕ → Bool = λ x. has_common (opened x) c in
+    let at : get_or (open_all l) k None ≡ opened (get_or l k 0) = open_at l k (omega arith) in
+    rw (← add-one k, list_any_more p l k 0 (omega arith), any_is_among l c k (omega arith))
+    (either (p (get_or l k 0)) (among c (seen_before (open_all l) k))
+    ∙ sym (among_step (open_all l) c k ∙ ap (λ (h : Header). when (has_common h c) true (among c (seen_before (open_all l) k))) at))
+  where
+    either : (t u : Bool) → (u || t) ≡ when t true u
+    either true true = refl
+    either true false = refl
+    either false true = refl
+    either false false = refl
 
 -- ---- an only header
 abbrev pub only_by : Header → Settlement
@@ -74,6 +88,10 @@ only_is (Some d ∷ []) e = refl
 only_is (Some d ∷ h ∷ hs) e = absurd (omega arith)
 
 -- ---- what the code's branches find
+as_when : (t : Bool) (c : ℕ) → then_some t c ≡ when t (Some c) None
+as_when true c = refl
+as_when false c = refl
+
 module _ (l : List ℕ) (k : ℕ) (h : k < length l) (r : Header) (e : r ≡ opened (get_or l k 0)) where
   pub found_at : get_or (open_all l) k None ≡ r
   found_at = open_at l k h ∙ sym e
@@ -81,22 +99,11 @@ module _ (l : List ℕ) (k : ℕ) (h : k < length l) (r : Header) (e : r ≡ ope
   pub lost_settles_nothing : (seen : List ℕ) → r ≡ None → None ≡ settled_by (get_or (open_all l) k None) seen
   lost_settles_nothing seen q = rw (found_at, q)
 
-  pub seen_settles : (seen : List ℕ) (d : Decoded) (c : ℕ) (t : Bool) → r ≡ Some d → c ≡ common_bits d.message → t ≡ among c seen → t ≡ true
-      → Some c ≡ settled_by (get_or (open_all l) k None) seen
-  seen_settles seen d c t q ec et y =
-      let s : among (common_bits d.message) seen ≡ true = ap (λ (x : ℕ). among x seen) (sym ec) ∙ sym et ∙ y in
-      rw (found_at, q, s) (ap Some ec)
-
-  pub new_settles_nothing : (seen : List ℕ) (d : Decoded) (c : ℕ) (t : Bool) → r ≡ Some d → c ≡ common_bits d.message → t ≡ among c seen → t ≡ false
-      → None ≡ settled_by (get_or (open_all l) k None) seen
-  new_settles_nothing seen d c t q ec et y =
-      let s : among (common_bits d.message) seen ≡ false = ap (λ (x : ℕ). among x seen) (sym ec) ∙ sym et ∙ y in
-      rw (found_at, q, s)
-
-  -- looking back: from header k + 1 to header k
-  pub looked : (c i : ℕ) (t : Bool) → t ≡ has_common r c → suc k ≡ i → among c (seen_before (open_all l) i) ≡ when t true (among c (seen_before (open_all l) k))
-  looked c i t et ei =
-      ap (λ (n : ℕ). among c (seen_before (open_all l) n)) (sym ei) ∙ among_step (open_all l) c k t (et ∙ ap (λ (x : Header). has_common x c) (sym found_at))
+  pub seen_settles : (seen : List ℕ) (d : Decoded) (c : ℕ) (t : Bool) (s : Settlement) → r ≡ Some d → c ≡ common_bits d.message → t ≡ among c seen → s ≡ then_some t c
+      → s ≡ settled_by (get_or (open_all l) k None) seen
+  seen_settles seen d c t s q ec et es =
+      let st : s ≡ then_some (among (common_bits d.message) seen) (common_bits d.message) = es ∙ ap (λ (t : Bool). then_some t c) et ∙ ap (λ (x : ℕ). then_some (among x seen) x) ec in
+      rw (found_at, q) (st ∙ as_when (among (common_bits d.message) seen) (common_bits d.message))
 
 module _ (l : List ℕ) (one : length l ≡ 1) (r : Header) (e : r ≡ opened (get_or l 0 0)) where
   pub only_found : only_one (open_all l) ≡ only_by r
@@ -105,18 +112,11 @@ module _ (l : List ℕ) (one : length l ≡ 1) (r : Header) (e : r ≡ opened (g
   pub only_lost : r ≡ None → None ≡ only_one (open_all l)
   only_lost q = rw (only_found, q)
 
-  pub only_clean : (d : Decoded) (c : ℕ) → r ≡ Some d → d.flips ≡ 0 → c ≡ common_bits d.message → Some c ≡ only_one (open_all l)
-  only_clean d c q z ec = rw (only_found, q, eq-eqb d.flips 0 z) (ap Some ec)
-
-  pub only_mended : (d : Decoded) → r ≡ Some d → (d.flips ≡ 0 → ⊥) → None ≡ only_one (open_all l)
-  only_mended d q n = rw (only_found, q, ne_eqb d.flips 0 n)
+  pub only_clean : (d : Decoded) (c : ℕ) (s : Settlement) → r ≡ Some d → c ≡ common_bits d.message → s ≡ then_some (eqb d.flips 0) c → s ≡ only_one (open_all l)
+  only_clean d c s q ec es = rw (only_found, q) (es ∙ ap (λ (x : ℕ). then_some (eqb d.flips 0) x) ec ∙ as_when (eqb d.flips 0) (common_bits d.message))
 
 -- ---- what is settled in the end: two that agree, or one alone where it is asked for
 module _ (ch : Choices) (hs : List Header) (s : Settlement) (e : s ≡ first_agreeing [] hs) where
-  pub settled_by_two : (c : ℕ) → s ≡ Some c → Some c ≡ settling ch hs
-  unfolding settling
-  settled_by_two c q = rw (sym e ∙ q)
-
   pub settled_alone : (o : Settlement) → s ≡ None → one_settles ch ≡ true → o ≡ only_one hs → o ≡ settling ch hs
   unfolding settling
   settled_alone o q t eo = rw (sym e ∙ q, t) eo
@@ -124,3 +124,7 @@ module _ (ch : Choices) (hs : List Header) (s : Settlement) (e : s ≡ first_agr
   pub settled_nothing : s ≡ None → one_settles ch ≡ false → None ≡ settling ch hs
   unfolding settling
   settled_nothing q t = rw (sym e ∙ q, t)
+
+  pub settled_by_two : (c : ℕ) → s ≡ Some c → Some c ≡ settling ch hs
+  unfolding settling
+  settled_by_two c q = rw (sym e ∙ q)

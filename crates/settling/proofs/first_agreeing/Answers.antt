@@ -9,27 +9,25 @@ use Rattle.settling.proofs.first_agreeing.Goals as goal
 
 pub loop-k-init : goal.loop-k-init
 unfolding seen_before
-loop-k-init c = (omega arith, refl)
+loop-k-init c = refl
 
 pub returns-in-Some : goal.returns-in-Some
 returns-in-Some c =
     let l = c.loop-k in
     let hs = open_all c.args.headers.now in
     let h : l.k < length hs = rw length_open (omega arith) in
-    sym (l.invariant.1 ∙ agreeing_on hs l.k c.agreed.result h c.agreed.ensures ∙ ap (λ (s : Settlement). or_else s (first_agreeing (seen_before hs (l.k + 1)) (drop (l.k + 1) hs))) c.in-Some.is)
+    sym (l.invariant ∙ agreeing_on hs l.k c.agreed.result h c.agreed.ensures ∙ ap (λ (s : Settlement). or_else s (first_agreeing (seen_before hs (l.k + 1)) (drop (l.k + 1) hs))) c.in-Some.is)
 
 pub loop-k-preserved : goal.loop-k-preserved
 loop-k-preserved c =
     let l = c.loop-k in
     let hs = open_all c.args.headers.now in
-    let h : l.k < length hs = rw length_open (omega arith) in (
-      omega arith,
-      l.invariant.1 ∙ agreeing_on hs l.k c.agreed.result h c.agreed.ensures ∙ ap (λ (s : Settlement). or_else s (first_agreeing (seen_before hs (l.k + 1)) (drop (l.k + 1) hs))) c.in_default.is,
-    )
+    let h : l.k < length hs = rw length_open (omega arith) in
+    l.invariant ∙ agreeing_on hs l.k c.agreed.result h c.agreed.ensures ∙ ap (λ (s : Settlement). or_else s (first_agreeing (seen_before hs (l.k + 1)) (drop (l.k + 1) hs))) c.in_default.is
 
 pub returns : goal.returns
 returns c =
     let l = c.loop-k in
     let hs = open_all c.args.headers.now in
-    let e : l.k ≡ length hs = rw length_open (omega (arith, l.invariant.0)) in
-    sym (l.invariant.1 ∙ ap (λ (n : ℕ). first_agreeing (seen_before hs l.k) (drop n hs)) e ∙ agreeing_end hs (seen_before hs l.k))
+    let e : l.k ≡ length hs = rw length_open (omega arith) in
+    sym (l.invariant ∙ ap (λ (n : ℕ). first_agreeing (seen_before hs l.k) (drop n hs)) e ∙ agreeing_end hs (seen_before hs l.k))

@@ -7,12 +7,12 @@ returns-in-Some c =
     let f = c.first_agreeing in
     settled_by_two _ _ f.result f.ensures _ c.in-Some.is
 
-pub returns-then-choices : goal.returns-then-choices
-returns-then-choices c =
+pub returns-in-None : goal.returns-in-None
+returns-in-None c =
     let f = c.first_agreeing in
-    settled_alone _ _ f.result f.ensures _ c.in_default.is c.if-choices.true c.only_one.ensures
+    settled_alone _ _ f.result f.ensures _ c.in-None.is c.if-choices.true c.only_one.ensures
 
-pub returns : goal.returns
-returns c =
+pub returns-in-None-2 : goal.returns-in-None-2
+returns-in-None-2 c =
     let f = c.first_agreeing in
-    settled_nothing _ _ f.result f.ensures c.in_default.is c.if-choices.false
+    settled_nothing _ _ f.result f.ensures c.in-None.is c.if-choices.false
