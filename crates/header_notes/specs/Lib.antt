@@ -1,3 +1,2 @@
 pub mod HeaderNotes
 pub mod Laws
-pub mod Steps
