@@ -132,10 +132,10 @@ module _ (ch : Choices) (s : List ℕ) (tables : Tables) (index report : List �
       differ : (b : Beginning) → until_settled ch s ≡ Ok b → ⊥
       differ b x = let u : Ok b ≡ Err r = sym x ∙ e in let z : ◌≡◌ {A = ℕ} 0 1 = cc in omega arith
 
-      same : (q : Refusal) → until_settled ch s ≡ Err q → ◌≡◌ {A = Answer} (Err q) (Err r)
+      same : (q : Refusal) → until_settled ch s ≡ Err q → ◌≡◌ {A = Ra.Answer} (Err q) (Err r)
       same q x = let u : ◌≡◌ {A = Answer} (Err q) (Err r) = sym x ∙ e in let y : q ≡ r = cc in ap Err y
 
-      cut : (q : Refusal) → CutSays ch s q → ◌≡◌ {A = Answer} (Err q) (Err r)
+      cut : (q : Refusal) → CutSays ch s q → ◌≡◌ {A = Ra.Answer} (Err q) (Err r)
       cut q (inr x) = same q x.1
       cut q (inl x) = absurd (let u : None ≡ Some x.common = sym none ∙ x.agreed in let z : ◌≡◌ {A = ℕ} 0 1 = cc in omega arith)
 
