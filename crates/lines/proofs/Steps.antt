@@ -1,20 +1,29 @@
--- The last step of each function: its texts, one behind the other.
+-- The pair notes as the code takes them, and the last step of each function: its texts, one behind the other.
 -- Assumes nothing.
-use mathlib.Core.List.{List}
-use Prim.Native.Nat.{ℕ, ◌+◌, ◌≤◌}
-use native.Mathlib.Omega.{arith}
-use lib.ListN.{length, get_or}
-use Rattle.text.specs.Text.{note_digits, decimal, Put}
-use Rattle.text.proofs.Steps.{put_on, put_length}
-use Rattle.lines.specs.Lines.{newline, space, most_pairs, most_line, pair_text, line}
+use Rattle.std.specs.Prelude.{◌≡◌, List, ◌++◌, ℕ, ◌+◌, ◌*◌, ◌-◌, ◌<◌, length, get_or, take, drop}
+use Rattle.std.proofs.Common.{arith, sym, ap, ◌∙◌, length-take, length-drop, get_or-take, get_or-drop, take_at, drop_at, drop-drop}
+use Rattle.lists.specs.Parts.{part}
+use Rattle.layout.specs.Layout.{multiframe_pairs, report_octets}
 
-pub line_done : (notes l m₁ m₂ m₃ m₄ : List ℕ) (at a b c e : ℕ) → at + most_line ≤ length l → Put (decimal (get_or notes 0 0)) l at m₁ a → a ≤ at + note_digits
-    → Put space m₁ a m₂ b → Put (pair_text notes) m₂ b m₃ c → c ≤ b + most_pairs → Put newline m₃ c m₄ e → Put (line notes) l at m₄ e × (e ≤ at + most_line)
-unfolding line
-line_done notes l m₁ m₂ m₃ m₄ at a b c e room p u q r v s =
-    let h₁ : a ≤ length l = omega arith in
-    let k₁ = put_length (omega (arith, p.ends)) p in
-    let h₂ : b ≤ length m₁ = omega (arith, q.ends) in
-    let k₂ = put_length (omega (arith, q.ends)) q in
-    let h₃ : c ≤ length m₂ = omega (arith, q.ends) in
-    (put_on (omega (arith, p.ends)) p (put_on (omega (arith, q.ends)) q (put_on (omega (arith, r.ends)) r s)), omega (arith, q.ends, s.ends))
+-- what stands behind the header note
+module _ (notes : List ℕ) (size : length notes ≡ report_octets) where
+  abbrev behind : List ℕ
+  behind = take (length notes - 1) (drop 1 notes)
+
+  pub length_behind : length behind ≡ multiframe_pairs
+  length_behind = simp (length-take, length-drop) (omega arith)
+
+  pub behind_at : (p : ℕ) → p < multiframe_pairs → get_or behind p 0 ≡ get_or notes (p + 1) 0
+  behind_at p h =
+      get_or-take (length notes - 1) (drop 1 notes) p 0 (omega arith) ∙ get_or-drop 1 notes p 0 ∙ ap (λ (i : ℕ). get_or notes i 0) (omega arith)
+
+-- the part of the report that is taken next, and what is left behind it
+module _ (report notes rest : List ℕ) (k : ℕ) (e : drop (report_octets * k) report ≡ notes ++ rest) (size : length notes ≡ report_octets) where
+  pub next_part : notes ≡ part (report_octets * k) report_octets report
+  next_part = sym (ap (take report_octets) e ∙ take_at notes rest report_octets size)
+
+  pub next_rest : rest ≡ drop (report_octets * (k + 1)) report
+  next_rest =
+      let n : report_octets * k + report_octets ≡ report_octets * (k + 1) = omega arith in
+      sym (drop_at notes rest report_octets size) ∙ ap (drop report_octets) (sym e) ∙ drop-drop report_octets (report_octets * k) report
+      ∙ ap (λ (i : ℕ). drop i report) n

@@ -20,7 +20,9 @@ use Rattle.reader.specs.declared.Summary.{Summary}
 use Rattle.deciding.specs.Types.{Verdict}
 use Rattle.reader.specs.Types.{Answer}
 use Rattle.text.specs.Text.{Put}
-use Rattle.text.proofs.Steps.{put_on}
+use Rattle.text.specs.Adds.{Adds}
+use Rattle.text.specs.declared.Text.{Text}
+use Rattle.text.proofs.Steps.{adds_on}
 use Rattle.lines.specs.Lines.{line_of}
 use Rattle.last_line.specs.LastLine.{total, refusal}
 use Rattle.listing.specs.Listing.{listed, reading_of, listing}
@@ -54,11 +56,16 @@ pub listed_is : (octets i r : List ℕ) (x : Answer) → outcome x i r ≡ readi
 unfolding listing
 listed_is octets i r x e = ap (λ (o : Outcome). listed o.report o.answer) e
 
-pub listing_done : (octets i r : List ℕ) (x : Answer) (s : Summary) (l m n : List ℕ) (a e : ℕ) → outcome x i r ≡ reading_of octets → x ≡ Ok s → a ≤ length l
-    → Put (joined (line_of r) s.multiframes) l 0 m a → Put (total s) m a n e → Put (listing octets) l 0 n e
-listing_done octets i r x s l m n a e eo ex room p q =
-    subst (λ (y : List ℕ). Put y l 0 n e) (ap (listed r) (sym ex) ∙ listed_is octets i r x eo) (put_on (omega (arith, p.ends)) p q)
+-- text put into an empty one, which lies in the buffer n and ends at e
+front : {f : List ℕ} {a b : Text} (n : List ℕ) (e : ℕ) → Adds f a b → a.end ≡ 0 → n ≡ b.room.now → e ≡ b.end → Put f a.room.now 0 n e
+front n e p z en ee = rw (← z, en, ee) p.put
 
-pub refused_done : (octets i r : List ℕ) (x : Answer) (z : Reading) (l n : List ℕ) (e : ℕ) → outcome x i r ≡ reading_of octets → x ≡ Err z
-    → Put (refusal z) l 0 n e → Put (listing octets) l 0 n e
-refused_done octets i r x z l n e eo ex p = subst (λ (y : List ℕ). Put y l 0 n e) (ap (listed r) (sym ex) ∙ listed_is octets i r x eo) p
+pub listing_done : (octets i r : List ℕ) (x : Answer) (s : Summary) {a b c : Text} (n : List ℕ) (e : ℕ) → outcome x i r ≡ reading_of octets → x ≡ Ok s
+    → Adds (joined (line_of r) s.multiframes) a b → Adds (total s) b c → a.end ≡ 0 → n ≡ c.room.now → e ≡ c.end → Put (listing octets) a.room.now 0 n e
+listing_done octets i r x s {a} n e eo ex p q z en ee =
+    subst (λ (y : List ℕ). Put y a.room.now 0 n e) (ap (listed r) (sym ex) ∙ listed_is octets i r x eo) (front n e (adds_on p q) z en ee)
+
+pub refused_done : (octets i r : List ℕ) (x : Answer) (y : Reading) {a b : Text} (n : List ℕ) (e : ℕ) → outcome x i r ≡ reading_of octets → x ≡ Err y
+    → Adds (refusal y) a b → a.end ≡ 0 → n ≡ b.room.now → e ≡ b.end → Put (listing octets) a.room.now 0 n e
+refused_done octets i r x y {a} n e eo ex p z en ee =
+    subst (λ (l : List ℕ). Put l a.room.now 0 n e) (ap (listed r) (sym ex) ∙ listed_is octets i r x eo) (front n e p z en ee)

@@ -8,6 +8,7 @@ ghost use Rattle.listing.specs.Listing.{most_listing, listing};
 
 use choices::Choices;
 use layout::{ReadingLayout, UtteranceLayout};
+use text::Text;
 
 // MOST is the most octets of a listing.
 pub const MOST: usize = lines::LINE * UtteranceLayout::MULTIFRAMES + last_line::TOTAL;
@@ -30,18 +31,21 @@ pub fn put_listing(octets: &[u8], text: &mut [u8]) -> usize
     let choices = Choices {
         one_header_settles: true,
     };
-    match reader::read(
+    let answer = reader::read(
         octets,
         choices,
         &codebook,
         &thresholds,
         &mut index,
         &mut report,
-    ) {
+    );
+    let mut listing = Text { room: text, end: 0 };
+    match answer {
         Ok(s) => {
-            let end = lines::put_lines(&report, s.multiframes, text, 0);
-            last_line::put_total(s, text, end)
+            lines::put_lines(&report, s.multiframes, &mut listing);
+            last_line::put_total(s, &mut listing);
         }
-        Err(r) => last_line::put_refusal(r, text, 0),
+        Err(r) => last_line::put_refusal(r, &mut listing),
     }
+    listing.end
 }

@@ -1,3 +1,4 @@
 pub mod Text
+pub mod Adds
 pub mod Laws
 pub mod Examples

@@ -1,10 +1,10 @@
-// Text in a lent buffer: words, and numbers in decimal. Each function puts its text from place at on and answers the place behind it. Each
-// asks for room.
+// Text in a lent buffer: words, and numbers in decimal, put one behind the other. Each method asks for room.
 #![tactic(auto)]
 
-ghost use Rattle.std.specs.Prelude.{◌≡◌, ◌++◌, ◌+◌, ◌*◌, ◌<◌, ◌≤◌, length};
-ghost use Rattle.text.specs.Text.{note_digits, number_digits, decimal, field, Put};
+ghost use Rattle.std.specs.Prelude.{◌≡◌, ◌∷◌, [], ◌+◌, ◌<◌, ◌≤◌, length};
+ghost use Rattle.text.specs.Text.{note_digits, number_digits, decimal, field};
 ghost use Rattle.text.specs.Text.{digit as Text·digit};
+ghost use Rattle.text.specs.Adds.{HasRoom, Adds};
 
 // The most digits of a note and of any number.
 pub const NOTE: usize = 3;
@@ -18,58 +18,61 @@ fn digit(d: u64) -> u8
     b'0' + d as u8
 }
 
-// put_number puts n in decimal.
-pub fn put_number(n: u64, text: &mut [u8], at: usize) -> usize
-    requires { at + length (decimal n) ≤ length text.old }
-    ensures { Put (decimal n) text.old at text.new result }
-{
-    if n < 10 {
-        text[at] = digit(n);
-        return at + 1;
+// The octets lent for text, and where the text that was put ends.
+#[derive(Drop)]
+pub struct Text<'a> {
+    pub room: &'a mut [u8],
+    pub end: usize,
+}
+
+impl<'a> Text<'a> {
+    // put_octet puts one octet.
+    fn put_octet(&mut self, octet: u8)
+        requires { HasRoom 1 self.old }
+        ensures { Adds (octet ∷ []) self.old self.new }
+    {
+        self.room[self.end] = octet;
+        self.end += 1;
     }
-    let end = put_number(n / 10, text, at);
-    text[end] = digit(n % 10);
-    end + 1
-}
 
-// put_note puts a note in decimal.
-pub fn put_note(note: u8, text: &mut [u8], at: usize) -> usize
-    requires { at + note_digits ≤ length text.old }
-    ensures put { Put (decimal note) text.old at text.new result }
-    ensures upper_bound { result ≤ at + note_digits }
-{
-    put_number(note as u64, text, at)
-}
-
-// put_words puts words as they are.
-pub fn put_words(words: &[u8], text: &mut [u8], at: usize) -> usize
-    requires { at + length words.now ≤ length text.old }
-    ensures { Put words.now text.old at text.new result }
-{
-    let mut i = 0;
-    while i < words.len() {
-        text[at + i] = words[i];
-        i += 1;
+    // put_number puts n in decimal, by digits of its own: what `write!` promises holds only of an Ok, and nothing says that it gives one
+    // where there is room.
+    pub fn put_number(&mut self, n: u64)
+        requires { HasRoom (length (decimal n)) self.old }
+        ensures { Adds (decimal n) self.old self.new }
+    {
+        if 10 <= n {
+            self.put_number(n / 10);
+        }
+        self.put_octet(digit(n % 10));
     }
-    at + i
-}
 
-// put_field puts words and a number.
-pub fn put_field(words: &[u8], n: u64, text: &mut [u8], at: usize) -> usize
-    requires { at + length words.now + number_digits ≤ length text.old }
-    ensures put { Put (field words.now n) text.old at text.new result }
-    ensures upper_bound { result ≤ at + length words.now + number_digits }
-{
-    let end = put_words(words, text, at);
-    put_number(n, text, end)
-}
+    // put_words puts words as they are.
+    pub fn put_words(&mut self, words: &[u8])
+        requires { HasRoom (length words.now) self.old }
+        ensures { Adds words.now self.old self.new }
+    {
+        let end = self.end + words.len();
+        self.room[self.end..end].copy_from_slice(words);
+        self.end = end;
+    }
 
-// put_two puts two words with a number each.
-pub fn put_two(first: &[u8], n: u64, second: &[u8], m: u64, text: &mut [u8], at: usize) -> usize
-    requires { at + length first.now + length second.now + 2 * number_digits ≤ length text.old }
-    ensures put { Put (field first.now n ++ field second.now m) text.old at text.new result }
-    ensures upper_bound { result ≤ at + length first.now + length second.now + 2 * number_digits }
-{
-    let end = put_field(first, n, text, at);
-    put_field(second, m, text, end)
+    // put_note puts a note in decimal.
+    pub fn put_note(&mut self, note: u8)
+        requires { HasRoom note_digits self.old }
+        ensures put { Adds (decimal note) self.old self.new }
+        ensures upper_bound { self.new.end ≤ self.old.end + note_digits }
+    {
+        self.put_number(u64::from(note));
+    }
+
+    // put_field puts words and a number.
+    pub fn put_field(&mut self, words: &[u8], n: u64)
+        requires { HasRoom (length words.now + number_digits) self.old }
+        ensures put { Adds (field words.now n) self.old self.new }
+        ensures upper_bound { self.new.end ≤ self.old.end + length words.now + number_digits }
+    {
+        self.put_words(words);
+        self.put_number(n);
+    }
 }

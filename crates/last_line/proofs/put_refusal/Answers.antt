@@ -1,7 +1,10 @@
--- `put_refusal` meets its contract: number and place behind the word, and a line feed. Assumes nothing.
-use Rattle.last_line.proofs.Steps.{refusal_done}
+-- `put_refusal` meets its contract: number and place behind their words, and a line feed. Assumes nothing.
+use Rattle.text.proofs.Steps.{adds_on}
+use Rattle.last_line.specs.LastLine.{refusal}
 use Rattle.last_line.proofs.put_refusal.Goals as goal
 
 pub returns : goal.returns
+unfolding refusal
 returns c =
-    refusal_done c.args.r _ _ c.args.text.now _ _ c.args.at _ _ c.requires c.number-number.ensures c.place-place.ensures c.put_two-end.ensures.put c.put_two-end.ensures.upper_bound c.put_words.ensures
+    let p = adds_on c.put_field.ensures.put (adds_on c.put_field-2.ensures.put c.put_words.ensures) in
+    rw (c.number.ensures, c.place.ensures) at p

@@ -1,12 +1,12 @@
 -- `put_pairs` meets its contract: each turn puts one note behind those before it. Assumes nothing.
-use Prim.Native.Nat.{◌+◌, ◌*◌, ◌≤◌}
-use mathlib.Core.Path.{◌≡◌}
-use lib.ListN.{length, get_or}
+use Rattle.std.specs.Prelude.{◌+◌, ◌*◌, ◌≤◌, get_or}
 use Rattle.lists.specs.Rows.{joined}
-use Rattle.layout.specs.Layout.{multiframe_pairs}
-use Rattle.text.specs.Text.{note_digits, decimal, Put}
+use Rattle.text.specs.Text.{note_digits, decimal}
+use Rattle.text.specs.Adds.{Adds}
 use Rattle.lines.proofs.put_pairs.Given as goal
 
-abbrev pub invariant-loop-p : goal.invariant-loop-p
-invariant-loop-p l =
-    (l.p ≤ multiframe_pairs) × (length l.text ≡ length l.initial.text) × (l.end ≤ l.at + note_digits * l.p) × Put (joined (λ k. decimal (get_or l.notes (k + 1) 0)) l.p) l.initial.text l.at l.text l.end
+abbrev pub invariant-loop-note : goal.invariant-loop-note
+invariant-loop-note l = record {
+  bound : l.text.end ≤ l.initial.text.end + note_digits * l.note-index;
+  put : Adds (joined (λ p. decimal (get_or l.notes (p + 1) 0)) l.note-index) l.initial.text l.text;
+}
