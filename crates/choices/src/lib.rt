@@ -5,7 +5,7 @@ ghost use Rattle.std.specs.Prelude.{◌≡◌};
 ghost use Rattle.choices.specs.Choices.{asked};
 
 // A choice that is not asked for is false: a reading by default is one with every choice false.
-#[derive(Clone, Copy)]
+#[derive(Clone, Copy, Default)]
 pub struct Choices {
     // An only multiframe whose header is itself a codeword settles the settings (01's rule); by default it does not (C-20).
     pub one_header_settles: bool,
@@ -17,18 +17,15 @@ const ONE_HEADER_SETTLES: u64 = 1;
 
 // asked_by gives the choices that a number names. For one that names none it gives none, and takes it for no other: a choice of a later
 // version is never left out without a word.
+#[tactic(auto, unfolding(crate::specs::Choices::asked))]
 pub fn asked_by(number: u64) -> Option<Choices>
     ensures { result ≡ asked number }
 {
-    if number == BY_DEFAULT {
-        return Some(Choices {
-            one_header_settles: false,
-        });
-    }
-    if number == ONE_HEADER_SETTLES {
-        return Some(Choices {
+    match number {
+        BY_DEFAULT => Some(Choices::default()),
+        ONE_HEADER_SETTLES => Some(Choices {
             one_header_settles: true,
-        });
+        }),
+        _ => None,
     }
-    None
 }

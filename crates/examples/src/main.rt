@@ -86,16 +86,9 @@ fn show_readings(rt: &impl Print) -> io::Result<()> {
     let asked = Choices {
         one_header_settles: true,
     };
-    let default = Choices {
-        one_header_settles: false,
-    };
+    let default = Choices::default();
     let mut received = [0u8; MultiframeLayout::OCTETS];
-    received[0] = 0x87;
-    received[1] = 0xb2;
-    received[2] = 0x08;
-    received[4] = 0x0e;
-    received[5] = 0xee;
-    received[6] = 0x01;
+    received[..7].copy_from_slice(&[0x87, 0xb2, 0x08, 0, 0x0e, 0xee, 0x01]);
     received[17] = 0x04;
     show_reading(rt, "one frame received", &received, asked)?;
     show_reading(rt, "one frame received, by default", &received, default)?;

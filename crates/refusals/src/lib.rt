@@ -60,6 +60,7 @@ pub enum Hunt {
 
 // Why a hunting reading is refused: as the octet reader refuses what was found, for one of the hunt's reasons, or for a match after as
 // many multiframes as an utterance may have. That is 15, as the octet reader has it, but its place is a bit.
+// The hunt's two cases stand here again, and not as one that holds a Hunt, since theorems name them (`hunting_of`, `never_12_to_14`).
 #[derive(Clone, Copy)]
 pub enum Hunting {
     Octets(Reading),
