@@ -4,7 +4,7 @@
 ghost use Rattle.std.specs.Prelude.{◌≡◌, ◌+◌, ◌*◌, ◌≤◌, length};
 ghost use Rattle.layout.specs.Layout.{frame_indices};
 ghost use Rattle.wrong_frames.specs.WrongFrames.{is_wide, ends_early, first_wide, first_early};
-ghost use Rattle.wrong_frames.specs.Laws.{found_as};
+ghost use Rattle.wrong_frames.specs.Laws.{found_as, CanTest, FirstOf};
 
 use layout::{Frame, FrameLayout, MultiframeLayout};
 
@@ -17,12 +17,9 @@ fn is_wide(indices: &[u8], frame: Frame) -> bool
     ensures { result ≡ is_wide indices.now frame.0 }
 {
     let from = FrameLayout::INDICES * frame.0;
-    for i in 0..FrameLayout::NARROW {
-        if LARGEST < indices[from + i] {
-            return true;
-        }
-    }
-    false
+    indices[from..from + FrameLayout::NARROW]
+        .iter()
+        .any(|index| LARGEST < *index)
 }
 
 // Is it a zero frame that must not be one: the last, or one whose number from 1 is a multiple of 24?
@@ -31,37 +28,38 @@ fn ends_early(indices: &[u8], frame: Frame) -> bool
     ensures { result ≡ ends_early indices.now frame.0 }
 {
     let number = frame.0 + 1;
-    if number == indices.len() / FrameLayout::INDICES {
-        return frames::is_zero(indices, frame);
+    let last = number == indices.len() / FrameLayout::INDICES;
+    (last || number % MultiframeLayout::FRAMES == 0) && frames::is_zero(indices, frame)
+}
+
+// The first of so many frames that is wrong, by a test.
+#[tactic(auto, unfolding(crate::specs::Laws::FirstOf))]
+fn first<F: Fn(Frame) -> bool>(frames: usize, wrong: F) -> Option<Frame>
+    requires { CanTest frames (F.pre wrong) }
+    ensures { FirstOf frames (F.post wrong) result }
+{
+    for k in 0..frames {
+        if wrong(Frame(k)) {
+            return Some(Frame(k));
+        }
     }
-    if number % MultiframeLayout::FRAMES == 0 {
-        return frames::is_zero(indices, frame);
-    }
-    false
+    None
 }
 
 // first_wide gives the first frame with an index that is too large.
 pub fn first_wide(indices: &[u8]) -> Option<Frame>
     ensures { found_as result ≡ first_wide indices.now }
 {
-    let frames = indices.len() / FrameLayout::INDICES;
-    for k in 0..frames {
-        if is_wide(indices, Frame(k)) {
-            return Some(Frame(k));
-        }
-    }
-    None
+    first(indices.len() / FrameLayout::INDICES, |frame| {
+        is_wide(indices, frame)
+    })
 }
 
 // first_early gives the first zero frame that must not be one.
 pub fn first_early(indices: &[u8]) -> Option<Frame>
     ensures { found_as result ≡ first_early indices.now }
 {
-    let frames = indices.len() / FrameLayout::INDICES;
-    for k in 0..frames {
-        if ends_early(indices, Frame(k)) {
-            return Some(Frame(k));
-        }
-    }
-    None
+    first(indices.len() / FrameLayout::INDICES, |frame| {
+        ends_early(indices, frame)
+    })
 }
