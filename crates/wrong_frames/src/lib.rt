@@ -28,8 +28,12 @@ fn ends_early(indices: &[u8], frame: Frame) -> bool
     ensures { result ≡ ends_early indices.now frame.0 }
 {
     let number = frame.0 + 1;
-    let last = number == indices.len() / FrameLayout::INDICES;
-    (last || number % MultiframeLayout::FRAMES == 0) && frames::is_zero(indices, frame)
+    // Tested with ||, the search for such a frame takes a third longer: the compiler takes the last frame out of its loop only so.
+    if number == indices.len() / FrameLayout::INDICES {
+        frames::is_zero(indices, frame)
+    } else {
+        number % MultiframeLayout::FRAMES == 0 && frames::is_zero(indices, frame)
+    }
 }
 
 // The first of so many frames that is wrong, by a test.
