@@ -41,13 +41,8 @@ pub fn write_and_read(
     let choices = Choices {
         one_header_settles: true,
     };
-    match writer::write(settings, indices, out) {
-        Ok(octets) => {
-            match reader::read(&out[..octets], choices, codebook, thresholds, index, report) {
-                Ok(s) => Ok(s),
-                Err(r) => Err(Failure::NotRead(r)),
-            }
-        }
-        Err(r) => Err(Failure::NotWritten(r)),
-    }
+    let octets = writer::write(settings, indices, out).map_err(Failure::NotWritten)?;
+    reader::read(&out[..octets], choices, codebook, thresholds, index, report).map_err(
+        Failure::NotRead,
+    )
 }
