@@ -5,7 +5,7 @@ use Prim.Native.Nat.{ℕ, zero, suc, ◌+◌, ◌-◌, ◌*◌, ◌/◌, ◌%◌
 use mathlib.Core.Path.{◌≡◌, refl, sym, ap, ap₂, ◌∙◌, subst}
 use mathlib.Core.Bool.{Bool, true, false}
 use mathlib.Core.List.{List, [], ◌∷◌}
-use native.Mathlib.Nat.{div-div-eq-div-mul, mod-lt, le_trans, min_comm, min-eq_left, min-le_left, min-le_right}
+use native.Mathlib.Nat.{div-div-eq-div-mul, mod-lt, le_trans, min-le_left, min-le_right}
 use native.Mathlib.Numerals.{add-one}
 use native.Mathlib.Decide.{dec_lt}
 use native.Mathlib.Omega.{arith}
@@ -22,20 +22,12 @@ use Rattle.lists.specs.Parts.{part, length_part}
 use Rattle.bits.specs.Bits.{field, value, bits}
 use Rattle.bits.proofs.Laws.{length_bits, length_field, field_value, in_word}
 use Rattle.header.specs.Reading.{reading}
-use Rattle.hunt.specs.Hunt.{sync_bits, multiframe_bits, sync, fewest_matches, in_range, alike, matches, readable, passes, head_passes, at_once, fewest_off, all_far, searched, places_left, misses, found, hunted_from, hunted}
+use Rattle.hunt.specs.Hunt.{sync_bits, multiframe_bits, sync, in_range, alike, matches, readable, passes, head_passes, at_once, fewest_off, all_far, searched, places_left, misses, found, hunted_from, hunted}
 use Rattle.hunt.proofs.Laws.{searched_le, misses_none, misses_hit, misses_on}
 use Rattle.hunt.specs.Types.{Hunted, found_at}
 use Rattle.refusals.specs.declared.Hunt.TheVariants.{MatchRange, Nowhere}
 
--- ---- how many matching bits may be asked for
-pub below_range : (least : ℕ) → least < fewest_matches → false ≡ in_range least
-unfolding in_range
-below_range least h = rw (lt-leb fewest_matches least h)
-
-pub from_range : (least : ℕ) → fewest_matches ≤ least → leb least sync_bits ≡ in_range least
-unfolding in_range
-from_range least h = rw (le-leb fewest_matches least h)
-
+-- ---- what is answered where so many matching bits may be asked for, and where not
 pub hunted_in : (s : List ℕ) (from least : ℕ) (h : Hunted) → in_range least ≡ true → h ≡ hunted_from (bits s) from least → h ≡ hunted s from least
 unfolding hunted
 hunted_in s from least h e k = rw e k
@@ -90,14 +82,8 @@ unfolding fewest_off
 fewest_begun head = refl
 
 module _ (n head f off : ℕ) (so_far : f ≡ fewest_off n head) (rest : matches (field sync_bits (head / 2 ^ n % 2 ^ sync_bits)) sync + off ≡ sync_bits) where
-  at_next : min f off ≡ fewest_off (n + 1) head
+  pub at_next : min f off ≡ fewest_off (n + 1) head
   at_next = let o : off ≡ 16 - matches (field 16 (head / 2 ^ n % 2 ^ 16)) sync = omega arith in ap₂ min so_far o ∙ sym (fewest_next n head)
-
-  pub fewer : off < f → off ≡ fewest_off (n + 1) head
-  fewer h = sym (min-eq_left (omega arith)) ∙ min_comm off f ∙ at_next
-
-  pub no_fewer : f ≤ off → f ≡ fewest_off (n + 1) head
-  no_fewer h = sym (min-eq_left h) ∙ at_next
 
 -- no more match than there are
 matches_le : (l m : List Bool) → matches l m ≤ length l
@@ -201,12 +187,13 @@ far_fails s least left t x h e far k hk =
     few_fail least l (t + k) (subst (λ (m : List Bool). matches m sync < least) (ap (field 16) a ∙ f) (far_few least left (x / 2 ^ (t % 8)) far k hk))
 
 -- ---- how many bits are searched
-module _ (s : List ℕ) where
-  pub searched_most : 2 ^ 61 - 1 < length s → 2 ^ 64 - 8 ≡ searched (bits s)
-  searched_most h = rw (lt-ltb (2 ^ 64 - 8) (length (bits s)) (omega (arith, length_bits s)))
-
-  pub searched_all : length s ≤ 2 ^ 61 - 1 → 8 * length s ≡ searched (bits s)
-  searched_all h = rw (le-ltb (2 ^ 64 - 8) (length (bits s)) (omega (arith, length_bits s))) (omega (arith, length_bits s))
+pub searched_is : (s : List ℕ) → 8 * min (length s) (2 ^ 61 - 1) ≡ searched (bits s)
+searched_is s =
+    let n = length_bits s in
+    elim (dec_lt (2 ^ 61 - 1) (length s)) [
+      | yes h ↦ rw (lt-ltb (2 ^ 64 - 8) (length (bits s)) (omega (arith, n))) (omega arith)
+      | no h ↦ rw (le-ltb (2 ^ 64 - 8) (length (bits s)) (omega (arith, n))) (omega (arith, n))
+    ]
 
 -- a place with a whole multiframe's bits left has them
 pub bits_left : (l : List Bool) (t : ℕ) → t < places_left l 0 → t + multiframe_bits ≤ length l

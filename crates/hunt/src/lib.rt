@@ -48,10 +48,8 @@ fn passes(head: u64, least: usize) -> bool
     requires { least ≤ sync_bits }
     ensures { result ≡ head_passes least (head % 2 ^ sync_bits) (head / 2 ^ sync_bits % 2 ^ header_bits) }
 {
-    if SYNC_BITS < least + mismatches(head) as usize {
-        return false;
-    }
-    is_readable(((head >> 16) & 0xffffffff) as u32)
+    least + mismatches(head) as usize <= SYNC_BITS
+        && is_readable(((head >> 16) & 0xffffffff) as u32)
 }
 
 // How many places are looked at together.
@@ -64,10 +62,7 @@ fn fewest_mismatches(head: u64) -> u32
 {
     let mut fewest = SYNC_BITS as u32;
     for k in 0..AT_ONCE {
-        let off = mismatches(head >> k);
-        if off < fewest {
-            fewest = off;
-        }
+        fewest = fewest.min(mismatches(head >> k));
     }
     fewest
 }
@@ -77,31 +72,21 @@ fn are_far(head: u64, least: usize, left: usize) -> bool
     requires { least ≤ sync_bits }
     ensures { result ≡ all_far least left head }
 {
-    if left < AT_ONCE {
-        return false;
-    }
-    SYNC_BITS < least + fewest_mismatches(head) as usize
+    AT_ONCE <= left && SYNC_BITS < least + fewest_mismatches(head) as usize
 }
 
 // searched_bits gives how many bits are searched: their number has to fit 64 bits.
 pub fn searched_bits(octets: &[u8]) -> usize
     ensures { result ≡ searched (bits octets.now) }
 {
-    if MOST < octets.len() {
-        return 8 * MOST;
-    }
-    8 * octets.len()
+    8 * octets.len().min(MOST)
 }
 
 // How many places have a whole multiframe's bits left.
 fn places(octets: &[u8]) -> usize
     ensures { result ≡ places_left (bits octets.now) 0 }
 {
-    let searched = searched_bits(octets);
-    if searched < BITS {
-        return 0;
-    }
-    searched - BITS + 1
+    (searched_bits(octets) + 1).saturating_sub(BITS)
 }
 
 // seek is the hunt itself. It asks for a number of matching bits that there can be, which hunt has tested.
@@ -111,17 +96,17 @@ pub fn seek(octets: &[u8], from: usize, least: usize) -> Result<Found, refusals:
 {
     let end = places(octets);
     let mut t = from;
+    // A while, since no range strides by eight here and by one there.
     while t < end {
         let head = bits::word(octets, t / 8) >> (t % 8);
         if are_far(head, least, end - t) {
             t += AT_ONCE;
+        } else if passes(head, least) {
+            return Ok(Found {
+                place: t,
+                tested: t - from + 1,
+            });
         } else {
-            if passes(head, least) {
-                return Ok(Found {
-                    place: t,
-                    tested: t - from + 1,
-                });
-            }
             t += 1;
         }
     }
@@ -132,13 +117,11 @@ pub fn seek(octets: &[u8], from: usize, least: usize) -> Result<Found, refusals:
 }
 
 // in_range tells whether so many matching bits may be asked for.
+#[tactic(auto, unfolding(crate::specs::Hunt::in_range))]
 pub fn in_range(least: usize) -> bool
     ensures { result ≡ in_range least }
 {
-    if least < FEWEST {
-        return false;
-    }
-    least <= SYNC_BITS
+    (FEWEST..=SYNC_BITS).contains(&least)
 }
 
 // hunt gives the smallest place from bit from on with a whole multiframe's bits left, where at least least bits of the sync match and the
@@ -146,8 +129,8 @@ pub fn in_range(least: usize) -> bool
 pub fn hunt(octets: &[u8], from: usize, least: usize) -> Result<Found, refusals::Hunt>
     ensures { result ≡ hunted octets.now from least }
 {
-    if in_range(least) {
-        return seek(octets, from, least);
+    if !in_range(least) {
+        return Err(refusals::Hunt::MatchRange { least });
     }
-    Err(refusals::Hunt::MatchRange { least })
+    seek(octets, from, least)
 }

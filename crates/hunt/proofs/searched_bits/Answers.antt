@@ -1,10 +1,7 @@
 -- `searched_bits` meets its contract. Assumes nothing.
-use Rattle.std.proofs.Common.{arith}
-use Rattle.hunt.proofs.Steps.{searched_most, searched_all}
+use Rattle.std.proofs.Common.{ℕ, ◌*◌, ap, ◌∙◌}
+use Rattle.hunt.proofs.Steps.{searched_is}
 use Rattle.hunt.proofs.searched_bits.Goals as goal
 
-pub returns-then-octets-gt-MOST : goal.returns-then-octets-gt-MOST
-returns-then-octets-gt-MOST c = searched_most c.args.octets.now (omega arith)
-
 pub returns : goal.returns
-returns c = searched_all c.args.octets.now (omega arith)
+returns c = ap (λ (n : ℕ). 8 * n) c.min.ensures ∙ searched_is c.args.octets.now
