@@ -1,6 +1,6 @@
 -- What turns the tables away, and when: `admission` says exactly whether they are right, and else which refusal is theirs.
 -- Assumes nothing.
-use Rattle.std.specs.Prelude.{ℕ, ◌≡◌, Bool, not, ◌↔◌, pos, length, T}
+use Rattle.std.specs.Prelude.{ℕ, ◌≡◌, Bool, not, Ok, Err, ◌↔◌, pos, length, T}
 use Rattle.std.proofs.Math.Path.{refl}
 use Rattle.std.proofs.Common.{sym, ap, subst, ◌∙◌, arith}
 use Rattle.std.proofs.Math.Bool.{true, false}
@@ -13,7 +13,6 @@ use Rattle.layout.specs.Layout.{codebook_numbers, threshold_numbers}
 use Rattle.refusals.specs.declared.Reading.{Reading}
 use Rattle.refusals.specs.declared.Reading.TheVariants as R
 use Rattle.tables.specs.Tables.{Tables, at, negative, RightSizes, NoneNegative, RightTables, FirstNegative, sizes_right, first_negative, sign_admission, admission, zero_tables}
-use Rattle.tables.specs.declared.Admission.TheVariants.{Admitted, Refused}
 use Rattle.tables.specs.Admitted.{Shown}
 
 module _ (tables : Tables) where
@@ -36,7 +35,7 @@ module _ (tables : Tables) where
 
   -- so what holds of 11 and of 10 holds of every refusal that is shown
   pub by_shown : (P : Reading → Type 0) → ((RightSizes tables → ⊥) → P R.WrongTables)
-      → ((k : ℕ) → RightSizes tables × FirstNegative tables k → P (R.NegativeThreshold k)) → (r : Reading) → Shown tables (Refused r) → P r
+      → ((k : ℕ) → RightSizes tables × FirstNegative tables k → P (R.NegativeThreshold k)) → (r : Reading) → Shown tables (Err r) → P r
   by_shown P eleven ten R.WrongTables h = eleven h
   by_shown P eleven ten (R.NegativeThreshold k) h = ten k h
   by_shown P eleven ten (R.Unknown p) h = absurd h
@@ -49,7 +48,7 @@ module _ (tables : Tables) where
   by_shown P eleven ten (R.ReportShort n) h = absurd h
   by_shown P eleven ten R.AllBad h = absurd h
 
-  shown_sign : RightSizes tables → (s : S.Search) → S.Says test 0 threshold_numbers s → Shown tables (sign_admission s)
+  shown_sign : RightSizes tables → (s : S.Search) → S.Says test 0 threshold_numbers s → Shown tables (sign_admission tables s)
   shown_sign h (S.at k) e = (h, (omega (arith, e.1), e.2, λ i l. e.3 i (omega arith) l))
   shown_sign h S.nowhere e = (h, λ k l. e k (omega arith) (omega arith))
 
@@ -61,36 +60,36 @@ module _ (tables : Tables) where
 
   -- ---- and what leads to each
   -- past 11 the signs decide
-  pub signs_next : RightSizes tables → admission tables ≡ sign_admission (first_negative tables)
+  pub signs_next : RightSizes tables → admission tables ≡ sign_admission tables (first_negative tables)
   unfolding admission
   signs_next h = rw (sizes_pass h)
 
-  pub right_passes : RightTables tables → admission tables ≡ Admitted
-  right_passes h = signs_next h.0 ∙ ap sign_admission (S.says_is test 0 threshold_numbers S.nowhere (λ i a b. h.1 i (omega arith)))
+  pub right_passes : RightTables tables → admission tables ≡ Ok tables
+  right_passes h = signs_next h.0 ∙ ap (sign_admission tables) (S.says_is test 0 threshold_numbers S.nowhere (λ i a b. h.1 i (omega arith)))
 
-  pub wrong_sizes : (RightSizes tables → ⊥) → admission tables ≡ Refused R.WrongTables
+  pub wrong_sizes : (RightSizes tables → ⊥) → admission tables ≡ Err R.WrongTables
   unfolding admission
   wrong_sizes h = by (sizes_right tables) refl
     where
-      by : (a : Bool) → sizes_right tables ≡ a → when a (sign_admission (first_negative tables)) (Refused R.WrongTables) ≡ Refused R.WrongTables
+      by : (a : Bool) → sizes_right tables ≡ a → when a (sign_admission tables (first_negative tables)) (Err R.WrongTables) ≡ Err R.WrongTables
       by true e = absurd (h (pass_sizes e))
       by false e = refl
 
-  pub negative_refused : (k : ℕ) → RightSizes tables → FirstNegative tables k → admission tables ≡ Refused (R.NegativeThreshold k)
+  pub negative_refused : (k : ℕ) → RightSizes tables → FirstNegative tables k → admission tables ≡ Err (R.NegativeThreshold k)
   negative_refused k h f =
-      signs_next h ∙ ap sign_admission (S.says_is test 0 threshold_numbers (S.at k) (omega arith, omega (arith, f.0), f.1, λ i a b. f.2 i b))
+      signs_next h ∙ ap (sign_admission tables) (S.says_is test 0 threshold_numbers (S.at k) (omega arith, omega (arith, f.0), f.1, λ i a b. f.2 i b))
 
   -- ---- so each exactly
-  pub passes_right : admission tables ≡ Admitted → RightTables tables
+  pub passes_right : {admitted : Tables} → admission tables ≡ Ok admitted → RightTables tables
   passes_right e = subst (Shown tables) e shown
 
-  pub right_exactly : (admission tables ≡ Admitted) ↔ RightTables tables
+  pub right_exactly : (admission tables ≡ Ok tables) ↔ RightTables tables
   right_exactly = (passes_right, right_passes)
 
-  pub eleven_exactly : (admission tables ≡ Refused R.WrongTables) ↔ (RightSizes tables → ⊥)
+  pub eleven_exactly : (admission tables ≡ Err R.WrongTables) ↔ (RightSizes tables → ⊥)
   eleven_exactly = (λ e. subst (Shown tables) e shown, wrong_sizes)
 
-  pub ten_exactly : (k : ℕ) → (admission tables ≡ Refused (R.NegativeThreshold k)) ↔ (RightSizes tables × FirstNegative tables k)
+  pub ten_exactly : (k : ℕ) → (admission tables ≡ Err (R.NegativeThreshold k)) ↔ (RightSizes tables × FirstNegative tables k)
   ten_exactly k = (λ e. subst (Shown tables) e shown, λ h. negative_refused k h.0 h.1)
 
 -- whether no threshold is negative, computed

@@ -1,15 +1,13 @@
 -- The quantiser's tables, one record (01, "Reading"): codebook and thresholds, signed numbers that the caller lends; and what turns them away
 -- before anything else is looked at, 11 and then 10 (02, C-12).
 -- Assumes nothing.
-use Rattle.std.specs.Prelude.{ℕ, ◌<◌, ◌≡◌, List, Bool, true, false, ℤ, pos, length, replicate, get_or, eqb}
+use Rattle.std.specs.Prelude.{ℕ, ◌<◌, ◌≡◌, List, Bool, true, false, Result, Ok, Err, ℤ, pos, length, replicate, get_or, eqb}
 use Rattle.std.specs.Int.Signed.{lt_z}
 use Rattle.lists.specs.Tests.{when, both}
 use Rattle.lists.specs.Search as S
 use Rattle.layout.specs.Layout.{codebook_numbers, threshold_numbers}
 use Rattle.refusals.specs.declared.Reading.{Reading}
 use Rattle.refusals.specs.declared.Reading.TheVariants.{WrongTables, NegativeThreshold}
-use Rattle.tables.specs.declared.Admission.{Admission}
-use Rattle.tables.specs.declared.Admission.TheVariants.{Admitted, Refused}
 
 pub record Tables : Type 0 where
   pub codebook : List ℤ
@@ -52,19 +50,19 @@ sizes_right tables = both (eqb (length tables.codebook) codebook_numbers) (eqb (
 abbrev pub first_negative : Tables → S.Search
 first_negative tables = S.first_from (λ k. negative (at tables.thresholds k)) 0 threshold_numbers
 
--- 10: a negative threshold, place the first one's number from 0
-abbrev pub sign_admission : S.Search → Admission
-sign_admission (S.at k) = Refused (NegativeThreshold k)
-sign_admission S.nowhere = Admitted
+-- 10: a negative threshold, place the first one's number from 0; else the tables are admitted as they are
+abbrev pub sign_admission : Tables → S.Search → Result Tables Reading
+sign_admission tables (S.at k) = Err (NegativeThreshold k)
+sign_admission tables S.nowhere = Ok tables
 
 -- 11: codebook not 1,280 or thresholds not 14. It comes first, and 10 after it
-unfoldable pub admission : Tables → Admission
-admission tables = when (sizes_right tables) (sign_admission (first_negative tables)) (Refused WrongTables)
+unfoldable pub admission : Tables → Result Tables Reading
+admission tables = when (sizes_right tables) (sign_admission tables (first_negative tables)) (Err WrongTables)
 
 -- what a reader answers: the refusal of the tables as it says it, or what comes next
-abbrev pub if_admitted : {A : Type 0} → Admission → (Reading → A) → A → A
-if_admitted Admitted refuse next = next
-if_admitted (Refused r) refuse next = refuse r
+abbrev pub if_admitted : {A : Type 0} → Result Tables Reading → (Reading → A) → A → A
+if_admitted (Ok tables) refuse next = next
+if_admitted (Err r) refuse next = refuse r
 
 -- tables of zeros
 abbrev pub zero_tables : Tables

@@ -1,56 +1,86 @@
 // Which tables, codebook and thresholds, a reading may use, and what turns the others away before anything else is looked at.
 #![tactic(auto)]
 
-ghost use Rattle.std.specs.Prelude.{◌≡◌, ◌<◌, length};
-ghost use Rattle.tables.specs.Tables.{at, sizes_right, negative, admission, tables_of};
+ghost use Rattle.std.specs.Prelude.{◌≡◌, ◌<◌, position};
+ghost use Rattle.layout.specs.Layout.{codebook_numbers, threshold_numbers};
+ghost use Rattle.tables.specs.Tables.{at, negative, sizes_right, admission, tables_of, RightSizes};
 
 use layout::ReadingLayout;
 use refusals::Reading;
+use std::marker::Model;
 
-// What becomes of the tables: both readers' first test.
-#[derive(Clone, Copy)]
-pub enum Admission {
-    Admitted,
-    Refused(Reading),
+// A codebook and its thresholds, of 01's sizes, 1,280 and 14 numbers: lent together, and taken together by all that judges pairs.
+// A contract sees the definitions' record of both.
+#[derive(Drop)]
+pub struct Tables<'a> {
+    codebook: &'a [i32],
+    thresholds: &'a [i32],
+}
+
+impl<'a> Model for Tables<'a> {
+    ghost use Rattle.tables.specs.Tables.{Tables, tables_of, RightSizes};
+
+    ghost Value = { Tables };
+
+    ghost view = { λ t. tables_of t.codebook.now t.thresholds.now };
+
+    ghost invariant = { λ t. RightSizes (tables_of t.codebook.now t.thresholds.now) };
+}
+
+impl<'a> Tables<'a> {
+    // new lends a codebook and thresholds that the caller knows to be of these sizes; admit tests them, and the signs too.
+    pub fn new(codebook: &'a [i32], thresholds: &'a [i32]) -> Tables<'a>
+        requires { RightSizes (tables_of codebook.now thresholds.now) }
+        ensures { result ≡ tables_of codebook.now thresholds.now }
+    {
+        Tables {
+            codebook,
+            thresholds,
+        }
+    }
+
+    // number gives the number at a place of the codebook.
+    pub fn number(&self, i: usize) -> i32
+        requires { i < codebook_numbers }
+        ensures { result ≡ at self.now.codebook i }
+    {
+        self.codebook[i]
+    }
+
+    // threshold gives the threshold at a place.
+    pub fn threshold(&self, k: usize) -> i32
+        requires { k < threshold_numbers }
+        ensures { result ≡ at self.now.thresholds k }
+    {
+        self.thresholds[k]
+    }
 }
 
 // Have the tables 01's sizes, 1,280 and 14 numbers?
+#[tactic(auto, unfolding(crate::specs::Tables::sizes_right))]
 fn are_sized(codebook: &[i32], thresholds: &[i32]) -> bool
     ensures { result ≡ sizes_right (tables_of codebook.now thresholds.now) }
 {
-    if codebook.len() != ReadingLayout::CODEBOOK {
-        return false;
-    }
-    thresholds.len() == ReadingLayout::THRESHOLDS
+    codebook.len() == ReadingLayout::CODEBOOK && thresholds.len() == ReadingLayout::THRESHOLDS
 }
 
-fn is_negative(threshold: i32) -> bool
-    ensures { result ≡ negative threshold }
+// The place of the first negative threshold, if there is one.
+fn first_negative(thresholds: &[i32]) -> Option<usize>
+    ensures { result ≡ position negative thresholds.now }
 {
-    threshold < 0
+    thresholds.iter().position(|threshold| *threshold < 0)
 }
 
-// The same of the threshold at a place.
-fn is_negative_at(thresholds: &[i32], k: usize) -> bool
-    requires { k < length thresholds.now }
-    ensures { result ≡ negative (at thresholds.now k) }
-{
-    let t = thresholds[k];
-    is_negative(t)
-}
-
-// admit says whether a reading may use the tables: refusal 11 for wrong sizes, then 10 for the first negative threshold, which every index
+// admit gives the tables if a reading may use them: refusal 11 for wrong sizes, then 10 for the first negative threshold, which every index
 // pair of its codebook would exceed (02, C-12).
-pub fn admit(codebook: &[i32], thresholds: &[i32]) -> Admission
+pub fn admit<'a>(codebook: &'a [i32], thresholds: &'a [i32]) -> Result<Tables<'a>, Reading>
     ensures { result ≡ admission (tables_of codebook.now thresholds.now) }
 {
     if !are_sized(codebook, thresholds) {
-        return Admission::Refused(Reading::WrongTables);
+        return Err(Reading::WrongTables);
     }
-    for k in 0..ReadingLayout::THRESHOLDS {
-        if is_negative_at(thresholds, k) {
-            return Admission::Refused(Reading::NegativeThreshold { threshold: k });
-        }
+    if let Some(threshold) = first_negative(thresholds) {
+        return Err(Reading::NegativeThreshold { threshold });
     }
-    Admission::Admitted
+    Ok(Tables::new(codebook, thresholds))
 }
