@@ -1,61 +1,32 @@
--- The steps of `is_flagged` and `is_inconsistent`: the places that they read lie in the tables, and each turn counts its index pair.
+-- The flags of a pair, counted over the numbers of its index pairs.
 -- Assumes nothing.
-use Prim.Native.Nat.{ℕ, suc, ◌+◌, ◌*◌, ◌<◌}
-use mathlib.Core.Path.{◌≡◌, ap, sym, ◌∙◌}
-use mathlib.Core.List.{List}
-use mathlib.Core.Bool.{Bool, true, false}
-use lib.ListN.{get_or, drop}
-use lib.Seq.{get_or-take, get_or-drop}
-use lib.Dec.{leb}
-use native.Mathlib.Nat.{add-zero}
-use native.Mathlib.Numerals.{add-one}
-use native.Mathlib.Decide.{dec_lt}
-use native.Mathlib.Omega.{arith}
+use Rattle.std.proofs.Common.{ℕ, zero, suc, ◌+◌, ◌≡◌, refl, sym, ap, ◌∙◌, List, Bool, true, false, get_or, arith, cond, add-one}
+use Rattle.std.specs.List.{count_by, range_with_len}
+use Rattle.std.proofs.lemmas.List.FromFn.{sum_by-map-range_with_len_more}
 use Rattle.lists.specs.Tests.{when}
-use Rattle.lists.specs.Parts.{part}
-use Rattle.layout.specs.Layout.{frame_indices, codebook_numbers}
-use Rattle.tables.specs.Tables.{Tables, at}
-use Rattle.consistency.specs.Consistency.{exceeding, entry_place, element_exceeds, flagged, flags, inconsistent, InRange}
+use Rattle.tables.specs.Tables.{Tables}
+use Rattle.consistency.specs.Consistency.{flagged, flags}
+use Prim.Native.Nat.{zero, suc}
+use mathlib.Core.List.{map, [], ◌∷◌}
 
-module _ (t : Tables) (c i j : ℕ) where
-  -- the code adds nothing for the first element
-  first_element : element_exceeds t c i j 0 ≡ exceeding (at t.thresholds (2 * c)) (at t.codebook (128 * c + 2 * i)) (at t.codebook (128 * c + 2 * j))
-  first_element = simp add-zero
+map_same : (xs : List ℕ) → map (λ x. x) xs ≡ xs
+map_same [] = refl
+map_same (x ∷ xs) = ap (λ (ys : List ℕ). x ∷ ys) (map_same xs)
 
-  pub flagged_first : {p : Bool} → p ≡ exceeding (at t.thresholds (2 * c)) (at t.codebook (128 * c + 2 * i)) (at t.codebook (128 * c + 2 * j)) → p ≡ true → true ≡ flagged t c i j
-  unfolding flagged
-  flagged_first e h = ap (λ (q : Bool). when q true (element_exceeds t c i j 1)) (sym h ∙ e ∙ sym first_element)
+one : (b : Bool) (n : ℕ) → n + cond b 1 0 ≡ when b (suc n) n
+one true n = omega arith
+one false n = omega arith
 
-  pub flagged_second : {p r : Bool} → p ≡ exceeding (at t.thresholds (2 * c)) (at t.codebook (128 * c + 2 * i)) (at t.codebook (128 * c + 2 * j)) → p ≡ false
-      → r ≡ element_exceeds t c i j 1 → r ≡ flagged t c i j
-  unfolding flagged
-  flagged_second e h k = k ∙ ap (λ (q : Bool). when q true (element_exceeds t c i j 1)) (sym h ∙ e ∙ sym first_element)
+-- one number more
+more : (f : ℕ → Bool) (n : ℕ) → count_by f (range_with_len 0 (n + 1)) ≡ count_by f (range_with_len 0 n) + cond (f n) 1 0
+more f n =
+    let e = sum_by-map-range_with_len_more (λ x. cond (f x) 1 0) (λ x. x) 0 n n (omega arith) in
+    ap (count_by f) (sym (map_same (range_with_len 0 (n + 1)))) ∙ e ∙ ap (λ (xs : List ℕ). count_by f xs + cond (f n) 1 0) (map_same (range_with_len 0 n))
 
--- an index of a frame lies in its codebook
-module _ (index : List ℕ) (first c x : ℕ) (here : x ≡ get_or index (first + c) 0) (small : c < frame_indices) where
-  pub index_of : x ≡ get_or (part first frame_indices index) c 0
-  index_of = here ∙ sym (get_or-drop first index c 0) ∙ sym (get_or-take frame_indices (drop first index) c 0 small)
-
-  pub in_codebook : get_or index (first + c) 0 < 256 → InRange (part first frame_indices index) → entry_place c x 1 < codebook_numbers
-  in_codebook octet range =
-      elim (dec_lt c 6) [
-        | yes h ↦ let k = range c h in let e = index_of in omega arith
-        | no h ↦ omega arith
-      ]
-
--- a turn counts its index pair
-module _ (t : Tables) (f g : List ℕ) (c x y n : ℕ) {r : Bool} (so_far : n ≡ flags t f g c) (ex : x ≡ get_or f c 0) (ey : y ≡ get_or g c 0) (er : r ≡ flagged t c x y) where
-  tested : flagged t c (get_or f c 0) (get_or g c 0) ≡ r
-  tested = ap (λ (z : ℕ). flagged t c (get_or f c 0) z) (sym ey) ∙ ap (λ (z : ℕ). flagged t c z y) (sym ex) ∙ sym er
-
-  pub one_more : r ≡ true → n + 1 ≡ flags t f g (c + 1)
-  unfolding flags
-  one_more h = rw (add-one, add-one, tested, h) (ap suc so_far)
-
-  pub no_more : r ≡ false → n ≡ flags t f g (c + 1)
-  unfolding flags
-  no_more h = rw (add-one, tested, h) so_far
-
-pub judged : (t : Tables) (f g : List ℕ) (n : ℕ) → n ≡ flags t f g frame_indices → leb 2 n ≡ inconsistent t f g
-unfolding inconsistent
-judged t f g n e = ap (leb 2) e
+pub flags_counted : (t : Tables) (f g : List ℕ) (n : ℕ) → flags t f g n ≡ count_by (λ c. flagged t c (get_or f c 0) (get_or g c 0)) (range_with_len 0 n)
+unfolding flags
+flags_counted t f g zero = refl
+flags_counted t f g (suc c) =
+    let p : ℕ → Bool = λ c. flagged t c (get_or f c 0) (get_or g c 0) in
+    ap (λ (k : ℕ). when (p c) (suc k) k) (flags_counted t f g c) ∙ sym (one (p c) (count_by p (range_with_len 0 c))) ∙ sym (more p c)
+    ∙ ap (λ (k : ℕ). count_by p (range_with_len 0 k)) (add-one c)

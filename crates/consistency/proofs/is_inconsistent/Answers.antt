@@ -1,44 +1,18 @@
--- `is_inconsistent` meets its contract: after c turns the flags of the first c index pairs are counted (`Flags`).
--- Assumes nothing.
-use Prim.Native.Nat.{◌+◌, ◌<◌}
-use mathlib.Core.Path.{◌≡◌, refl, ◌∙◌}
-use Rattle.std.proofs.Common.{ℕ, get_or}
-use native.Mathlib.Omega.{arith}
+-- `is_inconsistent` meets its contract: the index pairs that are flagged are counted (`Flags`). Assumes nothing.
+use Rattle.std.proofs.Common.{rules, tests, refl, sym, ap, ◌∙◌, get_or, leb}
+use Rattle.std.specs.List.{range_with_len}
+use Rattle.std.proofs.lemmas.Iterator.{YieldsList-from_range}
+use Rattle.std.proofs.lemmas.Iterator.Consumers.{count_from_yields_List, YieldsList-from_filter}
+use Rattle.std.proofs.lemmas.List.Sums.{length-filter}
 use Rattle.layout.specs.Layout.{frame_indices}
-use Rattle.consistency.specs.Consistency.{flags}
-use Rattle.consistency.proofs.Flags.{index_of, in_codebook, one_more, no_more, judged}
+use Rattle.consistency.specs.Consistency.{flagged, inconsistent}
+use Rattle.consistency.proofs.Flags.{flags_counted}
 use Rattle.consistency.proofs.is_inconsistent.Goals as goal
-use Rattle.consistency.proofs.is_inconsistent.Goals.{then-is_flagged, else-is_flagged}
-
-pub loop-c-init : goal.loop-c-init
-unfolding flags
-loop-c-init c = (omega arith, omega arith, refl)
-
-pub is_flagged-requires : goal.is_flagged-requires
-is_flagged-requires c =
-    let small : c.loop-c.c < frame_indices = omega arith in
-    let octet : (k : ℕ) → get_or c.args.index.now k 0 < 256 = λ k. (c.type_inv.index k).fits in record {
-      right_sizes = (c.requires.right_sizes, small);
-      i_bound = (
-        in_codebook c.args.index.now c.args.first c.loop-c.c c.index_at-i.result c.index_at-i.ensures small (octet (c.args.first + c.loop-c.c)) c.requires.in_range.0,
-        in_codebook c.args.index.now c.args.second c.loop-c.c c.index_at-j.result c.index_at-j.ensures small (octet (c.args.second + c.loop-c.c)) c.requires.in_range.1,
-      );
-    }
-
-pub loop-c-preserved : goal.loop-c-preserved
-loop-c-preserved c =
-    let small : c.loop-c.c < frame_indices = omega arith in
-    let ex = index_of c.args.index.now c.args.first c.loop-c.c c.index_at-i.result c.index_at-i.ensures small in
-    let ey = index_of c.args.index.now c.args.second c.loop-c.c c.index_at-j.result c.index_at-j.ensures small in (
-      omega arith,
-      elim c.if-is_flagged.branch [ then-is_flagged w ↦ omega arith | else-is_flagged w ↦ omega arith ],
-      elim c.if-is_flagged.branch [
-        | then-is_flagged w ↦ w.flags-is ∙ one_more _ _ _ c.loop-c.c c.index_at-i.result c.index_at-j.result c.loop-c.flags c.loop-c.invariant.2 ex ey c.is_flagged.ensures w.if-is_flagged.true
-        | else-is_flagged w ↦ w.flags-is ∙ no_more _ _ _ c.loop-c.c c.index_at-i.result c.index_at-j.result c.loop-c.flags c.loop-c.invariant.2 ex ey c.is_flagged.ensures w.if-is_flagged.false
-      ],
-    )
 
 pub returns : goal.returns
+unfolding inconsistent
 returns c =
-    let e : c.loop-c.c ≡ frame_indices = omega arith in
-    judged _ _ _ c.loop-c.flags (rw e at c.loop-c.invariant.2)
+    let f = c.args.first.now in
+    let g = c.args.second.now in
+    let found = count_from_yields_List c.filter.result _ c.count-flags.ensures.ran (YieldsList-from_filter _ (λ k. flagged c.args.tables.now k (get_or f k 0) (get_or g k 0)) (YieldsList-from_range 0 7 7 c.filter.ensures.source refl) c.filter.ensures.closure (λ x r q k. search (rules, tests))) in
+    ap (leb 2) (found ∙ length-filter (λ k. flagged c.args.tables.now k (get_or f k 0) (get_or g k 0)) (range_with_len 0 7) ∙ sym (flags_counted c.args.tables.now f g frame_indices))
