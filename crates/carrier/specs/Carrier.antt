@@ -49,3 +49,11 @@ received octets places = packet_at octets (in_places places)
 
 abbrev pub pair_count : List ℕ → ℕ
 pair_count places = multiframe_pairs * length places
+
+-- octets that are cut up, and the places at which their multiframes begin
+pub record Multiframes : Type 0 where
+  pub octets : List ℕ
+  pub places : List ℕ
+
+abbrev pub multiframes_of : List ℕ → List ℕ → Multiframes
+multiframes_of octets places = record { octets = octets; places = places }

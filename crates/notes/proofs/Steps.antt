@@ -12,11 +12,10 @@ use native.Mathlib.Omega.{arith}
 use Rattle.lists.specs.Tests.{when}
 use Rattle.lists.specs.Parts.{part, over, over_none, set_over, behind, over_behind}
 use Rattle.lists.specs.Rows.{each, joined, length_each, each_at, same_each, same_joined, each_add, joined_add}
-use Rattle.layout.specs.Layout.{widths, frame_indices, pair_indices, data_bits, packet_bits, multiframe_pairs, stream_octets, index_octets, multiframe_of, first_pair, packet_start}
+use Rattle.layout.specs.Layout.{widths, frame_indices, pair_indices, data_bits, multiframe_pairs, index_octets, first_pair}
 use Rattle.tables.specs.Tables.{Tables}
-use Rattle.cutting.specs.Laws.{Placed}
-use Rattle.carrier.specs.Carrier.{stream_at, stream_packet, in_places, received, pair_count}
-use Rattle.carrier.specs.Laws.{length_stream, packet_inside, packet_of_lem}
+use Rattle.carrier.specs.Carrier.{stream_at, stream_packet, in_places, received}
+use Rattle.carrier.specs.Laws.{packet_of_lem}
 use Rattle.crc.specs.Crc.{right}
 use Rattle.bits.specs.Bits.{bits, numbers, total, Fits}
 use Rattle.bits.proofs.Laws.{fits_numbers, length_numbers}
@@ -243,13 +242,6 @@ pub put_is : (packets : ℕ → List Bool) (q : ℕ) (l m : List ℕ) (to : ℕ)
     → m ≡ over l to pair_indices (frames_of packets q)
 unfolding frames_of
 put_is packets q l m to e = e
-
--- ---- where pair q's packet stands in octets: in a whole stream
-pub stream_size : (octets places : List ℕ) (q : ℕ) → Placed octets places → q < pair_count places → (s : List ℕ)
-    → s ≡ stream_at octets (in_places places) (multiframe_of q) → packet_start q + packet_bits ≤ 8 * length s
-stream_size octets places q ok h s e =
-    let size : length s ≡ stream_octets = ap length e ∙ length_stream octets (get_or places (multiframe_of q) 0) (ok (multiframe_of q) (omega arith)) in
-    packet_inside q (length s) (omega arith)
 
 -- ---- one multiframe more: the notes of its stream, and its frames
 module _ (octets places : List ℕ) (k f : ℕ) (ef : f ≡ first_pair k) (s : List ℕ) (es : s ≡ stream_at octets (in_places places) k) where
