@@ -3,15 +3,17 @@
 
 ghost use Rattle.std.specs.Prelude.{◌≡◌, ◌+◌, ◌≤◌, length};
 ghost use Rattle.lists.specs.Parts.{over};
-ghost use Rattle.cutting.specs.Laws.{Placed};
 ghost use Rattle.layout.specs.Layout.{multiframe_octets};
 ghost use Rattle.carrier.specs.Carrier.{header_word};
 ghost use Rattle.header.specs.Reading.{reading};
 ghost use Rattle.header_readings.specs.Stored.{packed, opened, Mended, pack_all};
 
+use carrier::Multiframes;
 use header::Decoded;
+use layout::Multiframe;
 
-// In an array a reading is one number: the message, and above it the flips, of which a lost header has three.
+// In an array a reading is one number, the message and above it the flips, of which a lost header has three: the arrays have a fixed size, on
+// the stack, and a number takes four octets where the reading itself takes twelve.
 const ABOVE: u32 = 0x10000;
 
 const LOST_FLIPS: u32 = 3;
@@ -23,7 +25,7 @@ fn pack_reading(h: Option<Decoded>) -> u32
     let Some(d) = h else {
         return LOST_FLIPS * ABOVE;
     };
-    d.flips * ABOVE + d.message as u32
+    d.flips * ABOVE + u32::from(d.message)
 }
 
 // open_reading gives the reading that a number stands for.
@@ -40,25 +42,28 @@ pub fn open_reading(x: u32) -> Option<Decoded>
     })
 }
 
+// The reading of a header's word, as one number.
+fn read_word(word: u32) -> u32
+    ensures { result ≡ packed (reading word) }
+{
+    pack_reading(header::read(word))
+}
+
 // reading_at gives the reading of the header of the multiframe at a place, as one number. It asks for a whole multiframe there.
 pub fn reading_at(octets: &[u8], place: usize) -> u32
     requires { place + multiframe_octets ≤ length octets.now }
     ensures { result ≡ packed (reading (header_word octets.now place)) }
 {
-    pack_reading(header::read(carrier::header_word(octets, place)))
+    read_word(carrier::header_word(octets, place))
 }
 
-// read_headers puts the reading of every header to the front of headers; the rest of headers stays.
-// It asks for places of whole multiframes, and for room.
-pub fn read_headers(octets: &[u8], places: &[usize], headers: &mut [u32])
-    requires placed { Placed octets.now places.now }
-    requires places_in_bounds { length places.now ≤ length headers.old }
-    ensures { headers.new ≡ over headers.old 0 (length places.now) (pack_all octets.now places.now (length places.now)) }
+// read_headers puts the reading of every header to the front of headers; the rest of headers stays. It asks for room.
+pub fn read_headers(multiframes: &Multiframes<'_>, headers: &mut [u32])
+    requires { length multiframes.now.places ≤ length headers.old }
+    ensures { headers.new ≡ over headers.old 0 (length multiframes.now.places)
+        (pack_all multiframes.now.octets multiframes.now.places (length multiframes.now.places)) }
 {
-    let mut k = 0;
-    while k < places.len() {
-        let place = places[k];
-        headers[k] = reading_at(octets, place);
-        k += 1;
+    for k in 0..multiframes.count() {
+        headers[k] = read_word(multiframes.header_word(Multiframe(k)));
     }
 }

@@ -13,4 +13,4 @@ pub overflow_add-result : goal.overflow_add-result
 overflow_add-result c = let h = subst Mended c.in-Some.is c.requires in record { fits = omega (arith, h.0, h.1) }
 
 pub returns : goal.returns
-returns c = rw c.in-Some.is
+returns c = rw c.in-Some.is (omega (arith, c.from.ensures))

@@ -1,26 +1,23 @@
 -- `read_headers` meets its contract: each turn stores one reading behind those before it. Assumes nothing.
 use Rattle.std.proofs.Common.{◌≡◌, ℕ, ap, ◌∙◌, arith, length}
 use Rattle.lists.specs.Parts.{over, over_none}
-use Rattle.header_readings.specs.Stored.{pack_all}
-use Rattle.header_readings.proofs.Steps.{stored_on}
+use Rattle.lists.specs.Rows.{each_more}
+use Rattle.carrier.specs.Carrier.{word_at, in_places}
+use Rattle.header.specs.Reading.{reading}
+use Rattle.header_readings.specs.Stored.{packed, pack_all}
 use Rattle.header_readings.proofs.read_headers.Goals as goal
 
 pub loop-k-init : goal.loop-k-init
-loop-k-init c = (omega arith, over_none _ 0)
-
-pub reading_at-requires : goal.reading_at-requires
-reading_at-requires c = c.requires.placed c.loop-k.k (omega arith)
+loop-k-init c = over_none _ 0
 
 pub loop-k-preserved : goal.loop-k-preserved
 loop-k-preserved c =
-    let l = c.loop-k in
-    let room = c.requires.places_in_bounds in (
-      omega arith,
-      stored_on c.args.octets.now c.args.places.now c.args.headers.now l.headers l.k c.reading_at.result (omega arith) c.reading_at.ensures
-          l.invariant.1 c.loop-k.auto.headers,
-    )
+    let m = c.args.multiframes.now in
+    let read = c.read_word.ensures ∙ ap (λ (n : ℕ). packed (reading n)) c.header_word.ensures in
+    each_more c.args.headers.now c.loop-k.headers c.loop-k.k (λ k. packed (reading (word_at m.octets (in_places m.places) k))) c.read_word.result (omega arith) read c.loop-k.auto.headers c.loop-k.invariant
 
 pub returns : goal.returns
 returns c =
-    let e : c.loop-k.k ≡ length c.args.places.now = omega (arith, c.loop-k.invariant.0) in
-    c.loop-k.invariant.1 ∙ ap (λ (n : ℕ). over c.args.headers.now 0 n (pack_all c.args.octets.now c.args.places.now n)) e
+    let m = c.args.multiframes.now in
+    let e : c.loop-k.k ≡ length m.places = omega arith in
+    c.loop-k.invariant ∙ ap (λ (n : ℕ). over c.args.headers.now 0 n (pack_all m.octets m.places n)) e
