@@ -59,11 +59,6 @@ early_common m index report c d = by (unfit c) (ltb index (index_octets * m)) (l
     by false false true e = cc
     by false false false e = cc
 
--- and what it does not refuse it accepts with those
-accepts : (m index report c : ℕ) (v : Verdict) → v ≡ early_verdict m index report c → ((r : Refusal) → v ≡ Err r → ⊥) → v ≡ Ok c
-accepts m index report c (Err r) e n = absurd (n r refl)
-accepts m index report c (Ok d) e n = ap Ok (early_common m index report c d (sym e))
-
 -- ---- what the deciding functions' branches show
 module _ (m bad pairs index report c : ℕ) (v : Verdict) (ev : v ≡ early_verdict m index report c) where
   pub refused_early : (r : Refusal) → v ≡ Err r → Err r ≡ settled_verdict m bad pairs index report (Some c)
@@ -73,9 +68,9 @@ module _ (m bad pairs index report c : ℕ) (v : Verdict) (ev : v ≡ early_verd
   passed_early w e l = l ∙ ap (λ (x : Verdict). and_then x (last_verdict bad pairs c)) (sym e ∙ ev) ∙ in_two m bad pairs index report c
 
   -- how many are bad, of how many
-  module _ (b n : ℕ) (e : (r : Refusal) → v ≡ Err r → ⊥) (eb : b ≡ bad) (en : n ≡ pairs) where
+  module _ (b n d : ℕ) (e : v ≡ Ok d) (eb : b ≡ bad) (en : n ≡ pairs) where
     same_accept : v ≡ Ok c
-    same_accept = accepts m index report c v ev e
+    same_accept = e ∙ ap Ok (early_common m index report c d (sym ev ∙ e))
 
     pub all_bad_lem : b ≡ n → Err AllBad ≡ settled_verdict m bad pairs index report (Some c)
     unfolding last_verdict
