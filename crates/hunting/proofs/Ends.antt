@@ -11,7 +11,6 @@ use lib.ListN.{length, take}
 use Rattle.layout.specs.Layout.{multiframe_octets, most_multiframes}
 use Rattle.choices.specs.declared.Choices.{Choices}
 use Rattle.tables.specs.Tables.{Tables, admission}
-use Rattle.tables.specs.declared.Admission.TheVariants as A
 use Rattle.bits.specs.Bits.{bits}
 use Rattle.hunt.specs.Hunt.{multiframe_bits, in_range, searched}
 use Rattle.reader.specs.Reading as R
@@ -111,11 +110,11 @@ module _ (ch : Choices) (s : List ℕ) (from least : ℕ) where
           some (p ∷ ps) h = refl
 
     -- ---- the first tests
-    pub not_admitted : (r : OctetRefusal) → admission tables ≡ A.Refused r → outcome (Err (Octets r)) index report ≡ hunting_reading ch s from least tables index report
+    pub not_admitted : (r : OctetRefusal) → admission tables ≡ Err r → outcome (Err (Octets r)) index report ≡ hunting_reading ch s from least tables index report
     unfolding hunting_reading
     not_admitted r e = rw e
 
-    module _ (right : admission tables ≡ A.Admitted) where
+    module _ {admitted : Tables} (right : admission tables ≡ Ok admitted) where
       pub out_of_range : in_range least ≡ false → outcome (Err (MatchRange least)) index report ≡ hunting_reading ch s from least tables index report
       unfolding hunting_reading
       out_of_range e = rw (right, e)

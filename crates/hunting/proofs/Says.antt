@@ -1,7 +1,7 @@
 -- What a hunting reading's answer says, case by case: which refusals occur and when, how many multiframes, bits outside and places tested there
 -- are, and that every whole multiframe whose place passes is read.
 -- Assumes nothing.
-use Rattle.std.specs.Prelude.{ℕ, zero, suc, ◌+◌, ◌*◌, ◌≤◌, ◌<◌, ◌↔◌, List, [], ◌∷◌, ◌++◌, Bool, true, false, eqb, ltb, length, get_or, Some, None, Ok, Err}
+use Rattle.std.specs.Prelude.{ℕ, zero, suc, ◌+◌, ◌*◌, ◌≤◌, ◌<◌, ◌↔◌, List, [], ◌∷◌, ◌++◌, Bool, true, false, eqb, ltb, length, get_or, Some, None, Ok, Err, Result}
 use Rattle.std.proofs.Math.Path.{◌≡◌, refl, sym}
 use Rattle.std.proofs.Common.{ap, ap₂, ◌∙◌, subst, inl, inr, arith, get_or-append-add, ne_eqb}
 use Rattle.lists.specs.Tests.{by_test, true_false}
@@ -10,8 +10,6 @@ use Rattle.choices.specs.declared.Choices.{Choices}
 use Rattle.tables.specs.Tables.{Tables, RightTables, admission}
 use Rattle.tables.specs.Admitted.{Shown}
 use Rattle.tables.proofs.AdmittedLaws.{shown, by_shown, right_passes}
-use Rattle.tables.specs.declared.Admission.{Admission}
-use Rattle.tables.specs.declared.Admission.TheVariants as A
 use Rattle.bits.specs.Bits.{bits}
 use Rattle.cutting.specs.Cutting.{Cutting, cutting, whole as uncut}
 use Rattle.cutting.specs.Laws.{every}
@@ -158,14 +156,14 @@ module _ (ch : Choices) (s : List ℕ) (from least : ℕ) (tables : Tables) (ind
   unfolding hunting_reading reading_found
   fate = by (admission tables) (in_range least) refl refl (shown tables)
     where
-      turned : (r : OctetRefusal) → Shown tables (A.Refused r) → admission tables ≡ A.Refused r → Fate
+      turned : (r : OctetRefusal) → Shown tables (Err r) → admission tables ≡ Err r → Fate
       turned =
-          by_shown tables (λ (q : OctetRefusal). admission tables ≡ A.Refused q → Fate) (λ n e. wrong_tables n (rw e)) (λ k n e. negative_threshold k n.0 n.1 (rw e))
+          by_shown tables (λ (q : OctetRefusal). admission tables ≡ Err q → Fate) (λ n e. wrong_tables n (rw e)) (λ k n e. negative_threshold k n.0 n.1 (rw e))
 
-      by : (a : Admission) (r : Bool) → admission tables ≡ a → in_range least ≡ r → Shown tables a → Fate
-      by (A.Refused q) r ea er h = turned q h ea
-      by A.Admitted false ea er h = range h er (rw (ea, er))
-      by A.Admitted true ea er h = found_fate h er (rw (ea, er))
+      by : (a : Result Tables OctetRefusal) (r : Bool) → admission tables ≡ a → in_range least ≡ r → Shown tables a → Fate
+      by (Err q) r ea er h = turned q h ea
+      by (Ok admitted) false ea er h = range h er (rw (ea, er))
+      by (Ok admitted) true ea er h = found_fate h er (rw (ea, er))
 
   -- 22 EXACTLY IF NO PLACE PASSES, where the tables are right and T is in its range
   pub nowhere_exactly : RightTables tables → in_range least ≡ true

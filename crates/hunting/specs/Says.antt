@@ -6,7 +6,6 @@ use Rattle.layout.specs.Layout.{most_multiframes}
 use Rattle.choices.specs.declared.Choices.{Choices}
 use Rattle.tables.specs.Tables.{Tables, RightSizes, RightTables, FirstNegative}
 use Rattle.tables.specs.Admitted.{Shown}
-use Rattle.tables.specs.declared.Admission.TheVariants as A
 use Rattle.bits.specs.Bits.{bits}
 use Rattle.hunt.specs.Hunt.{multiframe_bits, in_range, searched, passes, places_left}
 use Rattle.reader.specs.Reading as R
@@ -72,7 +71,7 @@ module _ (ch : Choices) (s : List ℕ) (from least : ℕ) (tables : Tables) (ind
 
   -- 12 TO 14 NEVER COME, and 15 only with a bit for its place: of the octet reader's refusals only those of the tables, 11 and 10, and 16 to 20 do
   abbrev pub Comes : Refusal → Type 0
-  Comes (Octets q) = Shown tables (A.Refused q) ⊎ Late q
+  Comes (Octets q) = Shown tables (Err q) ⊎ Late q
   Comes (MatchRange k) = Unit
   Comes (Nowhere f n) = Unit
   Comes (TooMany p) = Unit

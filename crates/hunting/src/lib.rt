@@ -3,7 +3,7 @@
 
 ghost use Rattle.std.specs.Prelude.{◌≡◌, ◌*◌, ◌≤◌, length, take};
 ghost use Rattle.layout.specs.Layout.{multiframe_octets, most_multiframes};
-ghost use Rattle.tables.specs.Tables.{tables_of};
+ghost use Rattle.tables.specs.Tables.{tables_of, RightTables};
 ghost use Rattle.hunt.specs.Hunt.{sync_bits};
 ghost use Rattle.reader.specs.Reading.{reading};
 ghost use Rattle.hunting.specs.Hunting.{counted, outcome, reading_found, hunting_reading};
@@ -13,7 +13,7 @@ use gathering::{TooMany, Whole};
 use layout::{MultiframeLayout, UtteranceLayout};
 use reader::Summary;
 use refusals::Hunting;
-use tables::Admission;
+use tables::Tables;
 
 // Room for as many multiframes as an utterance may have.
 const IMAGE: usize = MultiframeLayout::OCTETS * UtteranceLayout::MULTIFRAMES;
@@ -33,25 +33,23 @@ fn read_front(
     outside: usize,
     tested: usize,
     choices: Choices,
-    codebook: &[i32],
-    thresholds: &[i32],
+    tables: &Tables<'_>,
     index: &mut [u8],
     report: &mut [u8],
 ) -> Result<Counted, Hunting>
-    requires { (count ≤ most_multiframes) × (multiframe_octets * most_multiframes ≤ length image.now) }
+    requires fit { (count ≤ most_multiframes) × (multiframe_octets * most_multiframes ≤ length image.now) }
+    requires right_tables { RightTables tables.now }
     ensures { outcome result index.new report.new
-        ≡ counted (reading choices (take (multiframe_octets * count) image.now) (tables_of codebook.now thresholds.now) index.old report.old)
+        ≡ counted (reading choices (take (multiframe_octets * count) image.now) tables.now index.old report.old)
         outside tested }
 {
     let end = MultiframeLayout::OCTETS * count;
-    match reader::read(&image[..end], choices, codebook, thresholds, index, report) {
-        Ok(summary) => Ok(Counted {
-            summary,
-            outside,
-            tested,
-        }),
-        Err(r) => Err(Hunting::Octets(r)),
-    }
+    let summary = reader::read_admitted(&image[..end], choices, tables, index, report)?;
+    Ok(Counted {
+        summary,
+        outside,
+        tested,
+    })
 }
 
 // The reading of what is found: 22, 15, or as the octet reader reads the multiframes put together. It asks for a number of matching bits
@@ -61,14 +59,14 @@ fn read_found(
     from: usize,
     least: usize,
     choices: Choices,
-    codebook: &[i32],
-    thresholds: &[i32],
+    tables: &Tables<'_>,
     index: &mut [u8],
     report: &mut [u8],
 ) -> Result<Counted, Hunting>
-    requires { least ≤ sync_bits }
+    requires in_range { least ≤ sync_bits }
+    requires right_tables { RightTables tables.now }
     ensures { outcome result index.new report.new
-        ≡ reading_found choices octets.now from least (tables_of codebook.now thresholds.now) index.old report.old }
+        ≡ reading_found choices octets.now from least tables.now index.old report.old }
 {
     let mut image = [0u8; IMAGE];
     match gathering::gather(octets, from, least, &mut image) {
@@ -83,8 +81,7 @@ fn read_found(
                 gathering::outside_of(octets, from, count),
                 tested,
                 choices,
-                codebook,
-                thresholds,
+                tables,
                 index,
                 report,
             )
@@ -107,13 +104,9 @@ pub fn read(
     ensures { outcome result index.new report.new
         ≡ hunting_reading choices octets.now from least (tables_of codebook.now thresholds.now) index.old report.old }
 {
-    if let Admission::Refused(r) = tables::admit(codebook, thresholds) {
-        return Err(Hunting::Octets(r));
-    }
+    let tables = tables::admit(codebook, thresholds)?;
     if hunt::in_range(least) {
-        return read_found(
-            octets, from, least, choices, codebook, thresholds, index, report,
-        );
+        return read_found(octets, from, least, choices, &tables, index, report);
     }
     Err(Hunting::MatchRange { least })
 }

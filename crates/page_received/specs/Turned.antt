@@ -40,7 +40,7 @@ module _ (ch : Choices) (thresholds : List ℤ) where
   turned k st e octets codebook sc index report =
       let tables = tables_of codebook thresholds in
       refuses ch octets tables index report (NegativeThreshold k)
-      (sym (not_admitted ch octets tables index report (NegativeThreshold k) (signs_next tables (sc, st) ∙ ap sign_admission e)))
+      (sym (not_admitted ch octets tables index report (NegativeThreshold k) (signs_next tables (sc, st) ∙ ap (sign_admission tables) e)))
 
   unsized : (c : ℕ) → (c ≡ 1280 → length thresholds ≡ 14 → ⊥) → Turns ch c thresholds 11 0
   unsized c h octets codebook sc index report =

@@ -1,6 +1,6 @@
 -- What the choice changes (02, C-20): an only multiframe, which by default is refused with 16, and nothing else.
 -- Assumes nothing.
-use Rattle.std.specs.Prelude.{ℕ, ◌≤◌, ◌<◌, List, false, eqb, Some, None, Ok, Err}
+use Rattle.std.specs.Prelude.{ℕ, ◌≤◌, ◌<◌, List, false, eqb, Some, None, Ok, Err, Result}
 use native.Mathlib.Omega.{arith}
 use Rattle.std.proofs.Math.Decide.{dec_lt}
 use Rattle.std.proofs.Math.Path.{◌≡◌, refl, ap, sym}
@@ -11,8 +11,7 @@ use Rattle.choices.specs.Choices.{one_settles}
 use Rattle.choices.specs.declared.Choices.{Choices}
 use Rattle.tables.specs.Tables.{Tables, admission, if_admitted}
 use Rattle.tables.proofs.AdmittedLaws.{passes_right}
-use Rattle.tables.specs.declared.Admission.{Admission}
-use Rattle.tables.specs.declared.Admission.TheVariants as A
+use Rattle.refusals.specs.declared.Reading.{Reading as Refusal}
 use Rattle.refusals.specs.declared.Reading.TheVariants.{Empty, Unsettled}
 use Rattle.cutting.specs.Cutting.{Ending, whole, refused, cutting}
 use Rattle.cutting.proofs.ReachedLaws.{whole_exactly}
@@ -64,10 +63,10 @@ module _ (octets : List ℕ) (tables : Tables) (index report : List ℕ) where
   pub else_alike : (ch dh : Choices) → (CutUp octets tables → length (cutting octets).places ≡ 1 → ⊥) → reading ch octets tables index report ≡ reading dh octets tables index report
   else_alike ch dh n = by (admission tables) (cutting octets).ending refl refl
     where
-      by : (a : Admission) (e : Ending) → admission tables ≡ a → (cutting octets).ending ≡ e → reading ch octets tables index report ≡ reading dh octets tables index report
-      by (A.Refused r) e ea ee = sym (not_admitted ch octets tables index report r ea) ∙ not_admitted dh octets tables index report r ea
-      by A.Admitted (refused r) ea ee = sym (not_cut ch octets tables index report ea r ee) ∙ not_cut dh octets tables index report ea r ee
-      by A.Admitted whole ea ee = many_alike ch dh (n (passes_right tables ea, (whole_exactly octets).0 ee))
+      by : (a : Result Tables Refusal) (e : Ending) → admission tables ≡ a → (cutting octets).ending ≡ e → reading ch octets tables index report ≡ reading dh octets tables index report
+      by (Err r) e ea ee = sym (not_admitted ch octets tables index report r ea) ∙ not_admitted dh octets tables index report r ea
+      by (Ok admitted) (refused r) ea ee = sym (not_cut ch octets tables index report ea r ee) ∙ not_cut dh octets tables index report ea r ee
+      by (Ok admitted) whole ea ee = many_alike ch dh (n (passes_right tables ea, (whole_exactly octets).0 ee))
 
   module _ (ch : Choices) (default : one_settles ch ≡ false) where
     one_unsettled : length (cutting octets).places ≡ 1 → settling ch (readings octets (cutting octets).places) ≡ None

@@ -1,6 +1,6 @@
 -- What an accepted input has, and that nothing else is accepted: the refusals read backwards.
 -- Assumes nothing.
-use Rattle.std.specs.Prelude.{ℕ, ◌*◌, List, Ok, Err}
+use Rattle.std.specs.Prelude.{ℕ, ◌*◌, List, Ok, Err, Result}
 use native.Mathlib.Omega.{arith}
 use Rattle.std.proofs.Math.Path.{◌≡◌, refl}
 use Rattle.std.proofs.Common.{ap, ◌∙◌}
@@ -11,8 +11,6 @@ use Rattle.layout.specs.Layout.{index_octets, report_octets}
 use Rattle.choices.specs.declared.Choices.{Choices}
 use Rattle.tables.specs.Tables.{Tables, RightTables, admission, if_admitted}
 use Rattle.tables.proofs.AdmittedLaws.{right_passes, passes_right}
-use Rattle.tables.specs.declared.Admission.{Admission}
-use Rattle.tables.specs.declared.Admission.TheVariants as A
 use Rattle.cutting.specs.Cutting.{Ending, whole, refused, cutting}
 use Rattle.unfit.specs.Laws.{fit_is}
 use Rattle.carrier.specs.Carrier.{pair_count}
@@ -50,9 +48,9 @@ module _ (ch : Choices) (octets : List ℕ) (tables : Tables) (index report : �
       ended (refused r) e t = tt
       ended whole e t = fit (whole_verdict ch octets tables index report places) t e (whole_says ch octets tables index report places)
 
-      by : (a : Admission) → admission tables ≡ a → AcceptedBy (if_admitted a Err (end_verdict ch octets tables index report places (cutting octets).ending))
-      by A.Admitted e = ended (cutting octets).ending refl (passes_right tables e)
-      by (A.Refused r) e = tt
+      by : (a : Result Tables Refusal) → admission tables ≡ a → AcceptedBy (if_admitted a Err (end_verdict ch octets tables index report places (cutting octets).ending))
+      by (Ok admitted) e = ended (cutting octets).ending refl (passes_right tables e)
+      by (Err r) e = tt
 
   -- what acceptance says
   pub accepted : (c : ℕ) → verdict ch octets tables index report ≡ Ok c → Accepted ch octets tables index report c
@@ -111,13 +109,13 @@ module _ (ch : Choices) (octets : List ℕ) (tables : Tables) (index report : Li
   unfolding reading verdict
   in_order = by (admission tables) (cutting octets).ending
     where
-      by : (a : Admission) (e : Ending)
+      by : (a : Result Tables Refusal) (e : Ending)
           → finished octets tables index report (cutting octets).places
           (if_admitted a Err (end_verdict ch octets tables (length index) (length report) (cutting octets).places e))
           ≡ if_admitted a (λ r. outcome (Err r) index report) (end_reading ch octets tables index report (cutting octets).places e)
-      by (A.Refused r) e = refl
-      by A.Admitted whole = refl
-      by A.Admitted (refused r) = refl
+      by (Err r) e = refl
+      by (Ok admitted) whole = refl
+      by (Ok admitted) (refused r) = refl
 
 -- ---- the sizes of what a reading holds
 module _ (octets places ns : List ℕ) where

@@ -1,6 +1,6 @@
 -- When each refusal is given: the answer is that refusal exactly if its own condition, `Given`, holds and that of none before it in 01's order.
 -- Assumes nothing.
-use Rattle.std.specs.Prelude.{ℕ, ◌*◌, ◌<◌, ◌≡◌, ◌↔◌, List, ltb, eqb, Some, None, Ok, Err}
+use Rattle.std.specs.Prelude.{ℕ, ◌*◌, ◌<◌, ◌≡◌, ◌↔◌, List, ltb, eqb, Some, None, Ok, Err, Result}
 use Rattle.std.proofs.Common.{arith, ap, sym, ◌∙◌, subst}
 use Rattle.std.proofs.Math.Path.{refl}
 use Rattle.std.proofs.Math.ListN.{length}
@@ -11,8 +11,6 @@ use Rattle.choices.specs.declared.Choices.{Choices}
 use Rattle.tables.specs.Tables.{Tables, RightSizes, RightTables, FirstNegative, admission, if_admitted}
 use Rattle.tables.specs.Admitted.{Shown}
 use Rattle.tables.proofs.AdmittedLaws.{shown, by_shown, right_passes, wrong_sizes, negative_refused}
-use Rattle.tables.specs.declared.Admission.{Admission}
-use Rattle.tables.specs.declared.Admission.TheVariants as A
 use Rattle.refusals.specs.declared.Reading.{Reading as Refusal}
 use Rattle.refusals.specs.declared.Reading.TheVariants.{WrongTables, NegativeThreshold, Unknown, CutShort, Empty, TooMany, Unsettled, Unfit, IndexShort, ReportShort, AllBad}
 use Rattle.cutting.specs.Cutting.{Ending, whole, refused, cutting}
@@ -163,10 +161,10 @@ module _ (ch : Choices) (octets : List ℕ) (tables : Tables) (index report : �
   unfolding verdict
   shows = by (admission tables) (shown tables)
     where
-      by : (a : Admission) → Shown tables a → Shows (if_admitted a Err (end_verdict ch octets tables index report places (cutting octets).ending))
-      by A.Admitted t = shows_end t (cutting octets).ending refl
+      by : (a : Result Tables Refusal) → Shown tables a → Shows (if_admitted a Err (end_verdict ch octets tables index report places (cutting octets).ending))
+      by (Ok admitted) t = shows_end t (cutting octets).ending refl
       -- what turns the tables away is 11 or 10
-      by (A.Refused r) h = by_shown tables Given (λ n. n) (λ k n. n) r h
+      by (Err r) h = by_shown tables Given (λ n. n) (λ k n. n) r h
 
   pub decided_exactly : (r : Refusal) → (verdict ch octets tables index report ≡ Err r) ↔ Given r
   decided_exactly r = (λ e. subst Shows e shows, given_refused r)

@@ -5,8 +5,7 @@
 ghost use Rattle.std.specs.Prelude.{◌≡◌, ◌*◌, ◌≤◌, length};
 ghost use Rattle.lists.specs.Parts.{over};
 ghost use Rattle.layout.specs.Layout.{most_multiframes, index_octets, report_octets};
-ghost use Rattle.tables.specs.Tables.{tables_of, RightSizes};
-ghost use Rattle.cutting.specs.Laws.{Placed};
+ghost use Rattle.tables.specs.Tables.{tables_of, RightTables};
 ghost use Rattle.header_readings.specs.Stored.{pack_all};
 ghost use Rattle.carrier.specs.Carrier.{pair_count};
 ghost use Rattle.bad_pairs.specs.Laws.{Good};
@@ -14,12 +13,13 @@ ghost use Rattle.report.specs.Report.{report_part};
 ghost use Rattle.reader.specs.Reading.{answer_number, answer_values, index_part, summary};
 ghost use Rattle.reader.specs.Reading.{outcome, reading_found, reading};
 
+use carrier::Multiframes;
 use choices::Choices;
 use layout::{MultiframeLayout, UtteranceLayout};
 use message::Fields;
 use refusals::Reading;
 use settings::Settings;
-use tables::Admission;
+use tables::Tables;
 
 // Success: the settled settings, the number of multiframes, speech, the number of bad pairs, and end.
 #[derive(Clone, Copy)]
@@ -38,28 +38,28 @@ const NOTES: usize = MultiframeLayout::PAIRS * MULTIFRAMES;
 
 // An accepted reading is written: the index buffer's part and the report's part to their fronts, the rest of both stays.
 fn write(
-    octets: &[u8],
-    places: &[usize],
+    multiframes: &Multiframes<'_>,
     headers: &[u32],
     notes: &[u8],
     common: u16,
     index: &mut [u8],
     report: &mut [u8],
 ) -> Summary
-    requires placed { Placed octets.now places.now × (1 ≤ length places.now) × (length places.now ≤ most_multiframes) }
-    requires headers_value { (headers.now ≡ pack_all octets.now places.now (length places.now))
-        × (length notes.now ≡ pair_count places.now) × Good notes.now }
-    requires places_in_bounds { (index_octets * length places.now ≤ length index.old) × (report_octets * length places.now ≤ length report.old) }
-    ensures answer { result ≡ summary octets.now places.now notes.now common }
-    ensures index { index.new ≡ over index.old 0 (index_octets * length places.now)
-        (index_part octets.now places.now notes.now) }
-    ensures report { report.new ≡ over report.old 0 (report_octets * length places.now)
-        (report_part octets.now places.now notes.now common) }
+    requires count { (1 ≤ length multiframes.now.places) × (length multiframes.now.places ≤ most_multiframes) }
+    requires headers_value { (headers.now ≡ pack_all multiframes.now.octets multiframes.now.places (length multiframes.now.places))
+        × (length notes.now ≡ pair_count multiframes.now.places) × Good notes.now }
+    requires places_in_bounds { (index_octets * length multiframes.now.places ≤ length index.old)
+        × (report_octets * length multiframes.now.places ≤ length report.old) }
+    ensures answer { result ≡ summary multiframes.now.octets multiframes.now.places notes.now common }
+    ensures index { index.new ≡ over index.old 0 (index_octets * length multiframes.now.places)
+        (index_part multiframes.now.octets multiframes.now.places notes.now) }
+    ensures report { report.new ≡ over report.old 0 (report_octets * length multiframes.now.places)
+        (report_part multiframes.now.octets multiframes.now.places notes.now common) }
 {
-    notes::take_all_apart(octets, places, index);
+    notes::take_all_apart(multiframes, index);
     replacing::replace(notes, index);
     report::put_report(headers, notes, common, report);
-    let m = places.len();
+    let m = multiframes.count();
     let settled = Fields::from(common);
     let settings = settled.settings;
     Summary {
@@ -73,45 +73,54 @@ fn write(
 
 // The reading of multiframes already found, with room of its own for headers and notes: decided first, and written only if it is accepted.
 fn read_found(
-    octets: &[u8],
-    places: &[usize],
+    multiframes: &Multiframes<'_>,
     choices: Choices,
-    codebook: &[i32],
-    thresholds: &[i32],
+    tables: &Tables<'_>,
     index: &mut [u8],
     report: &mut [u8],
 ) -> Result<Summary, Reading>
-    requires placed { Placed octets.now places.now × (length places.now ≤ most_multiframes) }
-    requires right_sizes { RightSizes (tables_of codebook.now thresholds.now) }
+    requires { length multiframes.now.places ≤ most_multiframes }
     ensures { outcome result index.new report.new
-        ≡ reading_found choices octets.now (tables_of codebook.now thresholds.now) index.old report.old places.now }
+        ≡ reading_found choices multiframes.now.octets tables.now index.old report.old multiframes.now.places }
 {
-    let m = places.len();
+    let m = multiframes.count();
     let pairs = MultiframeLayout::PAIRS * m;
     let mut headers = [0u32; MULTIFRAMES];
     let mut notes = [0u8; NOTES];
-    match deciding::decide(
-        octets,
-        places,
+    let common = deciding::decide(
+        multiframes,
         choices,
-        codebook,
-        thresholds,
+        tables,
         index.len(),
         report.len(),
         &mut headers[..m],
         &mut notes[..pairs],
-    ) {
-        Err(r) => Err(r),
-        Ok(common) => Ok(write(
-            octets,
-            places,
-            &headers[..m],
-            &notes[..pairs],
-            common,
-            index,
-            report,
-        )),
-    }
+    )?;
+    Ok(write(
+        multiframes,
+        &headers[..m],
+        &notes[..pairs],
+        common,
+        index,
+        report,
+    ))
+}
+
+// read_admitted reads as read does, by tables that both readers admit first.
+pub fn read_admitted(
+    octets: &[u8],
+    choices: Choices,
+    tables: &Tables<'_>,
+    index: &mut [u8],
+    report: &mut [u8],
+) -> Result<Summary, Reading>
+    requires { RightTables tables.now }
+    ensures { outcome result index.new report.new ≡ reading choices octets.now tables.now index.old report.old }
+{
+    let mut places = [0usize; MULTIFRAMES];
+    let count = cutting::cut_into(octets, &mut places)?;
+    let multiframes = Multiframes::new(octets, &places[..count]);
+    read_found(&multiframes, choices, tables, index, report)
 }
 
 // read turns received octets into the indices of all frames and a report, or refuses and leaves both buffers as they came. By default an only
@@ -133,20 +142,6 @@ pub fn read(
     ensures values { answer_values result
         ≡ answer_values (reading choices octets.now (tables_of codebook.now thresholds.now) index.old report.old).answer }
 {
-    if let Admission::Refused(r) = tables::admit(codebook, thresholds) {
-        return Err(r);
-    }
-    let mut places = [0usize; MULTIFRAMES];
-    match cutting::cut_into(octets, &mut places) {
-        Ok(count) => read_found(
-            octets,
-            &places[..count],
-            choices,
-            codebook,
-            thresholds,
-            index,
-            report,
-        ),
-        Err(r) => Err(r),
-    }
+    let tables = tables::admit(codebook, thresholds)?;
+    read_admitted(octets, choices, &tables, index, report)
 }

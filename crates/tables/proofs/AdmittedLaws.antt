@@ -83,6 +83,10 @@ module _ (tables : Tables) where
   pub passes_right : {admitted : Tables} → admission tables ≡ Ok admitted → RightTables tables
   passes_right e = subst (Shown tables) e shown
 
+  -- and what is admitted are these tables
+  pub admitted_is : {admitted : Tables} → admission tables ≡ Ok admitted → admitted ≡ tables
+  admitted_is e = let same = sym e ∙ right_passes (passes_right e) in cc
+
   pub right_exactly : (admission tables ≡ Ok tables) ↔ RightTables tables
   right_exactly = (passes_right, right_passes)
 

@@ -1,21 +1,34 @@
 -- `read` meets its contract: what turns the tables away, then 21, then what is found. Assumes nothing.
-use mathlib.Core.Path.{sym, ◌∙◌}
+use Rattle.std.proofs.Common.{sym, ◌∙◌}
+use Rattle.std.proofs.lemmas.Result.{err_from_is_err_and}
 use Rattle.hunt.proofs.Laws.{range_says}
 use Rattle.hunting.proofs.Ends.{not_admitted, out_of_range, in_range_lem}
 use Rattle.tables.specs.Tables.{tables_of}
+use Rattle.tables.proofs.AdmittedLaws.{passes_right, admitted_is}
 use Rattle.hunting.proofs.read.Goals as goal
 
-pub returns-in-Refused : goal.returns-in-Refused
-returns-in-Refused c =
-    not_admitted c.args.choices c.args.octets.now c.args.from c.args.least (tables_of c.args.codebook.now c.args.thresholds.now) c.args.index.now c.args.report.now _ (sym c.in-Refused.ensures)
+pub returns-in_err-tables : goal.returns-in_err-tables
+returns-in_err-tables c =
+    let a = c.args in
+    let p = err_from_is_err_and c.from_residual.result c.from_residual.ensures.1 in
+    rw (p.1, p.2) (not_admitted a.choices a.octets.now a.from a.least (tables_of a.codebook.now a.thresholds.now) a.index.now a.report.now _ (sym c.in_err-tables.ensures))
 
 pub read_found-requires : goal.read_found-requires
-read_found-requires c = (range_says _ (sym c.in_range.ensures ∙ c.if-in_range.true)).1
+read_found-requires c =
+    let tables = tables_of c.args.codebook.now c.args.thresholds.now in
+    record {
+      in_range = (range_says _ (sym c.in_range.ensures ∙ c.if-in_range.true)).1;
+      right_tables = rw (admitted_is tables (sym c.in_ok-tables.ensures)) (passes_right tables (sym c.in_ok-tables.ensures));
+    }
 
 pub returns-then-in_range : goal.returns-then-in_range
 returns-then-in_range c =
-    in_range_lem c.args.choices c.args.octets.now c.args.from c.args.least (tables_of c.args.codebook.now c.args.thresholds.now) c.args.index.now c.args.report.now (sym c.admit.ensures ∙ c.in_default.is) (sym c.in_range.ensures ∙ c.if-in_range.true) _ c.read_found.ensures
+    let a = c.args in
+    let tables = tables_of a.codebook.now a.thresholds.now in
+    let found = rw (admitted_is tables (sym c.in_ok-tables.ensures)) at c.read_found.ensures in
+    in_range_lem a.choices a.octets.now a.from a.least tables a.index.now a.report.now (sym c.in_ok-tables.ensures) (sym c.in_range.ensures ∙ c.if-in_range.true) _ found
 
 pub returns : goal.returns
 returns c =
-    out_of_range c.args.choices c.args.octets.now c.args.from c.args.least (tables_of c.args.codebook.now c.args.thresholds.now) c.args.index.now c.args.report.now (sym c.admit.ensures ∙ c.in_default.is) (sym c.in_range.ensures ∙ c.if-in_range.false)
+    let a = c.args in
+    out_of_range a.choices a.octets.now a.from a.least (tables_of a.codebook.now a.thresholds.now) a.index.now a.report.now (sym c.in_ok-tables.ensures) (sym c.in_range.ensures ∙ c.if-in_range.false)
