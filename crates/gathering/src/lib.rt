@@ -8,7 +8,6 @@ ghost use Rattle.bits.specs.Bits.{bits};
 ghost use Rattle.hunt.specs.Hunt.{sync_bits, multiframe_bits, searched};
 ghost use Rattle.gathering.specs.Gathering.{aligned, gathering, answered, Laid, outside_of};
 
-use hunt::Found;
 use layout::{Multiframe, MultiframeLayout, UtteranceLayout};
 
 // A sync and a multiframe in bits, and what stands behind the sync in octets.
@@ -58,21 +57,17 @@ pub fn gather(octets: &[u8], from: usize, least: usize, image: &mut [u8]) -> Res
     let mut m = 0;
     let mut at = from;
     let mut tested = 0;
+    // No while let: what the last hunt tested counts, too.
     loop {
         match hunt::seek(octets, at, least) {
-            Ok(
-                Found {
-                    place,
-                    tested: more,
-                },
-            ) => {
+            Ok(found) => {
                 if m == UtteranceLayout::MULTIFRAMES {
-                    return Err(TooMany { place });
+                    return Err(TooMany { place: found.place });
                 }
-                put_found(octets, place, image, Multiframe(m));
+                put_found(octets, found.place, image, Multiframe(m));
                 m += 1;
-                at = place + BITS;
-                tested += more;
+                at = found.place + BITS;
+                tested += found.tested;
             }
             Err(r) => {
                 return Ok(Whole {
