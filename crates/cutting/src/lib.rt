@@ -20,48 +20,39 @@ pub enum Piece {
 }
 
 // piece_of names what the octets begin, after so many multiframes.
+#[tactic(auto, unfolding(crate::specs::Cutting::piece_by, crate::specs::Cutting::last_met))]
 pub fn piece_of(rest: &[u8], count: usize) -> Piece
     ensures { result ≡ piece_of rest.now count }
 {
-    if rest.len() == 0 {
-        return Piece::End;
+    match rest {
+        [] => Piece::End,
+        [MultiframeLayout::SYNC_FIRST] | [MultiframeLayout::INVERSE_FIRST] => Piece::CutShort,
+        [
+            MultiframeLayout::SYNC_FIRST,
+            MultiframeLayout::SYNC_SECOND,
+            ..
+        ] => sync_met(rest.len(), count),
+        [
+            MultiframeLayout::INVERSE_FIRST,
+            MultiframeLayout::INVERSE_SECOND,
+            ..
+        ] => Piece::Inverse,
+        _ => Piece::Unknown,
     }
-    let a = rest[0];
-    if rest.len() == 1 {
-        if a == MultiframeLayout::SYNC_FIRST {
-            return Piece::CutShort;
-        }
-        if a == MultiframeLayout::INVERSE_FIRST {
-            return Piece::CutShort;
-        }
-        return Piece::Unknown;
-    }
-    let b = rest[1];
-    if a == MultiframeLayout::SYNC_FIRST {
-        if b == MultiframeLayout::SYNC_SECOND {
-            return sync_met(rest.len(), count);
-        }
-        return Piece::Unknown;
-    }
-    if a == MultiframeLayout::INVERSE_FIRST {
-        if b == MultiframeLayout::INVERSE_SECOND {
-            return Piece::Inverse;
-        }
-    }
-    Piece::Unknown
 }
 
 // A sync with so many octets from it on: one too many even if it is cut.
+#[tactic(auto, unfolding(crate::specs::Cutting::sync_met))]
 fn sync_met(octets: usize, count: usize) -> Piece
     ensures { result ≡ sync_met octets count }
 {
     if count == UtteranceLayout::MULTIFRAMES {
-        return Piece::TooMany;
+        Piece::TooMany
+    } else if octets < MultiframeLayout::OCTETS {
+        Piece::CutShort
+    } else {
+        Piece::Multiframe
     }
-    if octets < MultiframeLayout::OCTETS {
-        return Piece::CutShort;
-    }
-    Piece::Multiframe
 }
 
 // cut_into puts the places of the multiframes met to the front of places and answers their number; the rest of places stays.
@@ -73,6 +64,7 @@ pub fn cut_into(s: &[u8], places: &mut [usize]) -> Result<usize, Reading>
 {
     let mut p = 0;
     let mut m = 0;
+    // The crate beginning walks the same pieces and ends early: a method for the three refusals would be longer than the three lines.
     loop {
         match piece_of(&s[p..], m) {
             Piece::Multiframe => {
