@@ -1,7 +1,5 @@
 -- Every place fits 64 bits, since the number of index octets does and no other place is larger than an image: by the tests of the verdict, one by one.
 -- Assumes nothing.
-use Rattle.std.specs.Prelude.{Ok, Err}
-use mathlib.Core.Path.{◌≡◌, sym, ap, subst}
 use mathlib.Core.List.{List}
 use Prim.Native.Nat.{ℕ, ◌%◌, ◌^◌, ◌≤◌, ◌<◌}
 use native.Mathlib.Omega.{arith}
@@ -14,7 +12,7 @@ use Rattle.settings.specs.declared.Settings.{Settings}
 use Rattle.settings.specs.Settings.{settings_right}
 use Rattle.layout.specs.Layout.{frame_indices, most_frames}
 use Rattle.wrong_frames.specs.WrongFrames.{frame_count, is_wide, ends_early, first_wide, first_early}
-use Rattle.writer.specs.Writing.{number_of, place_of, room_answer, early_answer, wide_answer, needed, verdict, Outcome, finished, writing}
+use Rattle.writer.specs.Writing.{place_of, room_answer, early_answer, wide_answer, needed, verdict}
 use Rattle.writer.specs.Types.{Answer}
 
 module _ (settings : Settings) (idx : List ℕ) (out : ℕ) (octets_fit : length idx < 2 ^ 64) where
@@ -30,27 +28,10 @@ module _ (settings : Settings) (idx : List ℕ) (out : ℕ) (octets_fit : length
   wide_fits (at k) few h = omega (arith, h.1)
   wide_fits nowhere few h = early_fits (first_early idx) few (first_says (ends_early idx) 0 (frame_count idx))
 
-  verdict_fits : Fits (verdict settings idx out)
+  pub verdict_fits : place_of (verdict settings idx out) < 2 ^ 64
   unfolding verdict
   verdict_fits =
       by_test Fits (settings_right settings) (λ s.
       by_test Fits (eqb (length idx % frame_indices) 0) (λ w.
       by_test Fits (ltb most_frames (frame_count idx)) (λ f. omega arith) (λ f. wide_fits (first_wide idx) (ltb-false most_frames (frame_count idx) f) (first_says (is_wide idx) 0 (frame_count idx))))
       (λ w. octets_fit)) (λ s. omega arith)
-
-pub place_fits : (settings : Settings) (idx out : List ℕ) → length idx < 2 ^ 64 → place_of (writing settings idx out).answer < 2 ^ 64
-unfolding writing
-place_fits settings idx out h = by (verdict settings idx (length out)) (verdict_fits settings idx (length out) h)
-  where
-    by : (a : Answer) → place_of a < 2 ^ 64 → place_of (finished settings idx out a).answer < 2 ^ 64
-    by (Ok n) f = f
-    by (Err r) f = f
-
--- what `writing` says of answer and output, it says of 01's number and place, and the place fits
-pub in_numbers : (settings : Settings) (idx out : List ℕ) {o : Outcome} → length idx < 2 ^ 64 → o ≡ writing settings idx out
-    → (o ≡ writing settings idx out)
-    × ((number_of o.answer ≡ number_of (writing settings idx out).answer)
-    × ((place_of o.answer ≡ place_of (writing settings idx out).answer) × (place_of o.answer < 2 ^ 64)))
-in_numbers settings idx out h e =
-    let p = ap (λ (q : Outcome). place_of q.answer) e in
-    (e, (ap (λ (q : Outcome). number_of q.answer) e, (p, subst (λ (k : ℕ). k < 2 ^ 64) (sym p) (place_fits settings idx out h))))

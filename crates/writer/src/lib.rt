@@ -10,6 +10,7 @@ use refusals::{Refusal, Writing};
 use settings::Settings;
 
 // Every refusal, in 01's order. Nothing that can be written is lent, so that a refusal can change nothing.
+#[tactic(auto, unfolding(crate::specs::Writing::verdict, crate::specs::Writing::room_answer))]
 fn decide(settings: Settings, indices: &[u8], room: usize) -> Result<usize, Writing>
     ensures { result ≡ verdict settings indices.now room }
 {
@@ -25,11 +26,11 @@ fn decide(settings: Settings, indices: &[u8], room: usize) -> Result<usize, Writ
     if UtteranceLayout::FRAMES < frames {
         return Err(Writing::TooMany { frames });
     }
-    if let Some(f) = wrong_frames::first_wide(indices) {
-        return Err(Writing::WideIndex { frame: f });
+    if let Some(frame) = wrong_frames::first_wide(indices) {
+        return Err(Writing::WideIndex { frame });
     }
-    if let Some(f) = wrong_frames::first_early(indices) {
-        return Err(Writing::ZeroFrame { frame: f });
+    if let Some(frame) = wrong_frames::first_early(indices) {
+        return Err(Writing::ZeroFrame { frame });
     }
     let needed = MultiframeLayout::OCTETS * (frames / MultiframeLayout::FRAMES + 1);
     if room < needed {
@@ -41,6 +42,7 @@ fn decide(settings: Settings, indices: &[u8], room: usize) -> Result<usize, Writ
 // write puts the utterance of these settings and index octets, seven a frame, into the front of out as multiframes and answers the number
 // of octets written; octets beyond stay. Or it refuses, in 01's order, and every octet of out is as it came. 01's number and place of the
 // answer are those of the definition.
+#[tactic(auto, unfolding(crate::specs::Writing::writing), using(crate::proofs::Places::verdict_fits, crate::proofs::Laws::accepted))]
 pub fn write(settings: Settings, indices: &[u8], out: &mut [u8]) -> Result<usize, Writing>
     ensures all { outcome result out.new ≡ writing settings indices.now out.old }
     ensures number { number_of result ≡ number_of (writing settings indices.now out.old).answer }
