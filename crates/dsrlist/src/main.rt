@@ -11,41 +11,28 @@ use std::io::{Read, Write};
 // The most octets that are listed; one more tells that there are more.
 const LIMIT: usize = 65536;
 
-// What became of the input: how many octets came before its end or before the buffer was full, or that a read failed.
-#[derive(Clone, Copy)]
-enum Input {
-    Came(usize),
-    Failed,
-}
-
-// One read into buffer from place at on. What came before stays.
-fn read_on<R: Read>(input: &mut R, buffer: &mut [u8], at: usize) -> Input
+// One read into buffer from place at on: how many octets came. What came before stays.
+fn read_on<R: Read>(input: &mut R, buffer: &mut [u8], at: usize) -> io::Result<usize>
     requires { at ≤ length buffer.old }
     ensures within { Within (length buffer.old - at) result }
     ensures buffer_value { take at buffer.new ≡ take at buffer.old }
 {
-    let rest: &mut [u8] = &mut buffer[at..];
-    match input.read(rest) {
-        Ok(got) => Input::Came(got),
-        Err(_) => Input::Failed,
-    }
+    input.read(&mut buffer[at..])
 }
 
-// Reads until the input ends, the buffer is full or a read fails.
-fn read_all<R: Read>(input: &mut R, buffer: &mut [u8]) -> Input
+// Reads until the input ends, the buffer is full or a read fails: how many octets came.
+fn read_all<R: Read>(input: &mut R, buffer: &mut [u8]) -> io::Result<usize>
     ensures { Within (length buffer.old) result }
 {
     let mut at = 0;
     while at < buffer.len() {
-        let Input::Came(more) = read_on(input, buffer, at) else {
-            return Input::Failed;
-        };
+        let more = read_on(input, buffer, at)?;
         if more == 0 {
             break;
         }
         at += more;
     }
-    Input::Came(at)
+    Ok(at)
 }
 
 // Writes text to standard output. One that is closed or full loses the text and nothing else.
@@ -57,7 +44,7 @@ fn say(rt: &impl Print, text: &[u8]) {
 fn main(rt: HostRuntime) {
     let mut buffer = [0u8; LIMIT + 1];
     let mut input = rt.stdin();
-    let Input::Came(n) = read_all(&mut input, &mut buffer) else {
+    let Ok(n) = read_all(&mut input, &mut buffer) else {
         say(&rt, b"unreadable\n");
         return;
     };
