@@ -22,9 +22,8 @@ fn settled(common: u16, multiframes: usize) -> Result<Beginning, Reading>
     if unfit::is_unfit(common) {
         return Err(Reading::Unfit);
     }
-    let settings = Fields::from(common).settings;
     Ok(Beginning {
-        settings,
+        settings: Fields::from(common).settings,
         multiframes,
     })
 }
@@ -34,13 +33,11 @@ fn settled(common: u16, multiframes: usize) -> Result<Beginning, Reading>
 fn at_end(octets: usize, headers: &[u32], choices: Choices) -> Result<Beginning, Reading>
     ensures { result ≡ end_answer choices octets (open_all headers.now) }
 {
-    if headers.len() == 0 {
+    if headers.is_empty() {
         return Err(Reading::Empty { octets });
     }
-    match settling::settle(headers, choices) {
-        Some(common) => settled(common, headers.len()),
-        None => Err(Reading::Unsettled),
-    }
+    let common = settling::settle(headers, choices).ok_or(Reading::Unsettled)?;
+    settled(common, headers.len())
 }
 
 // read_into is read, with the array lent in which it keeps the readings of headers: room for as many as an utterance may have.
@@ -50,6 +47,7 @@ fn read_into(octets: &[u8], choices: Choices, headers: &mut [u32]) -> Result<Beg
 {
     let mut p = 0;
     let mut m = 0;
+    // The crate cutting walks the same pieces to their end: a method for the three refusals would be longer than the three lines.
     loop {
         match cutting::piece_of(&octets[p..], m) {
             Piece::Multiframe => {
