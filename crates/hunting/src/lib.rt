@@ -26,32 +26,6 @@ pub struct Counted {
     pub tested: usize,
 }
 
-// The first multiframes of the image, as many as were found, are read by the octet reader.
-fn read_front(
-    image: &[u8],
-    count: usize,
-    outside: usize,
-    tested: usize,
-    choices: Choices,
-    tables: &Tables<'_>,
-    index: &mut [u8],
-    report: &mut [u8],
-) -> Result<Counted, Hunting>
-    requires fit { (count ≤ most_multiframes) × (multiframe_octets * most_multiframes ≤ length image.now) }
-    requires right_tables { RightTables tables.now }
-    ensures { outcome result index.new report.new
-        ≡ counted (reading choices (take (multiframe_octets * count) image.now) tables.now index.old report.old)
-        outside tested }
-{
-    let end = MultiframeLayout::OCTETS * count;
-    let summary = reader::read_admitted(&image[..end], choices, tables, index, report)?;
-    Ok(Counted {
-        summary,
-        outside,
-        tested,
-    })
-}
-
 // The reading of what is found: 22, 15, or as the octet reader reads the multiframes put together. It asks for a number of matching bits
 // that there can be, which read has tested.
 fn read_found(
@@ -75,16 +49,14 @@ fn read_found(
             if count == 0 {
                 return Err(Hunting::Nowhere { from, tested });
             }
-            read_front(
-                &image,
-                count,
-                gathering::outside_of(octets, from, count),
+            let found = &image[..MultiframeLayout::OCTETS * count];
+            let outside = gathering::outside_of(octets, from, count);
+            let summary = reader::read_admitted(found, choices, tables, index, report)?;
+            Ok(Counted {
+                summary,
+                outside,
                 tested,
-                choices,
-                tables,
-                index,
-                report,
-            )
+            })
         }
     }
 }
