@@ -10,6 +10,7 @@ use layout::{Multiframe, MultiframeLayout};
 use std::marker::Model;
 
 // header_word gives the header of the multiframe at a place, as a word. It asks, as stream_at, for a whole multiframe, which cutting has found.
+#[tactic(auto, using(crate::specs::Laws::low_half, crate::specs::Laws::word_is))]
 pub fn header_word(octets: &[u8], place: usize) -> u32
     requires { place + multiframe_octets ≤ length octets.now }
     ensures { result ≡ header_word octets.now place }
@@ -18,6 +19,7 @@ pub fn header_word(octets: &[u8], place: usize) -> u32
 }
 
 // stream_at lends the feature stream of the multiframe at a place.
+#[tactic(auto, using(lists::specs::Parts::lent))]
 pub fn stream_at<'a>(octets: &'a [u8], place: usize) -> &'a [u8]
     requires { place + multiframe_octets ≤ length octets.now }
     ensures { result.now ≡ stream_from octets.now place }
@@ -77,6 +79,7 @@ impl<'a> Multiframes<'a> {
     }
 
     // stream lends the feature stream of multiframe k.
+    #[tactic(auto, using(crate::specs::Laws::length_stream))]
     pub fn stream(&self, k: Multiframe) -> &'a [u8]
         requires { k.0 < length self.now.places }
         ensures value { result.now ≡ stream_at self.now.octets (in_places self.now.places) k.0 }
