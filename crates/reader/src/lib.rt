@@ -36,7 +36,8 @@ const MULTIFRAMES: usize = UtteranceLayout::MULTIFRAMES;
 
 const NOTES: usize = MultiframeLayout::PAIRS * MULTIFRAMES;
 
-// An accepted reading is written: the index buffer's part and the report's part to their fronts, the rest of both stays.
+// An accepted reading is written: the index buffer's part and the report's part to their fronts, the rest of both stays. The two stay two
+// parameters, here and in both readers, since the C interface lends them apart and each goes to functions of its own.
 fn write(
     multiframes: &Multiframes<'_>,
     headers: &[u32],
