@@ -16,7 +16,7 @@ const BY_DEFAULT: u64 = 0;
 const ONE_HEADER_SETTLES: u64 = 1;
 
 // asked_by gives the choices that a number names. For one that names none it gives none, and takes it for no other: a choice of a later
-// version is never left out without a word.
+// version is never left out without a word. An option and no TryFrom: its error would have nothing in it.
 #[tactic(auto, unfolding(crate::specs::Choices::asked))]
 pub fn asked_by(number: u64) -> Option<Choices>
     ensures { result ≡ asked number }

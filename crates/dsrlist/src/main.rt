@@ -25,6 +25,7 @@ fn read_all<R: Read>(input: &mut R, buffer: &mut [u8]) -> io::Result<usize>
     ensures { Within (length buffer.old) result }
 {
     let mut at = 0;
+    // A while, since how far one turn goes is known only after its read.
     while at < buffer.len() {
         let more = read_on(input, buffer, at)?;
         if more == 0 {

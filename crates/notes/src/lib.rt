@@ -34,6 +34,7 @@ pub fn note_crcs(multiframes: &Multiframes<'_>, notes: &mut [u8])
     requires { length notes.old ≡ pair_count multiframes.now.places }
     ensures { notes.new ≡ crc_notes (received multiframes.now.octets multiframes.now.places) (pair_count multiframes.now.places) }
 {
+    // take_all_apart walks them too: a closure for what differs would need a contract on what each call leaves in the buffer.
     for k in 0..multiframes.count() {
         let multiframe = Multiframe(k);
         let first = multiframe.first_pair();

@@ -65,7 +65,8 @@ pub fn number_of(a: Result<usize, Writing>) -> u32
     }
 }
 
-// place_of gives the octets written, or 01's place of a refusal. It asks for a number that fits, as every answer of write has.
+// place_of gives the octets written, or 01's place of a refusal. It asks for a number that fits, as every answer of write has. number_of asks
+// for nothing, so the two are no instances of one function.
 pub fn place_of(a: Result<usize, Writing>) -> usize
     requires { place_of a < 2 ^ 64 }
     ensures { result ≡ place_of a }
