@@ -11,7 +11,8 @@ use layout::Frame;
 // SUCCESS is the number of an answer that is no refusal.
 pub const SUCCESS: u32 = 0;
 
-// Four numbers that 01 does not have (house), above all of its own. They have no place.
+// Four numbers that 01 does not have (house), above all of its own. They have no place. Numbers and no cases: the entries for C alone answer
+// them.
 // NO_SUCH_CHOICE is the number of a choice that there is not.
 pub const NO_SUCH_CHOICE: u32 = 96;
 
