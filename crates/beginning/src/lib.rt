@@ -48,6 +48,7 @@ fn read_into(octets: &[u8], choices: Choices, headers: &mut [u32]) -> Result<Beg
     let mut p = 0;
     let mut m = 0;
     // The crate cutting walks the same pieces to their end: a method for the three refusals would be longer than the three lines.
+    // A loop, since only a piece tells where the next one begins.
     loop {
         match cutting::piece_of(&octets[p..], m) {
             Piece::Multiframe => {

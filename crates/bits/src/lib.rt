@@ -13,7 +13,8 @@ pub fn word(s: &[u8], i: usize) -> u64
     u64::from_le_bytes(s[i..i + 8].try_into().unwrap())
 }
 
-// store puts the low n octets of w at octet i and reads nothing back; every other octet stays.
+// store puts the low n octets of w at octet i and reads nothing back; every other octet stays. It takes the whole buffer and a place, as copy
+// does, and not a part of it: one clause says so what of a lent buffer changes and what stays.
 pub fn store(s: &mut [u8], i: usize, w: u64, n: usize)
     requires { (i + n ≤ length s.old) × (n ≤ 8) }
     ensures { s.new ≡ over s.old i n (octets n (field (8 * n) w)) }

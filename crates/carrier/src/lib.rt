@@ -9,7 +9,8 @@ ghost use Rattle.carrier.specs.Carrier.{header_word, stream_from, in_places, wor
 use layout::{Multiframe, MultiframeLayout};
 use std::marker::Model;
 
-// header_word gives the header of the multiframe at a place, as a word. It asks, as stream_at, for a whole multiframe, which cutting has found.
+// header_word gives the header of the multiframe at a place, as a word. It asks, as stream_at, for a whole multiframe, which cutting has found:
+// a fact of octets and one place, which Multiframes has of all places.
 #[tactic(auto, using(crate::specs::Laws::low_half, crate::specs::Laws::word_is))]
 pub fn header_word(octets: &[u8], place: usize) -> u32
     requires { place + multiframe_octets ≤ length octets.now }
@@ -29,7 +30,8 @@ pub fn stream_at<'a>(octets: &'a [u8], place: usize) -> &'a [u8]
 }
 
 // Received octets that are cut up, and the places at which their multiframes begin, a whole one at each: lent together, and taken together
-// by all that reads headers, packets and frames. A contract sees the definitions' record of both.
+// by all that reads headers, packets and frames. A contract sees the definitions' record of both. That they are at most 255 is asked where
+// it matters: in this type it would be asked where headers are read and CRCs tried, too.
 #[derive(Drop)]
 pub struct Multiframes<'a> {
     octets: &'a [u8],

@@ -11,6 +11,7 @@ pub struct Choices {
     pub one_header_settles: bool,
 }
 
+// The numbers by which C and Rust ask.
 const BY_DEFAULT: u64 = 0;
 
 const ONE_HEADER_SETTLES: u64 = 1;

@@ -65,6 +65,7 @@ pub fn cut_into(s: &[u8], places: &mut [usize]) -> Result<usize, Reading>
     let mut p = 0;
     let mut m = 0;
     // The crate beginning walks the same pieces and ends early: a method for the three refusals would be longer than the three lines.
+    // A loop, since only a piece tells where the next one begins.
     loop {
         match piece_of(&s[p..], m) {
             Piece::Multiframe => {

@@ -24,7 +24,8 @@ const COUNTED: usize = 8;
 
 const SETTLED: usize = 3;
 
-// chosen_by gives the choices that a number names, if the answer has room for N numbers: the room is tested first. Else the refusal's number.
+// chosen_by gives the choices that a number names, if the answer has room for N numbers: the room is tested first. Else the refusal's number,
+// which each entry answers by a match, and not by ?, since C has no Result.
 fn chosen_by<const N: usize>(choices: u64, answer: &[u64]) -> Result<Choices, u32>
     ensures { MatchResult result (Chosen N (length answer.now) (asked choices)) (Unchosen N (length answer.now) (asked choices)) }
 {

@@ -7,7 +7,8 @@ ghost use Rattle.frames.specs.Frames.{zero_frame};
 
 use layout::{Frame, FrameLayout};
 
-// is_zero says whether all indices of a frame are zero. It asks that the index octets hold the frame.
+// is_zero says whether all indices of a frame are zero. It asks that the index octets hold the frame, a fact of
+// both together.
 pub fn is_zero(index: &[u8], frame: Frame) -> bool
     requires { frame_indices * frame.0 + frame_indices ≤ length index.now }
     ensures { result ≡ zero_frame index.now frame.0 }

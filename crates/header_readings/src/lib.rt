@@ -12,8 +12,8 @@ use carrier::Multiframes;
 use header::Decoded;
 use layout::Multiframe;
 
-// In an array a reading is one number, the message and above it the flips, of which a lost header has three: the arrays have a fixed size, on
-// the stack, and a number takes four octets where the reading itself takes twelve.
+// In an array a reading is one number, the message and above it the flips, of which a lost header has three. An array of the readings
+// themselves, of twelve octets each, would be cleared for every call: clearing these, of four, is half the time of settling two clean headers already.
 const ABOVE: u32 = 0x10000;
 
 const LOST_FLIPS: u32 = 3;

@@ -37,7 +37,7 @@ pub fn put_line(notes: &[u8], text: &mut Text)
     text.put_words(b"\n");
 }
 
-// put_lines puts the lines of the first multiframes of a report. It asks for them and for room.
+// put_lines puts the lines of the first multiframes of a report, which may have room for more. It asks for them and for room.
 pub fn put_lines(report: &[u8], multiframes: usize, text: &mut Text)
     requires { (report_octets * multiframes ≤ length report.now) × HasRoom (most_line * multiframes) text.old }
     ensures put { Adds (joined (line_of report.now) multiframes) text.old text.new }

@@ -34,7 +34,8 @@ pub fn note_crcs(multiframes: &Multiframes<'_>, notes: &mut [u8])
     requires { length notes.old ≡ pair_count multiframes.now.places }
     ensures { notes.new ≡ crc_notes (received multiframes.now.octets multiframes.now.places) (pair_count multiframes.now.places) }
 {
-    // take_all_apart walks them too: a closure for what differs would need a contract on what each call leaves in the buffer.
+    // take_all_apart walks them too. One function over a closure for what differs is no plainer: its contract would be on what each call
+    // leaves in the buffer.
     for k in 0..multiframes.count() {
         let multiframe = Multiframe(k);
         let first = multiframe.first_pair();
@@ -66,7 +67,7 @@ fn is_inconsistent(multiframes: &Multiframes<'_>, tables: &Tables<'_>, q: Pair) 
     )
 }
 
-// The same, where it matters; elsewhere no pair is taken apart.
+// The same, where it matters; elsewhere no pair is taken apart. A function of its own: its one clause is all that the walk over the pairs needs.
 fn is_inconsistent_if(
     asked: bool,
     multiframes: &Multiframes<'_>,
@@ -101,7 +102,8 @@ pub fn judge(multiframes: &Multiframes<'_>, tables: &Tables<'_>, notes: &mut [u8
     }
 }
 
-// take_stream_apart puts the frames of a stream's twelve packets into idx, from the place of pair first on; every other octet stays.
+// take_stream_apart puts the frames of a stream's twelve packets into idx, from the place of pair first on; every other octet stays,
+// which one clause says of the whole buffer.
 pub fn take_stream_apart(stream: &[u8], idx: &mut [u8], first: Pair)
     requires { (stream_octets ≤ length stream.now) × (pair_indices * (first.0 + multiframe_pairs) ≤ length idx.old) }
     ensures { idx.new ≡ over idx.old (pair_indices * first.0) index_octets

@@ -70,7 +70,8 @@ fn take_frame(w: u64, idx: &mut [u8], to: usize)
     idx[to + FrameLayout::NARROW] = ((w >> LAST) & LAST_MASK) as u8;
 }
 
-// take_apart stores the two frames of pair p's packet in a stream as fourteen octets from octet to on; every other octet stays.
+// take_apart stores the two frames of pair p's packet in a stream as fourteen octets from octet to on; every other octet stays, which one
+// clause says of the whole buffer.
 pub fn take_apart(s: &[u8], p: Pair, idx: &mut [u8], to: usize)
     requires { (packet_start p.0 + packet_bits ≤ 8 * length s.now) × (to + pair_indices ≤ length idx.old) }
     ensures { idx.new ≡ over idx.old to pair_indices (apart widths (part (packet_start p.0) packet_bits (bits s.now))) }

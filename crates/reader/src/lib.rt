@@ -28,6 +28,7 @@ pub struct Summary {
     pub multiframes: usize,
     pub speech: usize,
     pub bad: usize,
+    // 01's number, 1 or 0, as the answer for C has it.
     pub end: u8,
 }
 
@@ -126,8 +127,9 @@ pub fn read_admitted(
 
 // read turns received octets into the indices of all frames and a report, or refuses and leaves both buffers as they came. By default an only
 // multiframe is refused with 16; the caller may choose that one header alone settles (02, C-20).
-// Nothing is asked of the caller: codebook, 1,280 numbers; 14 thresholds, none negative; an index buffer of 168 and a report buffer of 13 octets for each
-// multiframe; else 01's refusals, and 02's 10. 01's number and values of the answer, which of a refusal are its place, are those of the definition.
+// Nothing is asked of the caller: codebook, 1,280 numbers; 14 thresholds, none negative; an index buffer of 168 and a report buffer of 13
+// octets for each multiframe; else 01's refusals, and 02's 10. Codebook and thresholds come in apart, as C lends them, and are tested here.
+// 01's number and values of the answer, which of a refusal are its place, are those of the definition.
 pub fn read(
     octets: &[u8],
     choices: Choices,

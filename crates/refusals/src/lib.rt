@@ -11,8 +11,8 @@ use layout::Frame;
 // SUCCESS is the number of an answer that is no refusal.
 pub const SUCCESS: u32 = 0;
 
-// Four numbers that 01 does not have (house), above all of its own. They have no place. Numbers and no cases: the entries for C alone answer
-// them.
+// Four numbers that 01 does not have (house), above all of its own. They have no place. Numbers and no cases: C fixes
+// them, and the entries for C alone answer them.
 // NO_SUCH_CHOICE is the number of a choice that there is not.
 pub const NO_SUCH_CHOICE: u32 = 96;
 
@@ -61,7 +61,7 @@ pub enum Hunt {
 
 // Why a hunting reading is refused: as the octet reader refuses what was found, for one of the hunt's reasons, or for a match after as
 // many multiframes as an utterance may have. That is 15, as the octet reader has it, but its place is a bit.
-// The hunt's two cases stand here again, and not as one that holds a Hunt, since theorems name them (`hunting_of`, `never_12_to_14`).
+// The hunt's two cases stand here again, and not as one that holds a Hunt, since theorems name them (`hunting_of`).
 #[derive(Clone, Copy)]
 pub enum Hunting {
     Octets(Reading),
@@ -79,7 +79,7 @@ pub trait Refusal: Copy {
     // The refusals whose place can be asked for: a place that does not fit cannot.
     ghost can_place: { Self → Type 0 };
 
-    // 01's number of it, or 02's; no two refusals of an entry share one.
+    // 01's number of it, or 02's; no two that an entry answers share one.
     fn number(self) -> u32
         ensures { result ≡ number self };
 

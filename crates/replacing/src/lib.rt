@@ -86,8 +86,8 @@ pub fn replace(notes: &[u8], index: &mut [u8])
 }
 
 // speech_of gives the number of frames up to the last nonzero one of m multiframes, the last alone being looked at.
-// It asks for the index octets of at least one multiframe and of no more than an utterance has. m stands beside the buffer, here and below,
-// since a caller may lend more octets than m multiframes have.
+// It asks for the index octets of at least one multiframe and of no more than an utterance has. m stands beside the buffer, here and below:
+// both are public, and a caller may lend more octets than m multiframes have.
 pub fn speech_of(index: &[u8], m: usize) -> usize
     requires { (1 ≤ m) × (m ≤ most_multiframes) × (index_octets * m ≤ length index.now) }
     ensures { result ≡ speech_of m index.now }

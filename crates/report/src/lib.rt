@@ -23,6 +23,7 @@ fn put_section(headers: &[u32], notes: &[u8], common: u16, report: &mut [u8], k:
     pairs.copy_from_slice(&notes[first..first + MultiframeLayout::PAIRS]);
 }
 
+// Headers, notes and common bits go together here alone, and to one place: a struct of the three would be longer than it saves.
 // put_report puts the report's part to the front of report; the rest of it stays. It asks for headers as read_headers stores them.
 pub fn put_report(headers: &[u32], notes: &[u8], common: u16, report: &mut [u8])
     requires reportable { Reportable headers.now notes.now report.old }

@@ -37,6 +37,7 @@ pub fn agreed(headers: &[u32], k: Multiframe) -> Option<u16>
     was_seen(headers, k, common).then_some(common)
 }
 
+// A for, since the library has no law of which value find_map gives.
 fn first_agreeing(headers: &[u32]) -> Option<u16>
     ensures { result ≡ first_agreeing [] (open_all headers.now) }
 {

@@ -41,8 +41,8 @@ fn put_two(frames: Frames, q: Pair, out: &mut [u8], at: usize)
     bits::store(out, at + ODD + FULL, b.high, TAIL);
 }
 
-// put_stream stores a multiframe's stream, the packets of twelve pairs from pair q on, from octet at on; every other octet stays.
-// It asks for room.
+// put_stream stores a multiframe's stream, the packets of twelve pairs from pair q on, from octet at on; every other octet stays,
+// which one clause says of the whole buffer. It asks for room.
 pub fn put_stream(frames: Frames, q: Pair, out: &mut [u8], at: usize)
     requires q_in_bounds { q.0 + multiframe_pairs < 2 ^ 20 }
     requires stream_octets_in_bounds { at + stream_octets ≤ length out.old }
