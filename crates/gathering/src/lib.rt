@@ -5,9 +5,10 @@ ghost use Rattle.std.specs.Prelude.{◌≡◌, ◌+◌, ◌*◌, ◌≤◌, ◌<
 ghost use Rattle.lists.specs.Parts.{over};
 ghost use Rattle.layout.specs.Layout.{multiframe_octets, most_multiframes};
 ghost use Rattle.bits.specs.Bits.{bits};
-ghost use Rattle.hunt.specs.Hunt.{sync_bits, multiframe_bits, searched};
+ghost use Rattle.hunt.specs.Hunt.{multiframe_bits, searched};
 ghost use Rattle.gathering.specs.Gathering.{aligned, gathering, answered, Laid, outside_of};
 
+use hunt::Matching;
 use layout::{Multiframe, MultiframeLayout, UtteranceLayout};
 
 // A sync and a multiframe in bits, and what stands behind the sync in octets.
@@ -49,8 +50,13 @@ fn put_found(octets: &[u8], place: usize, image: &mut [u8], k: Multiframe)
 }
 
 // gather finds one multiframe after another and puts them into the image.
-pub fn gather(octets: &[u8], from: usize, least: usize, image: &mut [u8]) -> Result<Whole, TooMany>
-    requires { (least ≤ sync_bits) × (length image.old ≡ multiframe_octets * most_multiframes) }
+pub fn gather(
+    octets: &[u8],
+    from: usize,
+    least: Matching,
+    image: &mut [u8],
+) -> Result<Whole, TooMany>
+    requires { length image.old ≡ multiframe_octets * most_multiframes }
     ensures answer { result ≡ answered (gathering (bits octets.now) least most_multiframes from) }
     ensures image { Laid octets.now (gathering (bits octets.now) least most_multiframes from) image.new }
 {

@@ -22,19 +22,10 @@ use Rattle.lists.specs.Parts.{part, length_part}
 use Rattle.bits.specs.Bits.{field, value, bits}
 use Rattle.bits.proofs.Laws.{length_bits, length_field, field_value, in_word}
 use Rattle.header.specs.Reading.{reading}
-use Rattle.hunt.specs.Hunt.{sync_bits, multiframe_bits, sync, in_range, alike, matches, readable, passes, head_passes, at_once, fewest_off, all_far, searched, places_left, misses, found, hunted_from, hunted}
+use Rattle.hunt.specs.Hunt.{sync_bits, multiframe_bits, sync, alike, matches, readable, passes, head_passes, at_once, fewest_off, all_far, searched, places_left, misses, found, hunted_from}
 use Rattle.hunt.proofs.Laws.{searched_le, misses_none, misses_hit, misses_on}
-use Rattle.hunt.specs.Types.{Hunted, found_at}
-use Rattle.refusals.specs.declared.Hunt.TheVariants.{MatchRange, Nowhere}
-
--- ---- what is answered where so many matching bits may be asked for, and where not
-pub hunted_in : (s : List ℕ) (from least : ℕ) (h : Hunted) → in_range least ≡ true → h ≡ hunted_from (bits s) from least → h ≡ hunted s from least
-unfolding hunted
-hunted_in s from least h e k = rw e k
-
-pub hunted_out : (s : List ℕ) (from least : ℕ) → in_range least ≡ false → Err (MatchRange least) ≡ hunted s from least
-unfolding hunted
-hunted_out s from least e = rw e
+use Rattle.hunt.specs.Types.{found_at}
+use Rattle.refusals.specs.declared.Hunt.TheVariants.{Nowhere}
 
 -- ---- the bits that match and those that differ are all
 alike_digit : (x y : ℕ) → x < 2 → y < 2 → alike (eqb x 1) (eqb y 1) + bit_xor x y ≡ 1

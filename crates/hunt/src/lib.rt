@@ -2,12 +2,13 @@
 // follows is readable (02, C-13).
 #![tactic(auto)]
 
-ghost use Rattle.std.specs.Prelude.{◌≡◌, ◌+◌, ◌*◌, ◌/◌, ◌%◌, ◌^◌, ◌≤◌, ◌<◌, length};
+ghost use Rattle.std.specs.Prelude.{◌≡◌, ℕ, ◌+◌, ◌*◌, ◌/◌, ◌%◌, ◌^◌, ◌≤◌, ◌<◌, true, length, SomeIff};
 ghost use Rattle.bits.specs.Bits.{field, bits};
 ghost use Rattle.header.specs.Reading.{reading};
 ghost use Rattle.hunt.specs.Hunt.{sync_bits, header_bits, sync, in_range, matches, readable, head_passes, at_once, fewest_off, all_far, searched, places_left, hunted_from, hunted};
 
 use layout::MultiframeLayout;
+use std::marker::Model;
 
 // The sync's sixteen bits as a number, first sent least significant, and how many they are.
 const SYNC: u32 = MultiframeLayout::SYNC_WORD as u32;
@@ -21,6 +22,44 @@ const FEWEST: usize = 12;
 
 // The number of bits has to fit 64 bits: octets beyond these are not searched.
 const MOST: usize = 0x1fffffffffffffff;
+
+// How many bits of the sync have to match at a place, at least: no more than there are. A contract sees the number.
+#[derive(Clone, Copy)]
+pub struct Matching {
+    bits: usize,
+}
+
+impl Model for Matching {
+    ghost Value = { ℕ };
+
+    ghost view = { λ m. m.bits };
+
+    ghost invariant = { λ m. m.bits ≤ sync_bits };
+
+    ghost inverse = { λ bits. record { bits = bits } };
+}
+
+impl Matching {
+    // new takes a number that the caller knows to be no more than the bits of the sync; asked takes any, and tests it.
+    pub fn new(bits: usize) -> Matching
+        requires { bits ≤ sync_bits }
+        ensures { result ≡ bits }
+    {
+        Matching { bits }
+    }
+
+    // asked gives the number that is asked for if it may be: 12 to 16, as in_range tells.
+    #[tactic(auto, unfolding(crate::specs::Hunt::in_range))]
+    pub fn asked(least: usize) -> Option<Matching>
+        ensures { SomeIff result (in_range least ≡ true) least }
+    {
+        if in_range(least) {
+            Some(Matching::new(least))
+        } else {
+            None
+        }
+    }
+}
 
 // The place found and how many places were tested, it among them.
 #[derive(Clone, Copy)]
@@ -44,11 +83,10 @@ fn mismatches(head: u64) -> u32
 }
 
 // The test of a place, of the bits that stand there: sixteen of a sync and then 32 of a header.
-fn passes(head: u64, least: usize) -> bool
-    requires { least ≤ sync_bits }
+fn passes(head: u64, least: Matching) -> bool
     ensures { result ≡ head_passes least (head % 2 ^ sync_bits) (head / 2 ^ sync_bits % 2 ^ header_bits) }
 {
-    least + mismatches(head) as usize <= SYNC_BITS
+    least.bits + mismatches(head) as usize <= SYNC_BITS
         && is_readable(((head >> 16) & 0xffffffff) as u32)
 }
 
@@ -68,11 +106,10 @@ fn fewest_mismatches(head: u64) -> u32
 }
 
 // Whether eight places or more are left, and at none of the first eight enough bits of the sync match: then none has to be tested by itself.
-fn are_far(head: u64, least: usize, left: usize) -> bool
-    requires { least ≤ sync_bits }
+fn are_far(head: u64, least: Matching, left: usize) -> bool
     ensures { result ≡ all_far least left head }
 {
-    AT_ONCE <= left && SYNC_BITS < least + fewest_mismatches(head) as usize
+    AT_ONCE <= left && SYNC_BITS < least.bits + fewest_mismatches(head) as usize
 }
 
 // searched_bits gives how many bits are searched: their number has to fit 64 bits.
@@ -89,9 +126,8 @@ fn places(octets: &[u8]) -> usize
     (searched_bits(octets) + 1).saturating_sub(BITS)
 }
 
-// seek is the hunt itself. It asks for a number of matching bits that there can be, which hunt has tested.
-pub fn seek(octets: &[u8], from: usize, least: usize) -> Result<Found, refusals::Hunt>
-    requires { least ≤ sync_bits }
+// seek is the hunt itself.
+pub fn seek(octets: &[u8], from: usize, least: Matching) -> Result<Found, refusals::Hunt>
     ensures { result ≡ hunted_from (bits octets.now) from least }
 {
     let end = places(octets);
@@ -126,11 +162,12 @@ pub fn in_range(least: usize) -> bool
 
 // hunt gives the smallest place from bit from on with a whole multiframe's bits left, where at least least bits of the sync match and the
 // header behind it is readable, and how many places were tested. Nothing is asked of the caller.
+#[tactic(auto, unfolding(crate::specs::Hunt::hunted))]
 pub fn hunt(octets: &[u8], from: usize, least: usize) -> Result<Found, refusals::Hunt>
     ensures { result ≡ hunted octets.now from least }
 {
-    if !in_range(least) {
-        return Err(refusals::Hunt::MatchRange { least });
+    match Matching::asked(least) {
+        Some(matching) => seek(octets, from, matching),
+        None => Err(refusals::Hunt::MatchRange { least }),
     }
-    seek(octets, from, least)
 }

@@ -1,15 +1,15 @@
 // The hunting reader (02, C-13): the multiframes found at any bit are read as the octet reader reads them.
 #![tactic(auto)]
 
-ghost use Rattle.std.specs.Prelude.{◌≡◌, ◌*◌, ◌≤◌, length, take};
+ghost use Rattle.std.specs.Prelude.{◌≡◌, ◌*◌, length, take};
 ghost use Rattle.layout.specs.Layout.{multiframe_octets, most_multiframes};
 ghost use Rattle.tables.specs.Tables.{tables_of, RightTables};
-ghost use Rattle.hunt.specs.Hunt.{sync_bits};
 ghost use Rattle.reader.specs.Reading.{reading};
 ghost use Rattle.hunting.specs.Hunting.{counted, outcome, reading_found, hunting_reading};
 
 use choices::Choices;
 use gathering::{TooMany, Whole};
+use hunt::Matching;
 use layout::{MultiframeLayout, UtteranceLayout};
 use reader::Summary;
 use refusals::Hunting;
@@ -26,19 +26,17 @@ pub struct Counted {
     pub tested: usize,
 }
 
-// The reading of what is found: 22, 15, or as the octet reader reads the multiframes put together. It asks for a number of matching bits
-// that there can be, which read has tested.
+// The reading of what is found: 22, 15, or as the octet reader reads the multiframes put together.
 fn read_found(
     octets: &[u8],
     from: usize,
-    least: usize,
+    least: Matching,
     choices: Choices,
     tables: &Tables<'_>,
     index: &mut [u8],
     report: &mut [u8],
 ) -> Result<Counted, Hunting>
-    requires in_range { least ≤ sync_bits }
-    requires right_tables { RightTables tables.now }
+    requires { RightTables tables.now }
     ensures { outcome result index.new report.new
         ≡ reading_found choices octets.now from least tables.now index.old report.old }
 {
@@ -77,8 +75,8 @@ pub fn read(
         ≡ hunting_reading choices octets.now from least (tables_of codebook.now thresholds.now) index.old report.old }
 {
     let tables = tables::admit(codebook, thresholds)?;
-    if hunt::in_range(least) {
-        return read_found(octets, from, least, choices, &tables, index, report);
+    match Matching::asked(least) {
+        Some(matching) => read_found(octets, from, matching, choices, &tables, index, report),
+        None => Err(Hunting::MatchRange { least }),
     }
-    Err(Hunting::MatchRange { least })
 }

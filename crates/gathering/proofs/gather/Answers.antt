@@ -7,7 +7,7 @@ use Rattle.gathering.proofs.Turns.{begun, room_for_more, in_bits, few_tested, go
 use Rattle.gathering.proofs.gather.Goals as goal
 
 pub loop-found-init : goal.loop-found-init
-loop-found-init c = (begun _ _ _ _ c.requires.1, refl)
+loop-found-init c = (begun _ _ _ _ c.requires, refl)
 
 pub returns-then-m-eq-MULTIFRAMES : goal.returns-then-m-eq-MULTIFRAMES
 returns-then-m-eq-MULTIFRAMES c =

@@ -7,8 +7,9 @@ use Rattle.hunt.proofs.passes.Goals as goal
 
 pub returns-then-least-mismatches-le-SYNC_BITS : goal.returns-then-least-mismatches-le-SYNC_BITS
 returns-then-least-mismatches-le-SYNC_BITS c =
-    head_enough _ _ _ _ c.mismatches.ensures c.if-least-mismatches-le-SYNC_BITS.true c.is_readable.result _ c.is_readable.ensures (and_mask (c.args.head / 2 ^ 16) 32)
+    rw (← c.least.view_is)
+    (head_enough _ _ _ _ c.mismatches.ensures c.if-least-mismatches-le-SYNC_BITS.true c.is_readable.result _ c.is_readable.ensures (and_mask (c.args.head / 2 ^ 16) 32))
 
 pub returns-else-least-mismatches-le-SYNC_BITS : goal.returns-else-least-mismatches-le-SYNC_BITS
 returns-else-least-mismatches-le-SYNC_BITS c =
-    lt-leb _ _ c.if-least-mismatches-le-SYNC_BITS.false ∙ head_few _ _ _ _ c.mismatches.ensures c.if-least-mismatches-le-SYNC_BITS.false
+    rw (← c.least.view_is) (lt-leb _ _ c.if-least-mismatches-le-SYNC_BITS.false ∙ head_few _ _ _ _ c.mismatches.ensures c.if-least-mismatches-le-SYNC_BITS.false)

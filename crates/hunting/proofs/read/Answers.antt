@@ -1,7 +1,7 @@
 -- `read` meets its contract: what turns the tables away, then 21, then what is found. Assumes nothing.
-use Rattle.std.proofs.Common.{sym, ◌∙◌}
+use Rattle.std.proofs.Common.{sym}
+use Rattle.std.proofs.lemmas.Bool.{false_from_ne_true}
 use Rattle.std.proofs.lemmas.Result.{err_from_is_err_and}
-use Rattle.hunt.proofs.Laws.{range_says}
 use Rattle.hunting.proofs.Ends.{not_admitted, out_of_range, in_range_lem}
 use Rattle.tables.specs.Tables.{tables_of}
 use Rattle.tables.proofs.AdmittedLaws.{passes_right, admitted_is}
@@ -16,19 +16,16 @@ returns-in_err-tables c =
 pub read_found-requires : goal.read_found-requires
 read_found-requires c =
     let tables = tables_of c.args.codebook.now c.args.thresholds.now in
-    record {
-      in_range = (range_says _ (sym c.in_range.ensures ∙ c.if-in_range.true)).1;
-      right_tables = rw (admitted_is tables (sym c.in_ok-tables.ensures)) (passes_right tables (sym c.in_ok-tables.ensures));
-    }
+    rw (admitted_is tables (sym c.in_ok-tables.ensures)) (passes_right tables (sym c.in_ok-tables.ensures))
 
-pub returns-then-in_range : goal.returns-then-in_range
-returns-then-in_range c =
+pub returns-in-Some : goal.returns-in-Some
+returns-in-Some c =
     let a = c.args in
     let tables = tables_of a.codebook.now a.thresholds.now in
-    let found = rw (admitted_is tables (sym c.in_ok-tables.ensures)) at c.read_found.ensures in
-    in_range_lem a.choices a.octets.now a.from a.least tables a.index.now a.report.now (sym c.in_ok-tables.ensures) (sym c.in_range.ensures ∙ c.if-in_range.true) _ found
+    let found = rw (admitted_is tables (sym c.in_ok-tables.ensures), c.in-Some.ensures.1) at c.read_found.ensures in
+    in_range_lem a.choices a.octets.now a.from a.least tables a.index.now a.report.now (sym c.in_ok-tables.ensures) c.in-Some.ensures.0 _ found
 
-pub returns : goal.returns
-returns c =
+pub returns-in-None : goal.returns-in-None
+returns-in-None c =
     let a = c.args in
-    out_of_range a.choices a.octets.now a.from a.least (tables_of a.codebook.now a.thresholds.now) a.index.now a.report.now (sym c.in_ok-tables.ensures) (sym c.in_range.ensures ∙ c.if-in_range.false)
+    out_of_range a.choices a.octets.now a.from a.least (tables_of a.codebook.now a.thresholds.now) a.index.now a.report.now (sym c.in_ok-tables.ensures) (false_from_ne_true _ c.in-None.ensures)
