@@ -60,7 +60,8 @@ fn read_found(
 }
 
 // read finds the multiframes from bit from on, at any bit, and reads them as the octet reader does, by the same choices (02, C-20): an only
-// multiframe found is an only one, and by default refused with 16. Or it refuses and leaves both buffers as they came. Nothing is asked of the caller.
+// multiframe found is an only one, and by default refused with 16. Or it refuses and leaves both buffers as they came. Nothing is asked of the
+// caller. Codebook and thresholds come in apart, as C lends them, and are tested here.
 pub fn read(
     octets: &[u8],
     from: usize,
