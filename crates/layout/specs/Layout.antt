@@ -1,4 +1,4 @@
--- The sizes of 01, "Bits and octets", once for all definitions; proofs/Sizes.antt holds the code's constants to these.
+-- The sizes of 01, "Bits and octets", once for all definitions; `all_sizes` in the code holds its constants to these, as proofs/Constants.antt does.
 -- A frame is 10 ms of speech, a pair two frames, a multiframe twelve pairs. A frame, pair or multiframe number counts from 0 here
 -- unless a comment says otherwise; 01's places count frames from 1.
 -- Assumes nothing.

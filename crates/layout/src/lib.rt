@@ -1,10 +1,10 @@
 // The sizes that belong to the layout of a frame, a pair packet and a multiframe, written here once, and the three counters that the
-// standard keeps apart. A second layout (the extended front end) gets types of its own beside these. proofs/Sizes.antt holds the sizes to the
-// definitions'.
+// standard keeps apart. A second layout (the extended front end) gets types of its own beside these. The contract of `all_sizes` holds the sizes
+// to the definitions', and proofs/Constants.antt says it of the constants themselves.
 #![tactic(auto)]
 
 ghost use Rattle.std.specs.Prelude.{◌≡◌, ◌^◌, ◌<◌};
-ghost use Rattle.layout.specs.Layout.{first_frame, second_frame, multiframe_of, first_pair, first_frame_of, packet_start};
+ghost use Rattle.layout.specs.Layout.{frame_indices, frame_bits, crc_bits, data_bits, packet_bits, multiframe_pairs, multiframe_frames, sync_octets, sync_first, sync_second, sync_word, inverse_first, inverse_second, header_octets, stream_octets, multiframe_octets, most_multiframes, most_frames, index_octets, report_octets, codebook_numbers, threshold_numbers, first_frame, second_frame, multiframe_of, first_pair, first_frame_of, packet_start};
 
 // Six indices of 6 bits, then one of 8.
 #[derive(Clone, Copy)]
@@ -88,6 +88,80 @@ impl ReadingLayout {
     pub const CODEBOOK: usize = 1280;
 
     pub const THRESHOLDS: usize = 2 * FrameLayout::INDICES;
+}
+
+// The two octets of a sync, in sending order.
+#[derive(Clone, Copy)]
+pub struct SyncOctets {
+    pub first: u8,
+    pub second: u8,
+}
+
+// The constants above, handed out so that a contract can hold them to the definitions' sizes.
+#[derive(Clone, Copy)]
+pub struct Sizes {
+    pub indices: usize,
+    pub frame: usize,
+    pub crc: usize,
+    pub data: usize,
+    pub packet: usize,
+    pub pairs: usize,
+    pub frames: usize,
+    pub sync: usize,
+    pub opening: SyncOctets,
+    pub inverse: SyncOctets,
+    pub word: u64,
+    pub header: usize,
+    pub stream: usize,
+    pub multiframe: usize,
+    pub multiframes: usize,
+    pub speech: usize,
+    pub index: usize,
+    pub report: usize,
+    pub codebook: usize,
+    pub thresholds: usize,
+}
+
+pub fn all_sizes() -> Sizes
+    ensures frame { (result.indices ≡ frame_indices) × (result.frame ≡ frame_bits) }
+    ensures packet { (result.crc ≡ crc_bits) × (result.data ≡ data_bits) × (result.packet ≡ packet_bits) }
+    ensures multiframe { (result.pairs ≡ multiframe_pairs) × (result.frames ≡ multiframe_frames) × (result.header ≡ header_octets)
+        × (result.stream ≡ stream_octets) × (result.multiframe ≡ multiframe_octets) }
+    ensures sync { (result.sync ≡ sync_octets) × (result.opening.first ≡ sync_first)
+        × (result.opening.second ≡ sync_second) × (result.word ≡ sync_word) }
+    ensures inverse { (result.inverse.first ≡ inverse_first) × (result.inverse.second ≡ inverse_second) }
+    ensures utterance { (result.multiframes ≡ most_multiframes) × (result.speech ≡ most_frames) }
+    ensures lent { (result.index ≡ index_octets) × (result.report ≡ report_octets)
+        × (result.codebook ≡ codebook_numbers) × (result.thresholds ≡ threshold_numbers) }
+{
+    Sizes {
+        indices: FrameLayout::INDICES,
+        frame: FrameLayout::BITS,
+        crc: PacketLayout::CRC_BITS,
+        data: PacketLayout::DATA_BITS,
+        packet: PacketLayout::BITS,
+        pairs: MultiframeLayout::PAIRS,
+        frames: MultiframeLayout::FRAMES,
+        sync: MultiframeLayout::SYNC,
+        opening: SyncOctets {
+            first: MultiframeLayout::SYNC_FIRST,
+            second: MultiframeLayout::SYNC_SECOND,
+        },
+        inverse: SyncOctets {
+            first: MultiframeLayout::INVERSE_FIRST,
+            second: MultiframeLayout::INVERSE_SECOND,
+        },
+        word: MultiframeLayout::SYNC_WORD,
+        header: MultiframeLayout::HEADER,
+        stream: MultiframeLayout::STREAM,
+        multiframe: MultiframeLayout::OCTETS,
+        multiframes: UtteranceLayout::MULTIFRAMES,
+        speech: UtteranceLayout::FRAMES,
+        index: ReadingLayout::INDEX,
+        report: ReadingLayout::REPORT,
+        codebook: ReadingLayout::CODEBOOK,
+        thresholds: ReadingLayout::THRESHOLDS,
+    }
 }
 
 // The three counters, each from 0. None stands in for another: they are turned into each other by the conversions below alone. One generic
