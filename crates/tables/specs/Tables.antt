@@ -59,6 +59,11 @@ sign_admission tables S.nowhere = Ok tables
 unfoldable pub admission : Tables → Result Tables Reading
 admission tables = when (sizes_right tables) (sign_admission tables (first_negative tables)) (Err WrongTables)
 
+-- what becomes of the tables, without the tables themselves
+abbrev pub without_tables : Result Tables Reading → Result Unit Reading
+without_tables (Ok tables) = Ok tt
+without_tables (Err r) = Err r
+
 -- what a reader answers: the refusal of the tables as it says it, or what comes next
 abbrev pub if_admitted : {A : Type 0} → Result Tables Reading → (Reading → A) → A → A
 if_admitted (Ok tables) refuse next = next

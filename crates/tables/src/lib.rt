@@ -3,7 +3,7 @@
 
 ghost use Rattle.std.specs.Prelude.{◌≡◌, ◌<◌, position};
 ghost use Rattle.layout.specs.Layout.{codebook_numbers, threshold_numbers};
-ghost use Rattle.tables.specs.Tables.{at, negative, sizes_right, admission, tables_of, RightSizes};
+ghost use Rattle.tables.specs.Tables.{at, negative, sizes_right, admission, without_tables, tables_of, RightSizes};
 
 use layout::ReadingLayout;
 use refusals::Reading;
@@ -11,7 +11,7 @@ use std::marker::Model;
 
 // A codebook and its thresholds, of 01's sizes, 1,280 and 14 numbers: lent together, and taken together by all that judges pairs.
 // A contract sees the definitions' record of both.
-#[derive(Drop)]
+#[derive(Clone, Drop)]
 pub struct Tables<'a> {
     codebook: &'a [i32],
     thresholds: &'a [i32],
@@ -83,4 +83,12 @@ pub fn admit<'a>(codebook: &'a [i32], thresholds: &'a [i32]) -> Result<Tables<'a
         return Err(Reading::NegativeThreshold { threshold });
     }
     Ok(Tables::new(codebook, thresholds))
+}
+
+// admission gives what becomes of the tables, without the tables: an answer that can be copied, and that outlives the loan.
+pub fn admission(codebook: &[i32], thresholds: &[i32]) -> Result<(), Reading>
+    ensures { result ≡ without_tables (admission (tables_of codebook.now thresholds.now)) }
+{
+    admit(codebook, thresholds)?;
+    Ok(())
 }
