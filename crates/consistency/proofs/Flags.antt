@@ -1,11 +1,12 @@
 -- The flags of a pair, counted over the numbers of its index pairs.
 -- Assumes nothing.
-use Rattle.std.proofs.Common.{ℕ, zero, suc, ◌+◌, ◌≡◌, refl, sym, ap, ◌∙◌, List, Bool, true, false, get_or, arith, cond, add-one}
+use Rattle.std.proofs.Common.{ℕ, zero, suc, ◌+◌, ◌≡◌, refl, sym, ap, ◌∙◌, List, Bool, true, false, get_or, arith, cond, add-one, leb}
 use Rattle.std.specs.List.{count_by, range_with_len}
 use Rattle.std.proofs.lemmas.List.FromFn.{sum_by-map-range_with_len_more}
 use Rattle.lists.specs.Tests.{when}
 use Rattle.tables.specs.Tables.{Tables}
-use Rattle.consistency.specs.Consistency.{flagged, flags}
+use Rattle.layout.specs.Layout.{frame_indices}
+use Rattle.consistency.specs.Consistency.{flagged, flags, inconsistent}
 use Prim.Native.Nat.{zero, suc}
 use mathlib.Core.List.{map, [], ◌∷◌}
 
@@ -30,3 +31,20 @@ flags_counted t f g (suc c) =
     let p : ℕ → Bool = λ c. flagged t c (get_or f c 0) (get_or g c 0) in
     ap (λ (k : ℕ). when (p c) (suc k) k) (flags_counted t f g c) ∙ sym (one (p c) (count_by p (range_with_len 0 c))) ∙ sym (more p c)
     ∙ ap (λ (k : ℕ). count_by p (range_with_len 0 k)) (add-one c)
+
+-- a turn counts its index pair
+module _ (t : Tables) (f g : List ℕ) (c x y n : ℕ) {r : Bool} (so_far : n ≡ flags t f g c) (ex : x ≡ get_or f c 0) (ey : y ≡ get_or g c 0) (er : r ≡ flagged t c x y) where
+  tested : flagged t c (get_or f c 0) (get_or g c 0) ≡ r
+  tested = ap (λ (z : ℕ). flagged t c (get_or f c 0) z) (sym ey) ∙ ap (λ (z : ℕ). flagged t c z y) (sym ex) ∙ sym er
+
+  pub one_more : r ≡ true → n + 1 ≡ flags t f g (c + 1)
+  unfolding flags
+  one_more h = rw (add-one, add-one, tested, h) (ap suc so_far)
+
+  pub no_more : r ≡ false → n ≡ flags t f g (c + 1)
+  unfolding flags
+  no_more h = rw (add-one, tested, h) so_far
+
+pub judged : (t : Tables) (f g : List ℕ) (n : ℕ) → n ≡ flags t f g frame_indices → leb 2 n ≡ inconsistent t f g
+unfolding inconsistent
+judged t f g n e = ap (leb 2) e

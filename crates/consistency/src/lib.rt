@@ -52,8 +52,12 @@ pub fn is_inconsistent(tables: &Tables<'_>, first: &[u8], second: &[u8]) -> bool
     requires in_range { InRange first.now × InRange second.now }
     ensures { result ≡ inconsistent tables.now first.now second.now }
 {
-    let flags = (0..FrameLayout::INDICES)
-        .filter(|&c| is_flagged(tables, c, usize::from(first[c]), usize::from(second[c])))
-        .count();
+    let mut flags = 0;
+    // A for, and no filter and count: by those the compiler walks the seven with tests in between, and judging damaged pairs takes twice the time.
+    for c in 0..FrameLayout::INDICES {
+        if is_flagged(tables, c, usize::from(first[c]), usize::from(second[c])) {
+            flags += 1;
+        }
+    }
     FLAGS <= flags
 }

@@ -1,18 +1,25 @@
--- `is_inconsistent` meets its contract: the index pairs that are flagged are counted (`Flags`). Assumes nothing.
-use Rattle.std.proofs.Common.{rules, tests, refl, sym, ap, ◌∙◌, get_or, leb}
-use Rattle.std.specs.List.{range_with_len}
-use Rattle.std.proofs.lemmas.Iterator.{YieldsList-from_range}
-use Rattle.std.proofs.lemmas.Iterator.Consumers.{count_from_yields_List, YieldsList-from_filter}
-use Rattle.std.proofs.lemmas.List.Sums.{length-filter}
+-- `is_inconsistent` meets its contract: after c turns the flags of the first c index pairs are counted (`Flags`). Assumes nothing.
+use Rattle.std.proofs.Common.{◌≡◌, refl, ◌∙◌, arith}
 use Rattle.layout.specs.Layout.{frame_indices}
-use Rattle.consistency.specs.Consistency.{flagged, inconsistent}
-use Rattle.consistency.proofs.Flags.{flags_counted}
+use Rattle.consistency.specs.Consistency.{flags}
+use Rattle.consistency.proofs.Flags.{one_more, no_more, judged}
 use Rattle.consistency.proofs.is_inconsistent.Goals as goal
+use Rattle.consistency.proofs.is_inconsistent.Goals.{then-is_flagged, else-is_flagged}
+
+pub loop-c-init : goal.loop-c-init
+unfolding flags
+loop-c-init c = (omega arith, refl)
+
+pub loop-c-preserved : goal.loop-c-preserved
+loop-c-preserved c =
+    elim c.if-is_flagged.branch [
+      | then-is_flagged w ↦
+          (omega (arith, w.flags-is, c.loop-c.invariant.0), w.flags-is ∙ one_more _ _ _ c.loop-c.c _ _ c.loop-c.flags c.loop-c.invariant.1 c.from.ensures c.from-in-loop-c.ensures c.is_flagged.ensures w.if-is_flagged.true)
+      | else-is_flagged w ↦
+          (omega (arith, w.flags-is, c.loop-c.invariant.0), w.flags-is ∙ no_more _ _ _ c.loop-c.c _ _ c.loop-c.flags c.loop-c.invariant.1 c.from.ensures c.from-in-loop-c.ensures c.is_flagged.ensures w.if-is_flagged.false)
+    ]
 
 pub returns : goal.returns
-unfolding inconsistent
 returns c =
-    let f = c.args.first.now in
-    let g = c.args.second.now in
-    let found = count_from_yields_List c.filter.result _ c.count-flags.ensures.ran (YieldsList-from_filter _ (λ k. flagged c.args.tables.now k (get_or f k 0) (get_or g k 0)) (YieldsList-from_range 0 7 7 c.filter.ensures.source refl) c.filter.ensures.closure (λ x r q k. search (rules, tests))) in
-    ap (leb 2) (found ∙ length-filter (λ k. flagged c.args.tables.now k (get_or f k 0) (get_or g k 0)) (range_with_len 0 7) ∙ sym (flags_counted c.args.tables.now f g frame_indices))
+    let e : c.loop-c.c ≡ frame_indices = omega arith in
+    judged _ _ _ c.loop-c.flags (rw e at c.loop-c.invariant.1)
