@@ -41,9 +41,11 @@ impl<'a> Text<'a> {
         requires { HasRoom (length (decimal n)) self.old }
         ensures { Adds (decimal n) self.old self.new }
     {
-        if 10 <= n {
-            self.put_number(n / 10);
+        if n < 10 {
+            self.put_octet(digit(n));
+            return;
         }
+        self.put_number(n / 10);
         self.put_octet(digit(n % 10));
     }
 
