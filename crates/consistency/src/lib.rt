@@ -3,6 +3,7 @@
 
 ghost use Rattle.std.specs.Prelude.{◌≡◌, ◌<◌, ◌≤◌, length};
 ghost use Rattle.layout.specs.Layout.{frame_indices, codebook_numbers};
+ghost use Rattle.tables.specs.Lending.{lent_tables};
 ghost use Rattle.consistency.specs.Consistency.{exceeding, entry_place, element_exceeds, flagged, inconsistent, InRange};
 
 use layout::FrameLayout;
@@ -27,7 +28,7 @@ pub fn exceeds(threshold: i32, first: i32, second: i32) -> bool
 fn element_exceeds(tables: &Tables<'_>, c: usize, i: usize, j: usize, element: usize) -> bool
     requires counted { (c < frame_indices) × (element < 2) }
     requires inside { (entry_place c i 1 < codebook_numbers) × (entry_place c j 1 < codebook_numbers) }
-    ensures { result ≡ element_exceeds tables.now c i j element }
+    ensures { result ≡ element_exceeds (lent_tables tables.now) c i j element }
 {
     let threshold = tables.threshold(ELEMENTS * c + element);
     let first = tables.number(CODEBOOK_ROOM * c + ELEMENTS * i + element);
@@ -41,7 +42,7 @@ fn element_exceeds(tables: &Tables<'_>, c: usize, i: usize, j: usize, element: u
 fn is_flagged(tables: &Tables<'_>, c: usize, i: usize, j: usize) -> bool
     requires counted { c < frame_indices }
     requires inside { (entry_place c i 1 < codebook_numbers) × (entry_place c j 1 < codebook_numbers) }
-    ensures { result ≡ flagged tables.now c i j }
+    ensures { result ≡ flagged (lent_tables tables.now) c i j }
 {
     element_exceeds(tables, c, i, j, 0) || element_exceeds(tables, c, i, j, 1)
 }
@@ -50,7 +51,7 @@ fn is_flagged(tables: &Tables<'_>, c: usize, i: usize, j: usize) -> bool
 pub fn is_inconsistent(tables: &Tables<'_>, first: &[u8], second: &[u8]) -> bool
     requires whole { (frame_indices ≤ length first.now) × (frame_indices ≤ length second.now) }
     requires in_range { InRange first.now × InRange second.now }
-    ensures { result ≡ inconsistent tables.now first.now second.now }
+    ensures { result ≡ inconsistent (lent_tables tables.now) first.now second.now }
 {
     let mut flags = 0;
     // A for, and no filter and count: by those the compiler walks the seven with tests in between, and judging damaged pairs takes twice the time.

@@ -5,6 +5,7 @@ ghost use Rattle.std.specs.Prelude.{◌≡◌, ◌≤◌, length};
 ghost use Rattle.layout.specs.Layout.{most_multiframes};
 ghost use Rattle.header_readings.specs.Stored.{pack_all};
 ghost use Rattle.carrier.specs.Carrier.{pair_count};
+ghost use Rattle.tables.specs.Lending.{lent_tables};
 ghost use Rattle.deciding.specs.Deciding.{received_notes, whole_verdict};
 ghost use Rattle.deciding.specs.Steps.{early_verdict, Kept};
 
@@ -48,9 +49,9 @@ pub fn decide(
 ) -> Result<u16, Reading>
     requires few { length multiframes.now.places ≤ most_multiframes }
     requires room { (length headers.old ≡ length multiframes.now.places) × (length notes.old ≡ pair_count multiframes.now.places) }
-    ensures answer { result ≡ whole_verdict choices multiframes.now.octets tables.now index report multiframes.now.places }
+    ensures answer { result ≡ whole_verdict choices multiframes.now.octets (lent_tables tables.now) index report multiframes.now.places }
     ensures headers { Kept (pack_all multiframes.now.octets multiframes.now.places (length multiframes.now.places)) headers.new result }
-    ensures notes { Kept (received_notes multiframes.now.octets multiframes.now.places tables.now) notes.new result }
+    ensures notes { Kept (received_notes multiframes.now.octets multiframes.now.places (lent_tables tables.now)) notes.new result }
 {
     let count = multiframes.count();
     if count == 0 {

@@ -4,6 +4,7 @@
 ghost use Rattle.std.specs.Prelude.{◌≡◌, ◌*◌, length, take};
 ghost use Rattle.layout.specs.Layout.{multiframe_octets, most_multiframes};
 ghost use Rattle.tables.specs.Tables.{tables_of, RightTables};
+ghost use Rattle.tables.specs.Lending.{lent_tables};
 ghost use Rattle.reader.specs.Reading.{reading};
 ghost use Rattle.hunting.specs.Hunting.{counted, outcome, reading_found, hunting_reading};
 
@@ -36,9 +37,9 @@ fn read_found(
     index: &mut [u8],
     report: &mut [u8],
 ) -> Result<Counted, Hunting>
-    requires { RightTables tables.now }
+    requires { RightTables (lent_tables tables.now) }
     ensures { outcome result index.new report.new
-        ≡ reading_found choices octets.now from least tables.now index.old report.old }
+        ≡ reading_found choices octets.now from least (lent_tables tables.now) index.old report.old }
 {
     let mut image = [0u8; IMAGE];
     match gathering::gather(octets, from, least, &mut image) {

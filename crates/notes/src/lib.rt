@@ -8,6 +8,7 @@ ghost use Rattle.layout.specs.Layout.{pair_indices, multiframe_pairs, stream_oct
 ghost use Rattle.bits.specs.Bits.{bits};
 ghost use Rattle.carrier.specs.Carrier.{stream_packet, received, pair_count};
 ghost use Rattle.bad_pairs.specs.BadPairs.{bad};
+ghost use Rattle.tables.specs.Lending.{lent_tables};
 ghost use Rattle.notes.specs.Notes.{all_frames, crc_notes, pair_inconsistent, pair_notes};
 
 use carrier::Multiframes;
@@ -55,7 +56,7 @@ fn next_failed(notes: &[u8], q: Pair) -> bool
 // Whether pair q is inconsistent.
 fn is_inconsistent(multiframes: &Multiframes<'_>, tables: &Tables<'_>, q: Pair) -> bool
     requires { q.0 < pair_count multiframes.now.places }
-    ensures { result ≡ pair_inconsistent (received multiframes.now.octets multiframes.now.places) tables.now q.0 }
+    ensures { result ≡ pair_inconsistent (received multiframes.now.octets multiframes.now.places) (lent_tables tables.now) q.0 }
 {
     let stream = multiframes.stream(q.multiframe());
     let mut frames = [0u8; FRAMES];
@@ -75,7 +76,7 @@ fn is_inconsistent_if(
     q: Pair,
 ) -> bool
     requires { q.0 < pair_count multiframes.now.places }
-    ensures { result ≡ when asked (pair_inconsistent (received multiframes.now.octets multiframes.now.places) tables.now q.0) false }
+    ensures { result ≡ when asked (pair_inconsistent (received multiframes.now.octets multiframes.now.places) (lent_tables tables.now) q.0) false }
 {
     asked && is_inconsistent(multiframes, tables, q)
 }
@@ -85,7 +86,7 @@ fn is_inconsistent_if(
 // does.
 pub fn judge(multiframes: &Multiframes<'_>, tables: &Tables<'_>, notes: &mut [u8])
     requires { notes.old ≡ crc_notes (received multiframes.now.octets multiframes.now.places) (pair_count multiframes.now.places) }
-    ensures { notes.new ≡ pair_notes (received multiframes.now.octets multiframes.now.places) (pair_count multiframes.now.places) tables.now }
+    ensures { notes.new ≡ pair_notes (received multiframes.now.octets multiframes.now.places) (pair_count multiframes.now.places) (lent_tables tables.now) }
 {
     if bad_pairs::count_bad(notes) == 0 {
         return;

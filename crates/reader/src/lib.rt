@@ -6,6 +6,7 @@ ghost use Rattle.std.specs.Prelude.{◌≡◌, ◌*◌, ◌≤◌, length};
 ghost use Rattle.lists.specs.Parts.{over};
 ghost use Rattle.layout.specs.Layout.{most_multiframes, index_octets, report_octets};
 ghost use Rattle.tables.specs.Tables.{tables_of, RightTables};
+ghost use Rattle.tables.specs.Lending.{lent_tables};
 ghost use Rattle.header_readings.specs.Stored.{pack_all};
 ghost use Rattle.carrier.specs.Carrier.{pair_count};
 ghost use Rattle.bad_pairs.specs.Laws.{Good};
@@ -83,7 +84,7 @@ fn read_found(
 ) -> Result<Summary, Reading>
     requires { length multiframes.now.places ≤ most_multiframes }
     ensures { outcome result index.new report.new
-        ≡ reading_found choices multiframes.now.octets tables.now index.old report.old multiframes.now.places }
+        ≡ reading_found choices multiframes.now.octets (lent_tables tables.now) index.old report.old multiframes.now.places }
 {
     let m = multiframes.count();
     let pairs = MultiframeLayout::PAIRS * m;
@@ -116,8 +117,8 @@ pub fn read_admitted(
     index: &mut [u8],
     report: &mut [u8],
 ) -> Result<Summary, Reading>
-    requires { RightTables tables.now }
-    ensures { outcome result index.new report.new ≡ reading choices octets.now tables.now index.old report.old }
+    requires { RightTables (lent_tables tables.now) }
+    ensures { outcome result index.new report.new ≡ reading choices octets.now (lent_tables tables.now) index.old report.old }
 {
     let mut places = [0usize; MULTIFRAMES];
     let count = cutting::cut_into(octets, &mut places)?;

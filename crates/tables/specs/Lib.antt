@@ -1,2 +1,3 @@
 pub mod Tables
+pub mod Lending
 pub mod Admitted

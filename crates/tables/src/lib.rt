@@ -1,60 +1,15 @@
 // Which tables, codebook and thresholds, a reading may use, and what turns the others away before anything else is looked at.
 #![tactic(auto)]
 
-ghost use Rattle.std.specs.Prelude.{◌≡◌, ◌<◌, position};
-ghost use Rattle.layout.specs.Layout.{codebook_numbers, threshold_numbers};
-ghost use Rattle.tables.specs.Tables.{at, negative, sizes_right, admission, without_tables, tables_of, RightSizes};
+ghost use Rattle.std.specs.Prelude.{◌≡◌, position};
+ghost use Rattle.tables.specs.Tables.{negative, sizes_right, admission, without_tables, tables_of};
+ghost use Rattle.tables.specs.Lending.{admitted_as};
 
 use layout::ReadingLayout;
+pub use lending::Tables;
 use refusals::Reading;
-use std::marker::Model;
 
-// A codebook and its thresholds, of 01's sizes, 1,280 and 14 numbers: lent together, and taken together by all that judges pairs.
-// A contract sees the definitions' record of both.
-#[derive(Clone, Drop)]
-pub struct Tables<'a> {
-    codebook: &'a [i32],
-    thresholds: &'a [i32],
-}
-
-impl<'a> Model for Tables<'a> {
-    ghost use Rattle.tables.specs.Tables.{Tables, tables_of, RightSizes};
-
-    ghost Value = { Tables };
-
-    ghost view = { λ t. tables_of t.codebook.now t.thresholds.now };
-
-    ghost invariant = { λ t. RightSizes (tables_of t.codebook.now t.thresholds.now) };
-}
-
-impl<'a> Tables<'a> {
-    // new lends a codebook and thresholds that the caller knows to be of these sizes; admit tests them, and the signs too.
-    pub fn new(codebook: &'a [i32], thresholds: &'a [i32]) -> Tables<'a>
-        requires { RightSizes (tables_of codebook.now thresholds.now) }
-        ensures { result ≡ tables_of codebook.now thresholds.now }
-    {
-        Tables {
-            codebook,
-            thresholds,
-        }
-    }
-
-    // number gives the number at a place of the codebook.
-    pub fn number(&self, i: usize) -> i32
-        requires { i < codebook_numbers }
-        ensures { result ≡ at self.now.codebook i }
-    {
-        self.codebook[i]
-    }
-
-    // threshold gives the threshold at a place.
-    pub fn threshold(&self, k: usize) -> i32
-        requires { k < threshold_numbers }
-        ensures { result ≡ at self.now.thresholds k }
-    {
-        self.thresholds[k]
-    }
-}
+mod lending;
 
 // Have the tables 01's sizes, 1,280 and 14 numbers?
 #[tactic(auto, unfolding(crate::specs::Tables::sizes_right))]
@@ -74,7 +29,7 @@ fn first_negative(thresholds: &[i32]) -> Option<usize>
 // admit gives the tables if a reading may use them: refusal 11 for wrong sizes, then 10 for the first negative threshold, which every index
 // pair of its codebook would exceed (02, C-12).
 pub fn admit<'a>(codebook: &'a [i32], thresholds: &'a [i32]) -> Result<Tables<'a>, Reading>
-    ensures { result ≡ admission (tables_of codebook.now thresholds.now) }
+    ensures { admitted_as result ≡ admission (tables_of codebook.now thresholds.now) }
 {
     if !are_sized(codebook, thresholds) {
         return Err(Reading::WrongTables);

@@ -1,9 +1,9 @@
 -- `read` meets its contract: what turns the tables away, then 21, then what is found. Assumes nothing.
-use Rattle.std.proofs.Common.{sym}
+use Rattle.std.proofs.Common.{sym, subst}
 use Rattle.std.proofs.lemmas.Bool.{false_from_ne_true}
 use Rattle.std.proofs.lemmas.Result.{err_from_is_err_and}
 use Rattle.hunting.proofs.Ends.{not_admitted, out_of_range, in_range_lem}
-use Rattle.tables.specs.Tables.{tables_of}
+use Rattle.tables.specs.Tables.{tables_of, RightTables}
 use Rattle.tables.proofs.AdmittedLaws.{passes_right, admitted_is}
 use Rattle.hunting.proofs.read.Goals as goal
 
@@ -16,7 +16,7 @@ returns-in_err-tables c =
 pub read_found-requires : goal.read_found-requires
 read_found-requires c =
     let tables = tables_of c.args.codebook.now c.args.thresholds.now in
-    rw (admitted_is tables (sym c.in_ok-tables.ensures)) (passes_right tables (sym c.in_ok-tables.ensures))
+    subst RightTables (sym (admitted_is tables (sym c.in_ok-tables.ensures))) (passes_right tables (sym c.in_ok-tables.ensures))
 
 pub returns-in-Some : goal.returns-in-Some
 returns-in-Some c =

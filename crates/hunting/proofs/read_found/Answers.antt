@@ -2,12 +2,13 @@
 use Rattle.std.proofs.Common.{arith, refl, ◌*◌, ◌≤◌, length}
 use lib.Seq.{length-take-le}
 use Rattle.std.proofs.lemmas.Result.{err_from_is_err_and}
+use Rattle.tables.specs.Lending.{lent_tables}
 use Rattle.hunting.proofs.Ends.{read_counted, some_room, ends_many, ends_nowhere, ends_read}
 use Rattle.hunting.proofs.read_found.Goals as goal
 
 pub returns-then-count-eq0 : goal.returns-then-count-eq0
 returns-then-count-eq0 c =
-    ends_nowhere c.args.choices c.args.octets.now c.args.from c.args.least c.args.tables.now c.args.index.now c.args.report.now _ _ c.in-Ok.ensures.answer c.if-count-eq0.true
+    ends_nowhere c.args.choices c.args.octets.now c.args.from c.args.least (lent_tables c.args.tables.now) c.args.index.now c.args.report.now _ _ c.in-Ok.ensures.answer c.if-count-eq0.true
 
 pub outside_of-outside-requires : goal.outside_of-outside-requires
 outside_of-outside-requires c =
@@ -31,15 +32,15 @@ slice_bounds-found-end c =
 
 pub returns-in-Err : goal.returns-in-Err
 returns-in-Err c =
-    ends_many c.args.choices c.args.octets.now c.args.from c.args.least c.args.tables.now c.args.index.now c.args.report.now _ c.in-Err.ensures.answer
+    ends_many c.args.choices c.args.octets.now c.args.from c.args.least (lent_tables c.args.tables.now) c.args.index.now c.args.report.now _ c.in-Err.ensures.answer
 
 pub returns-in_err-summary-in-Ok : goal.returns-in_err-summary-in-Ok
 returns-in_err-summary-in-Ok c =
     let p = err_from_is_err_and c.from_residual.result c.from_residual.ensures.1 in
-    rw (p.1, p.2) (ends_read c.args.choices c.args.octets.now c.args.from c.args.least c.args.tables.now c.args.index.now c.args.report.now _ _ c.in-Ok.ensures.answer _ c.outside_of-outside.result _ c.if-count-eq0.false c.gather.ensures.image
+    rw (p.1, p.2) (ends_read c.args.choices c.args.octets.now c.args.from c.args.least (lent_tables c.args.tables.now) c.args.index.now c.args.report.now _ _ c.in-Ok.ensures.answer _ c.outside_of-outside.result _ c.if-count-eq0.false c.gather.ensures.image
     c.outside_of-outside.ensures (read_counted _ _ _ _ _ _ _ c.in_err-summary-in-Ok.ensures refl))
 
 pub returns-in_ok-summary-in-Ok : goal.returns-in_ok-summary-in-Ok
 returns-in_ok-summary-in-Ok c =
-    ends_read c.args.choices c.args.octets.now c.args.from c.args.least c.args.tables.now c.args.index.now c.args.report.now _ _ c.in-Ok.ensures.answer _ c.outside_of-outside.result _ c.if-count-eq0.false c.gather.ensures.image
+    ends_read c.args.choices c.args.octets.now c.args.from c.args.least (lent_tables c.args.tables.now) c.args.index.now c.args.report.now _ _ c.in-Ok.ensures.answer _ c.outside_of-outside.result _ c.if-count-eq0.false c.gather.ensures.image
     c.outside_of-outside.ensures (read_counted _ _ _ _ _ _ _ c.in_ok-summary-in-Ok.ensures refl)

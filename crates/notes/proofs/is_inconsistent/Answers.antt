@@ -6,6 +6,7 @@ use Rattle.bits.specs.Bits.{bits}
 use Rattle.carrier.specs.Carrier.{stream_at, in_places, stream_packet, received}
 use Rattle.carrier.specs.Laws.{packet_inside}
 use Rattle.packet.specs.Packet.{apart}
+use Rattle.tables.specs.Lending.{lent_tables}
 use Rattle.notes.specs.Notes.{frames_of}
 use Rattle.notes.specs.Laws.{over_all}
 use Rattle.notes.proofs.Steps.{ranges, inconsistent_is, put_is}
@@ -26,10 +27,10 @@ pub is_inconsistent-requires-clause-in_range : goal.is_inconsistent-requires-cla
 is_inconsistent-requires-clause-in_range c =
     let m = c.args.multiframes.now in
     let e = found m.octets m.places c.args.q.0 c.multiframe.result.0 c.stream-stream.result.now c.take_apart.new.idx c.multiframe.ensures c.stream-stream.ensures.value c.take_apart.ensures in
-    ranges (received m.octets m.places) c.args.q.0 c.take_apart.new.idx e c.args.tables.now
+    ranges (received m.octets m.places) c.args.q.0 c.take_apart.new.idx e (lent_tables c.args.tables.now)
 
 pub returns : goal.returns
 returns c =
     let m = c.args.multiframes.now in
     let e = found m.octets m.places c.args.q.0 c.multiframe.result.0 c.stream-stream.result.now c.take_apart.new.idx c.multiframe.ensures c.stream-stream.ensures.value c.take_apart.ensures in
-    c.is_inconsistent.ensures ∙ inconsistent_is (received m.octets m.places) c.args.q.0 c.take_apart.new.idx e c.args.tables.now
+    c.is_inconsistent.ensures ∙ inconsistent_is (received m.octets m.places) c.args.q.0 c.take_apart.new.idx e (lent_tables c.args.tables.now)

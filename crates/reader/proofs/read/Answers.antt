@@ -1,7 +1,7 @@
 -- `read` meets its contract: the tables, and then the reading by those that are admitted. Assumes nothing.
-use Rattle.std.proofs.Common.{sym}
+use Rattle.std.proofs.Common.{sym, subst}
 use Rattle.std.proofs.lemmas.Result.{err_from_is_err_and}
-use Rattle.tables.specs.Tables.{tables_of}
+use Rattle.tables.specs.Tables.{tables_of, RightTables}
 use Rattle.tables.proofs.AdmittedLaws.{passes_right, admitted_is}
 use Rattle.reader.proofs.FirstTests.{not_admitted}
 use Rattle.reader.proofs.Steps.{in_numbers}
@@ -19,7 +19,7 @@ returns-in_err-tables c =
 pub read_admitted-requires : goal.read_admitted-requires
 read_admitted-requires c =
     let tables = tables_of c.args.codebook.now c.args.thresholds.now in
-    rw (admitted_is tables (sym c.in_ok-tables.ensures)) (passes_right tables (sym c.in_ok-tables.ensures))
+    subst RightTables (sym (admitted_is tables (sym c.in_ok-tables.ensures))) (passes_right tables (sym c.in_ok-tables.ensures))
 
 pub returns : goal.returns
 returns c =

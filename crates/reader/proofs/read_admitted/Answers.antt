@@ -4,6 +4,7 @@ use Rattle.std.proofs.lemmas.Result.{err_from_is_err_and}
 use Rattle.cutting.specs.Cutting.{cutting}
 use Rattle.cutting.specs.Laws.{Placed}
 use Rattle.cutting.proofs.Laws.{places_placed, at_most_255}
+use Rattle.tables.specs.Lending.{lent_tables}
 use Rattle.reader.proofs.FirstTests.{not_cut, whole_reading}
 use Rattle.reader.proofs.Steps.{cut_whole, cut_refused, front_places}
 use Rattle.tables.proofs.AdmittedLaws.{right_passes}
@@ -13,7 +14,7 @@ pub returns-in_err-count : goal.returns-in_err-count
 returns-in_err-count c =
     let a = c.args in
     let p = err_from_is_err_and c.from_residual.result c.from_residual.ensures.1 in
-    rw (p.1, p.2) (not_cut a.choices a.octets.now a.tables.now a.index.now a.report.now (right_passes a.tables.now c.requires) _
+    rw (p.1, p.2) (not_cut a.choices a.octets.now (lent_tables a.tables.now) a.index.now a.report.now (right_passes (lent_tables a.tables.now) c.requires) _
     (cut_refused (cutting a.octets.now) _ (sym c.in_err-count.ensures.answer)))
 
 pub new-multiframes-requires : goal.new-multiframes-requires
@@ -38,4 +39,4 @@ returns c =
     let counted = cut_whole cut c.in_ok-count.count (sym c.in_ok-count.ensures.answer) in
     let lent = front_places cut.places (replicate 255 0) c.cut_into.new.places c.in_ok-count.count c.in_ok-count.ensures.places counted.1 in
     let read = rw c.new-multiframes.ensures at c.read_found.ensures in
-    whole_reading a.choices a.octets.now a.tables.now a.index.now a.report.now (right_passes a.tables.now c.requires) _ _ counted.0 lent read
+    whole_reading a.choices a.octets.now (lent_tables a.tables.now) a.index.now a.report.now (right_passes (lent_tables a.tables.now) c.requires) _ _ counted.0 lent read
