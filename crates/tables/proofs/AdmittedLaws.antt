@@ -1,6 +1,6 @@
 -- What turns the tables away, and when: `admission` says exactly whether they are right, and else which refusal is theirs.
 -- Assumes nothing.
-use Rattle.std.specs.Prelude.{ℕ, ◌≡◌, Bool, not, Ok, Err, ◌↔◌, pos, length, T}
+use Rattle.std.specs.Prelude.{ℕ, ◌≡◌, Bool, not, Result, Ok, Err, ◌↔◌, pos, length, T}
 use Rattle.std.proofs.Math.Path.{refl}
 use Rattle.std.proofs.Common.{sym, ap, subst, ◌∙◌, arith}
 use Rattle.std.proofs.Math.Bool.{true, false}
@@ -12,7 +12,7 @@ use Rattle.lists.specs.Search as S
 use Rattle.layout.specs.Layout.{codebook_numbers, threshold_numbers}
 use Rattle.refusals.specs.declared.Reading.{Reading}
 use Rattle.refusals.specs.declared.Reading.TheVariants as R
-use Rattle.tables.specs.Tables.{Tables, at, negative, RightSizes, NoneNegative, RightTables, FirstNegative, sizes_right, first_negative, sign_admission, admission, zero_tables}
+use Rattle.tables.specs.Tables.{Tables, at, negative, RightSizes, NoneNegative, RightTables, FirstNegative, sizes_right, first_negative, sign_admission, admission, without_tables, zero_tables}
 use Rattle.tables.specs.Admitted.{Shown}
 
 module _ (tables : Tables) where
@@ -95,6 +95,24 @@ module _ (tables : Tables) where
 
   pub ten_exactly : (k : ℕ) → (admission tables ≡ Err (R.NegativeThreshold k)) ↔ (RightSizes tables × FirstNegative tables k)
   ten_exactly k = (λ e. subst (Shown tables) e shown, λ h. negative_refused k h.0 h.1)
+
+  -- ---- each exactly, too, where the tables themselves are not handed out
+  abbrev ShownAlone : Result Unit Reading → Type 0
+  ShownAlone (Ok u) = RightTables tables
+  ShownAlone (Err r) = Shown tables (Err r)
+
+  shown_alone : (a : Result Tables Reading) → Shown tables a → ShownAlone (without_tables a)
+  shown_alone (Ok admitted) h = h
+  shown_alone (Err r) h = h
+
+  pub alone_right : (without_tables (admission tables) ≡ Ok tt) ↔ RightTables tables
+  alone_right = (λ e. subst ShownAlone e (shown_alone (admission tables) shown), λ h. ap without_tables (right_passes h))
+
+  pub alone_eleven : (without_tables (admission tables) ≡ Err R.WrongTables) ↔ (RightSizes tables → ⊥)
+  alone_eleven = (λ e. subst ShownAlone e (shown_alone (admission tables) shown), λ h. ap without_tables (wrong_sizes h))
+
+  pub alone_ten : (k : ℕ) → (without_tables (admission tables) ≡ Err (R.NegativeThreshold k)) ↔ (RightSizes tables × FirstNegative tables k)
+  alone_ten k = (λ e. subst ShownAlone e (shown_alone (admission tables) shown), λ h. ap without_tables (negative_refused k h.0 h.1))
 
 -- whether no threshold is negative, computed
 pub none_by_test : (tables : Tables) → T (all (λ k. not (negative (at tables.thresholds k))) threshold_numbers) → NoneNegative tables
