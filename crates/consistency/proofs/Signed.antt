@@ -5,9 +5,10 @@ use mathlib.Core.Path.{◌≡◌, refl, sym, ap, ap₂, subst, ◌∙◌}
 use mathlib.Core.Bool.{Bool, true, false, cond}
 use native.Mathlib.Omega.{arith}
 use lib.IntN.{ℤ, pos, negsuc, nat_abs, neg_ℤ, sub_ℕ, ◌+ℤ◌, ◌-ℤ◌}
-use lib.Signed.{mag, lt_z, nat_abs-le}
+use lib.Signed.{mag, lt_z}
 use lib.Dec.{T, leb, ltb}
 use borrow.Author.Tests.{ltb-true}
+use borrow.Author.Gap.{read_sfits}
 use Rattle.lists.specs.Tests.{true_false}
 use mir.Syntax.{Width, w32, w64}
 use mir.Val.{hbits, SFits, to_z, of_z}
@@ -19,7 +20,7 @@ module _ {w : Width} {z : ℤ} (narrower : T (leb (hbits w) (hbits w64))) (fits 
   widens = subst (SFits w64) (sym (to_z-of_z fits)) (sfits_widen narrower fits)
 
   pub widened : to_z w64 (of_z w64 (to_z w (of_z w z))) ≡ z
-  widened = ap (λ (y : ℤ). to_z w64 (of_z w64 y)) (to_z-of_z fits) ∙ to_z-of_z {w = w64} (sfits_widen narrower fits)
+  widened = to_z-of_z {w = w64} widens ∙ to_z-of_z fits
 
 mag_cond : (a b : ℕ) (t : Bool) → mag (cond t (negsuc (b - suc a)) (pos (a - b))) ≤ a + b
 mag_cond a b true = omega arith
@@ -62,9 +63,6 @@ module _ {a b : ℤ} (fa : SFits w32 a) (fb : SFits w32 b) where
   small : mag (b -ℤ a) < 2 ^ 33
   small = omega (arith, mag_add b (neg_ℤ a), mag_neg a, fb.sfits, fa.sfits)
 
-  distance_fits : SFits w64 (distance a b)
-  distance_fits = record { sfits = omega (arith, nat_abs-le (b -ℤ a) small) }
-
   -- y and z are b and a, read back at 64 bits
   module _ {y z : ℤ} (ey : y ≡ b) (ez : z ≡ a) where
     pub sub_fits : SFits w64 (y -ℤ z)
@@ -83,12 +81,28 @@ module _ {a b : ℤ} (fa : SFits w32 a) (fb : SFits w32 b) where
     pub rises : lt_z (to_z w64 (of_z w64 (y -ℤ z))) (pos 0) ≡ false → to_z w64 (of_z w64 (y -ℤ z)) ≡ distance a b
     rises e = exact ∙ kept (b -ℤ a) (ap (λ (d : ℤ). lt_z d (pos 0)) (sym exact) ∙ e)
 
+  -- so the distance fits 64 bits, since they give it: as the difference, or as its negation
+  distance_fits : SFits w64 (distance a b)
+  distance_fits = by (lt_z d (pos 0)) refl
+    where
+      d : ℤ
+      d = to_z w64 (of_z w64 (b -ℤ a))
+
+      by : (t : Bool) → lt_z d (pos 0) ≡ t → SFits w64 (distance a b)
+      by true e = subst (SFits w64) (falls refl refl e) (read_sfits w64 (of_z w64 (pos 0 -ℤ d)))
+      by false e = subst (SFits w64) (rises refl refl e) (read_sfits w64 (of_z w64 (b -ℤ a)))
+
   -- x is the threshold t, and r what the call for the distance answered
   pub compared : {t x r : ℤ} → x ≡ t → r ≡ distance (to_z w32 (of_z w32 a)) (to_z w32 (of_z w32 b)) → lt_z x (to_z w64 (of_z w64 r)) ≡ exceeding t a b
   compared {t} {x} {r} ex er =
       ap (λ (v : ℤ). lt_z v (to_z w64 (of_z w64 r))) ex
       ∙ ap (λ (v : ℤ). lt_z t (to_z w64 (of_z w64 v))) (er ∙ ap₂ distance (to_z-of_z fa) (to_z-of_z fb))
       ∙ ap (lt_z t) (to_z-of_z {w = w64} distance_fits)
+
+-- x is the threshold as the call that widens it gave it, n the absolute value of the difference as its call did, and r the same at 64 bits
+pub compared_wide : {t a b x r : ℤ} {n : ℕ} → SFits w32 t → SFits w32 a → SFits w32 b → x ≡ to_z w32 (of_z w32 t)
+    → n ≡ nat_abs (to_z w32 (of_z w32 b) -ℤ to_z w32 (of_z w32 a)) → r ≡ pos n → lt_z (to_z w64 (of_z w64 x)) (to_z w64 (of_z w64 r)) ≡ exceeding t a b
+compared_wide ft fa fb ex en er = compared fa fb (back ft ex) (er ∙ ap pos en)
 
 -- a call on signed elements of slices is handed their bits, read again
 pub handed : {t a b : ℤ} {r : Bool} (f : ℤ → ℤ → ℤ → Bool) → SFits w32 t → SFits w32 a → SFits w32 b
