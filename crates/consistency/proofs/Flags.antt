@@ -32,18 +32,25 @@ flags_counted t f g (suc c) =
     ap (λ (k : ℕ). when (p c) (suc k) k) (flags_counted t f g c) ∙ sym (one (p c) (count_by p (range_with_len 0 c))) ∙ sym (more p c)
     ∙ ap (λ (k : ℕ). count_by p (range_with_len 0 k)) (add-one c)
 
+-- one index pair more counts if it is flagged
+flags_more : (t : Tables) (f g : List ℕ) (c : ℕ) → flags t f g (c + 1) ≡ flags t f g c + cond (flagged t c (get_or f c 0) (get_or g c 0)) 1 0
+flags_more t f g c =
+    let p : ℕ → Bool = λ c. flagged t c (get_or f c 0) (get_or g c 0) in
+    flags_counted t f g (c + 1) ∙ more p c ∙ ap (λ (k : ℕ). k + cond (p c) 1 0) (sym (flags_counted t f g c))
+
 -- a turn counts its index pair
 module _ (t : Tables) (f g : List ℕ) (c x y n : ℕ) {r : Bool} (so_far : n ≡ flags t f g c) (ex : x ≡ get_or f c 0) (ey : y ≡ get_or g c 0) (er : r ≡ flagged t c x y) where
   tested : flagged t c (get_or f c 0) (get_or g c 0) ≡ r
   tested = ap (λ (z : ℕ). flagged t c (get_or f c 0) z) (sym ey) ∙ ap (λ (z : ℕ). flagged t c z y) (sym ex) ∙ sym er
 
+  counts : flags t f g (c + 1) ≡ n + cond r 1 0
+  counts = flags_more t f g c ∙ rw (tested, so_far) refl
+
   pub one_more : r ≡ true → n + 1 ≡ flags t f g (c + 1)
-  unfolding flags
-  one_more h = rw (add-one, add-one, tested, h) (ap suc so_far)
+  one_more h = sym (rw h at counts)
 
   pub no_more : r ≡ false → n ≡ flags t f g (c + 1)
-  unfolding flags
-  no_more h = rw (add-one, tested, h) so_far
+  no_more h = let e = rw h at counts in omega (arith, e)
 
 pub judged : (t : Tables) (f g : List ℕ) (n : ℕ) → n ≡ flags t f g frame_indices → leb 2 n ≡ inconsistent t f g
 unfolding inconsistent
