@@ -1,6 +1,6 @@
 -- An index of a frame lies in its codebook: what a frame holds among index octets, from the place of its first on. Assumes nothing.
 use Prim.Native.Nat.{ℕ, ◌+◌, ◌<◌}
-use mathlib.Core.Path.{◌≡◌, sym, ◌∙◌}
+use mathlib.Core.Path.{◌≡◌, sym, ap, subst, ◌∙◌}
 use mathlib.Core.List.{List}
 use lib.ListN.{get_or, drop}
 use lib.Seq.{get_or-take, get_or-drop}
@@ -20,3 +20,14 @@ module _ (index : List ℕ) (first c x : ℕ) (here : x ≡ get_or index (first 
         | yes h ↦ let k = range c h in let e = index_of in omega arith
         | no h ↦ omega arith
       ]
+
+-- a frame is its own part, from place 0 on
+from_0 : (f : List ℕ) (k : ℕ) → get_or f k 0 ≡ get_or f (0 + k) 0
+from_0 f k = ap (λ (i : ℕ). get_or f i 0) (omega arith)
+
+whole_frame : (f : List ℕ) → InRange f → InRange (part 0 frame_indices f)
+whole_frame f range k h = subst (λ (x : ℕ). x < 64) (index_of f 0 k (get_or f k 0) (from_0 f k) (omega (arith, h))) (range k h)
+
+pub frame_in_codebook : (f : List ℕ) (c : ℕ) {x : ℕ} → x ≡ get_or f c 0 → c < frame_indices → get_or f c 0 < 256 → InRange f → entry_place c x 1 < codebook_numbers
+frame_in_codebook f c {x} here small octet range =
+    in_codebook f 0 c x (here ∙ from_0 f c) small (subst (λ (n : ℕ). n < 256) (from_0 f c) octet) (whole_frame f range)
