@@ -10,7 +10,6 @@ use refusals::{Refusal, Writing};
 use settings::Settings;
 
 // Every refusal, in 01's order. Nothing that can be written is lent, so that a refusal can change nothing.
-#[tactic(auto, unfolding(crate::specs::Writing::verdict, crate::specs::Writing::room_answer))]
 fn decide(settings: Settings, indices: &[u8], room: usize) -> Result<usize, Writing>
     ensures { result ≡ verdict settings indices.now room }
 {
