@@ -41,7 +41,7 @@ fn decide(settings: Settings, indices: &[u8], room: usize) -> Result<usize, Writ
 // write puts the utterance of these settings and index octets, seven a frame, into the front of out as multiframes and answers the number
 // of octets written; octets beyond stay. Or it refuses, in 01's order, and every octet of out is as it came. 01's number and place of the
 // answer are those of the definition.
-#[tactic(auto, unfolding(crate::specs::Writing::writing), using(crate::proofs::Places::verdict_fits, crate::proofs::Laws::accepted))]
+#[tactic(auto, using(crate::proofs::Places::verdict_fits, crate::proofs::Laws::accepted))]
 pub fn write(settings: Settings, indices: &[u8], out: &mut [u8]) -> Result<usize, Writing>
     ensures all { outcome result out.new ≡ writing settings indices.now out.old }
     ensures number { number_of result ≡ number_of (writing settings indices.now out.old).answer }
