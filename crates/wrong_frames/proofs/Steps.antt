@@ -5,14 +5,15 @@ use mathlib.Core.Bool.{Bool, true, false}
 use mathlib.Core.List.{List}
 use Prim.Native.Nat.{ℕ, zero, suc, ◌+◌, ◌*◌, ◌≤◌, ◌<◌}
 use native.Mathlib.Omega.{arith}
-use lib.ListN.{length, get_or, take, drop}
+use lib.ListN.{length, get_or, take, drop, replicate}
 use Rattle.std.proofs.Common.{drop-cons, add-one, subst}
+use Rattle.std.proofs.lemmas.List.{length-replicate}
 use Rattle.std.specs.Prelude.{◌||◌}
 use Rattle.std.specs.List.{list_any}
 use Rattle.lists.specs.Parts.{part}
 use Rattle.lists.specs.Tests.{when}
 use Rattle.std.specs.Prelude.{Some, None}
-use Rattle.lists.specs.Search.{at, nowhere, first_from, is_found, Passed, search_begin, search_end, hit, on, says_is}
+use Rattle.lists.specs.Search.{at, nowhere, first_from, is_found, Passed, search_begin, search_end, hit, on}
 use Rattle.layout.specs.Layout.{frame_indices}
 use Rattle.layout.specs.declared.Frame.{Frame}
 use Rattle.wrong_frames.specs.WrongFrames.{frame_count}
@@ -37,12 +38,29 @@ module _ (test : List ℕ → ℕ → Bool) (idx : List ℕ) (frames k : ℕ) (p
   pub frames_end : frames ≤ k → nowhere ≡ first_from (test idx) 0 frames
   frames_end h = sym (search_end (test idx) 0 frames k p.1 h)
 
--- the first frame of which a test says so is what a search for it finds, where the test says of a frame only what is so
+-- a test that says of a frame only what is so
+module _ (test : List ℕ → ℕ → Bool) (idx : List ℕ) (says : Frame → Bool → Type 0) (so : (f : Frame) (b : Bool) → says f b → b ≡ test idx f.0) where
+  -- a loop goes on past the frames of which it says no
+  goes_on : (k : ℕ) → k ≤ frame_count idx → ((i : ℕ) → i < k → says (record { 0 = i }) false) → PassedFrames test idx (frame_count idx) k
+  goes_on zero h said = frames_begin test idx
+  goes_on (suc k) h said =
+      subst (PassedFrames test idx (frame_count idx)) (add-one k)
+      (frame_on test idx (frame_count idx) k (goes_on k (omega arith) (λ i a. said i (omega arith))) (omega arith) false (so (record { 0 = k }) false (said k (omega arith))) refl)
+
+  -- and stops where the search does
+  stops : (r : Found) → FirstOf (frame_count idx) says r → found_as r ≡ first_from (test idx) 0 (frame_count idx)
+  unfolding FirstOf
+  stops (Some f) h = frame_hit test idx (frame_count idx) f.0 (goes_on f.0 (omega (arith, h.0)) h.2) h.0 true (so f true h.1) refl
+  stops None h = frames_end test idx (frame_count idx) (frame_count idx) (goes_on (frame_count idx) (omega arith) h) (omega arith)
+
+-- the first frame of which a test says so is what a search for it finds, where the test says of a frame only what is so: by the steps over
+-- the indices of so many frames
 pub first_is : (test : ℕ → Bool) (n : ℕ) (says : Frame → Bool → Type 0) (r : Found) → FirstOf n says r → ((f : Frame) (b : Bool) → says f b → b ≡ test f.0)
     → found_as r ≡ first_from test 0 n
-unfolding FirstOf
-first_is test n says (Some f) h so = sym (says_is test 0 n (at f.0) (omega arith, omega (arith, h.0), sym (so _ _ h.1), λ i a b. sym (so _ _ (h.2 i b))))
-first_is test n says None h so = sym (says_is test 0 n nowhere (λ i a b. sym (so _ _ (h i (omega (arith, b))))))
+first_is test n says r h so =
+    let idx = replicate (frame_indices * n) 0 in
+    let e : frame_count idx ≡ n = omega (arith, length-replicate {A = ℕ} (frame_indices * n) 0) in
+    subst (λ (m : ℕ). found_as r ≡ first_from test 0 m) e (stops (λ l. test) idx says so r (subst (λ (m : ℕ). FirstOf m says r) (sym e) h))
 
 -- one of n items from place k on passes the test exactly if a search over their places finds one
 pub any_is : (test : ℕ → Bool) (l : List ℕ) (k n : ℕ) → k + n ≤ length l → list_any test (part k n l) ≡ is_found (first_from (λ j. test (get_or l j 0)) k n)
