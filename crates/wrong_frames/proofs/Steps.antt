@@ -38,6 +38,10 @@ module _ (test : List ℕ → ℕ → Bool) (idx : List ℕ) (frames k : ℕ) (p
   pub frames_end : frames ≤ k → nowhere ≡ first_from (test idx) 0 frames
   frames_end h = sym (search_end (test idx) 0 frames k p.1 h)
 
+  -- each of those frames lies in the indices
+  pub frame_lies : (j : ℕ) → j < frames → frame_indices * (j + 1) ≤ length idx
+  frame_lies j h = omega (arith, p.0)
+
 -- a test that says of a frame only what is so
 module _ (test : List ℕ → ℕ → Bool) (idx : List ℕ) (says : Frame → Bool → Type 0) (so : (f : Frame) (b : Bool) → says f b → b ≡ test idx f.0) where
   -- a loop goes on past the frames of which it says no
