@@ -1,10 +1,16 @@
 -- `put_refusal` meets its contract: number and place behind their words, and a line feed. Assumes nothing.
+use Rattle.std.proofs.Common.{arith}
 use Rattle.text.proofs.Steps.{adds_on}
-use Rattle.last_line.specs.LastLine.{refusal}
+use Rattle.last_line.proofs.Steps.{refusal_done}
 use Rattle.last_line.proofs.put_refusal.Goals as goal
 
 pub returns : goal.returns
-unfolding refusal
 returns c =
-    let p = adds_on c.put_field.ensures.put (adds_on c.put_field-2.ensures.put c.put_words.ensures) in
-    rw (c.number.ensures, c.place.ensures) at p
+    let fields = adds_on c.put_field.ensures.put c.put_field-2.ensures.put in
+    let line = adds_on fields c.put_words.ensures in
+    record {
+      put = refusal_done c.args.r _ _ _ _ _ _ _ _ c.requires c.number.ensures c.place.ensures fields.put (omega arith) c.put_words.ensures.put;
+      within = line.within;
+      same_length = line.same_length;
+      same_room = line.same_room;
+    }
