@@ -1,9 +1,8 @@
 -- What a reader of 01 would ask of `notes`, and the steps by which the reader works them out.
 -- Assumes nothing.
-use Rattle.std.specs.Prelude.{ℕ, zero, suc, ◌+◌, ◌≤◌, ◌<◌, ◌≡◌, refl, List, [], ◌∷◌, Bool, true, false, not, cond, eqb, length, get_or, drop, count_by}
+use Rattle.std.specs.Prelude.{ℕ, zero, suc, ◌+◌, ◌≤◌, ◌<◌, ◌≡◌, refl, List, [], ◌∷◌, Bool, true, false, eqb, length, get_or, drop}
 use Rattle.std.proofs.Common.{ap, ◌∙◌, drop-cons, drop-drop, get_or-drop, add-one, arith, eqb-true}
 use Rattle.std.proofs.lemmas.Bool.{eqb-false}
-use Rattle.std.proofs.lemmas.List.Sums.{sum_by-cons}
 use Rattle.lists.specs.Tests.{when}
 use Rattle.bad_pairs.specs.BadPairs.{bad, note_by, undecided_by, notes_from, notes, bad_pairs}
 
@@ -140,12 +139,3 @@ none_bad (n ∷ ns) e k = by (eqb n 0) refl e k (λ a. none_bad ns a)
     by true q e zero f = eqb-true n 0 q
     by true q e (suc k) f = f e k
     by false q e k f = absurd (omega arith)
-
--- the count in the library's words, which say what the code's chain of iterators gives
-pub bad_pairs_is : (ns : List ℕ) → count_by bad ns ≡ bad_pairs ns
-bad_pairs_is [] = refl
-bad_pairs_is (n ∷ ns) = sum_by-cons (λ x. cond (bad x) 1 0) n ns ∙ by (eqb n 0) (bad_pairs_is ns)
-  where
-    by : (t : Bool) → count_by bad ns ≡ bad_pairs ns → cond (not t) 1 0 + count_by bad ns ≡ when t (bad_pairs ns) (suc (bad_pairs ns))
-    by true e = omega arith
-    by false e = omega arith

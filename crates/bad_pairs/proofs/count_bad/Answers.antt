@@ -4,7 +4,7 @@ use Rattle.std.proofs.Common.{rules, ◌≡◌, ◌∙◌}
 use Rattle.std.proofs.iter.runs.Made.{chains}
 use Rattle.std.specs.List.{count_by}
 use Rattle.bad_pairs.specs.BadPairs.{bad}
-use Rattle.bad_pairs.specs.Laws.{bad_pairs_is}
+use Rattle.bad_pairs.proofs.Steps.{bad_pairs_is}
 use Rattle.bad_pairs.proofs.count_bad.Goals as goal
 
 pub returns : goal.returns
