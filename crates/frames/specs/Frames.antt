@@ -1,9 +1,12 @@
 -- Frames as index octets, seven a frame: what a zero frame is (01, "Writing" and "Reading"), for writer and reader alike. Frames count from 0.
 -- Assumes nothing.
-use Rattle.std.specs.Prelude.{ℕ, zero, suc, ◌+◌, ◌*◌, ◌<◌, ◌≡◌, refl, List, [], ◌∷◌, Bool, true, false, ◌&&◌, eqb, length, get_or, drop}
+use Rattle.std.specs.Prelude.{ℕ, ◌+◌, ◌*◌, ◌<◌, ◌≡◌, refl, List, [], ◌∷◌, Bool, true, false, ◌&&◌, eqb, length, get_or, drop}
 use Rattle.std.proofs.Common.{sym, ◌∙◌, length-take, get_or-take, get_or-drop, arith, eqb-true}
+use Rattle.std.proofs.Math.Decide.{dec_lt}
 use Rattle.std.proofs.lemmas.Bool.{eqb-false}
-use Rattle.std.specs.List.{list_all}
+use Rattle.std.proofs.lemmas.List.{get_or_past}
+use Rattle.std.proofs.lemmas.List.Sums.{AllPass-from_list_all, list_all-from_AllPass, prefix_len_passes, prefix_len_stops}
+use Rattle.std.specs.List.{list_all, prefix_len}
 use Rattle.lists.specs.Tests.{when, true_false}
 use Rattle.lists.specs.Parts.{part}
 use Rattle.layout.specs.Layout.{frame_indices}
@@ -19,15 +22,22 @@ zero_frame index i = all_zero (part (frame_indices * i) frame_indices index)
 
 -- ---- laws
 
+-- in the library's words, whose laws serve here
+pub all_zero_is : (l : List ℕ) → list_all (λ x. eqb x 0) l ≡ all_zero l
+all_zero_is [] = refl
+all_zero_is (x ∷ l) = by (eqb x 0) (all_zero_is l)
+  where
+    by : (t : Bool) → list_all (λ x. eqb x 0) l ≡ all_zero l → (t && list_all (λ x. eqb x 0) l) ≡ when t (all_zero l) false
+    by true e = e
+    by false e = refl
+
 -- a zero frame is zero at each index
 pub all_zero_at : (l : List ℕ) (j : ℕ) → all_zero l ≡ true → get_or l j 0 ≡ 0
-all_zero_at [] j e = refl
-all_zero_at (x ∷ l) j e = by (eqb x 0) refl e j (λ i z. all_zero_at l i z)
-  where
-    by : (t : Bool) → eqb x 0 ≡ t → when t (all_zero l) false ≡ true → (j : ℕ) → ((i : ℕ) → all_zero l ≡ true → get_or l i 0 ≡ 0) → get_or (x ∷ l) j 0 ≡ 0
-    by true z e zero f = eqb-true x 0 z
-    by true z e (suc j) f = f j e
-    by false z e j f = absurd (true_false (sym e))
+all_zero_at l j e =
+    elim (dec_lt j (length l)) [
+      | yes h ↦ eqb-true (get_or l j 0) 0 (AllPass-from_list_all (λ x. eqb x 0) l (all_zero_is l ∙ e) j 0 h)
+      | no n ↦ get_or_past l j 0 (omega arith)
+    ]
 
 -- octet j of frame k
 frame_octet : (index : List ℕ) (k j : ℕ) → j < frame_indices → get_or (part (frame_indices * k) frame_indices index) j 0 ≡ get_or index (frame_indices * k + j) 0
@@ -54,12 +64,14 @@ unzero index k e =
     record { place = x.place; within = h; nonzero = λ z. x.nonzero (frame_octet index k x.place h ∙ z) }
   where
     some : (l : List ℕ) → all_zero l ≡ false → Some l
-    some [] e = absurd (true_false e)
-    some (x ∷ l) e = by (eqb x 0) refl e (some l)
-      where
-        by : (t : Bool) → eqb x 0 ≡ t → when t (all_zero l) false ≡ false → (all_zero l ≡ false → Some l) → Some (x ∷ l)
-        by true z e f = let r = f e in record { place = suc r.place; within = omega (arith, r.within); nonzero = r.nonzero }
-        by false z e f = record { place = 0; within = omega arith; nonzero = eqb-false x 0 z }
+    some l e =
+        let n = prefix_len (λ x. eqb x 0) l in
+        elim (dec_lt n (length l)) [
+          | yes h ↦ record { place = n; within = h; nonzero = eqb-false (get_or l n 0) 0 (prefix_len_stops (λ x. eqb x 0) l 0 h) }
+          | no m ↦
+              let all : all_zero l ≡ true = sym (all_zero_is l) ∙ list_all-from_AllPass (λ x. eqb x 0) l (λ k d h. prefix_len_passes (λ x. eqb x 0) l k d (omega arith)) in
+              absurd (true_false (sym all ∙ e))
+        ]
 
 -- and a frame that has one is no zero frame
 pub speaks : (index : List ℕ) (k : ℕ) → Nonzero index k → zero_frame index k ≡ false
@@ -70,12 +82,3 @@ speaks index k x = by (all_zero (part (frame_indices * k) frame_indices index)) 
     by false e = refl
     by true e =
         absurd (x.nonzero (sym (frame_octet index k x.place x.within) ∙ all_zero_at (part (frame_indices * k) frame_indices index) x.place e))
-
--- ---- in the library's words, which say what the code's chain of iterators gives
-pub all_zero_is : (l : List ℕ) → list_all (λ x. eqb x 0) l ≡ all_zero l
-all_zero_is [] = refl
-all_zero_is (x ∷ l) = by (eqb x 0) (all_zero_is l)
-  where
-    by : (t : Bool) → list_all (λ x. eqb x 0) l ≡ all_zero l → (t && list_all (λ x. eqb x 0) l) ≡ when t (all_zero l) false
-    by true e = e
-    by false e = refl
