@@ -1,11 +1,11 @@
 -- A pattern that was found fits, and past all columns no pattern of one or two flips does. Assumes nothing.
 use mathlib.Core.Path.{◌≡◌, refl}
-use Prim.Native.Nat.{◌<◌}
+use Prim.Native.Nat.{ℕ, ◌<◌}
 use native.Mathlib.Omega.{arith}
 use borrow.Author.Count.{below_more}
 use lib.ListN.{get_or}
 use Rattle.std.proofs.Common.{rules}
-use Rattle.header.proofs.Search.{fit_one, miss_two, fit_two}
+use Rattle.header.proofs.Search.{miss_one, fit_one, miss_two, fit_two}
 use Rattle.header.proofs.pattern_of.Goals as goal
 use Rattle.header.proofs.pattern_of.Goals.{In_default, In-Some}
 
@@ -33,3 +33,13 @@ returns-then-columns-j c =
     λ w es.
     fit_two w _ _ _ i j _ _ _ h g refl c.bit-then-columns-j.ensures c.bit-then-columns-j-2.ensures es (c.columns-columns.ensures i h)
     (c.columns-columns.ensures j g) c.if-columns-j.true
+
+-- past all columns: none was the syndrome, and no two were it together
+pub returns : goal.returns
+returns c =
+    let columns = c.columns-columns.result in
+    let none : (i : ℕ) → i < 32 → get_or columns i 0 ≡ c.args.wrong → ⊥ = λ i h t. search rules in
+    λ w es. (
+      λ i h. miss_one w _ i _ es (c.columns-columns.ensures i h) (none i h),
+      λ i j h g. c.loop-i.invariant w es i (omega arith) j h g,
+    )
