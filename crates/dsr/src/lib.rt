@@ -54,7 +54,6 @@ pub extern "C" fn dsr_header_read(word: u32, message: &mut u16, flips: &mut u32)
 
 // dsr_pack turns the 24 frames of a multiframe into its stream and answers 0; or 98 for a wrong length (house), or the writer's 4 for an
 // index above 63, and then the stream stays.
-#[tactic(auto, using(entries::specs::Laws::packs), unfolding(entries::specs::Entries::packing))]
 #[unsafe(no_mangle)]
 pub extern "C" fn dsr_pack(indices: &[u8], stream: &mut [u8]) -> u32
     ensures { packed result stream.new ≡ packing indices.now stream.old }
