@@ -72,7 +72,6 @@ pub extern "C" fn dsr_pack(indices: &[u8], stream: &mut [u8]) -> u32
 
 // dsr_unpack turns a stream into its 24 frames and twelve notes, 0 for a right CRC and 1 for a failed one, and answers 0; or 98 for a wrong
 // length (house), and then both lent buffers stay.
-#[tactic(auto, unfolding(entries::specs::Entries::unpacking))]
 #[unsafe(no_mangle)]
 pub extern "C" fn dsr_unpack(stream: &[u8], indices: &mut [u8], notes: &mut [u8]) -> u32
     ensures { unpacked result indices.new notes.new ≡ unpacking stream.now indices.old notes.old }
