@@ -89,7 +89,6 @@ pub extern "C" fn dsr_unpack(stream: &[u8], indices: &mut [u8], notes: &mut [u8]
 
 // dsr_write answers 01's number, 0 for success, and puts the octets written or the refusal's place into place. Rate and type are numbers of
 // 64 bits, so that a caller's number arrives as it is: 256 is refused, and not taken for 0.
-#[tactic(auto, using(entries::specs::Laws::unfit_refused))]
 #[unsafe(no_mangle)]
 pub extern "C" fn dsr_write(
     rate: u64,
