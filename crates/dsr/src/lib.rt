@@ -110,7 +110,6 @@ pub extern "C" fn dsr_write(
 // the refusal's place into place, and all other lent memory stays. By default (choices 0) an only multiframe is refused with 16; choices 1 asks
 // for the old rule, by which one header alone settles (02, C-20). Room for fewer than six numbers is refused with 99 and then any other number
 // of choices with 96 (house), and all lent memory stays.
-#[tactic(auto, unfolding(entries::specs::Entries::returning, entries::specs::Entries::unchosen))]
 #[unsafe(no_mangle)]
 pub extern "C" fn dsr_read(
     octets: &[u8],
@@ -137,7 +136,6 @@ pub extern "C" fn dsr_read(
 // dsr_settle reads multiframes only until the settings are settled (02, C-11): it answers 0 and puts three numbers (rate, type, multiframes
 // read) into answer, and place stays; or 01's number, 12 to 17, and puts the refusal's place into place, and answer stays. Choices are those
 // of dsr_read. Room for fewer than three numbers is refused with 99 and then a number that names no choice with 96, and all lent memory stays.
-#[tactic(auto, unfolding(entries::specs::Entries::returning, entries::specs::Entries::unchosen))]
 #[unsafe(no_mangle)]
 pub extern "C" fn dsr_settle(
     octets: &[u8],
@@ -174,7 +172,6 @@ pub extern "C" fn dsr_hunt(
 // tested) into answer, and place stays; or the refusal's number, and puts its place into place, and all other lent memory stays. Choices are
 // those of dsr_read. Room for fewer than eight numbers is refused with 99 and then a number that names no choice with 96, and all lent memory
 // stays.
-#[tactic(auto, unfolding(entries::specs::Entries::returning, entries::specs::Entries::unchosen))]
 #[unsafe(no_mangle)]
 pub extern "C" fn dsr_read_bits(
     octets: &[u8],
