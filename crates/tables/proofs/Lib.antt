@@ -1,1 +1,2 @@
 pub mod AdmittedLaws
+pub mod LendingLaws
