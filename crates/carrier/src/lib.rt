@@ -11,7 +11,6 @@ use std::marker::Model;
 
 // header_word gives the header of the multiframe at a place, as a word. It asks, as stream_at, for a whole multiframe, which cutting has found:
 // a fact of octets and one place, which Multiframes has of all places.
-#[tactic(auto, using(crate::specs::Laws::low_half, crate::specs::Laws::word_is))]
 pub fn header_word(octets: &[u8], place: usize) -> u32
     requires { place + multiframe_octets ≤ length octets.now }
     ensures { result ≡ header_word octets.now place }
