@@ -52,7 +52,7 @@ module _ (test : List ℕ → ℕ → Bool) (idx : List ℕ) (says : Frame → B
       (frame_on test idx (frame_count idx) k (goes_on k (omega arith) (λ i a. said i (omega arith))) (omega arith) false (so (record { 0 = k }) false (said k (omega arith))) refl)
 
   -- and stops where the search does
-  stops : (r : Found) → FirstOf (frame_count idx) says r → found_as r ≡ first_from (test idx) 0 (frame_count idx)
+  pub stops : (r : Found) → FirstOf (frame_count idx) says r → found_as r ≡ first_from (test idx) 0 (frame_count idx)
   unfolding FirstOf
   stops (Some f) h = frame_hit test idx (frame_count idx) f.0 (goes_on f.0 (omega (arith, h.0)) h.2) h.0 true (so f true h.1) refl
   stops None h = frames_end test idx (frame_count idx) (frame_count idx) (goes_on (frame_count idx) (omega arith) h) (omega arith)

@@ -2,7 +2,7 @@
 -- Assumes nothing.
 use Rattle.std.proofs.Common.{rules}
 use Rattle.wrong_frames.specs.WrongFrames.{ends_early, frame_count}
-use Rattle.wrong_frames.proofs.Steps.{frames_begin, frame_lies, first_is}
+use Rattle.wrong_frames.proofs.Steps.{frames_begin, frame_lies, stops}
 use Rattle.wrong_frames.proofs.first_early.Goals as goal
 
 pub first-requires : goal.first-requires
@@ -13,4 +13,4 @@ first-requires c =
     λ k h _ _ _ _ _ _. each k h
 
 pub returns : goal.returns
-returns c = first_is (ends_early c.args.indices.now) (frame_count c.args.indices.now) _ c.first.result c.first.ensures (λ f b s. search rules)
+returns c = stops ends_early c.args.indices.now _ (λ f b s. search rules) c.first.result c.first.ensures
