@@ -1,9 +1,9 @@
 -- What a caller in C gets of `dsr_write`, `dsr_read` and `dsr_read_bits`, with which the entries' contracts are equations: when a number is 0, and
 -- what stays when it is not (demand 1).
 -- Assumes nothing.
-use Rattle.std.specs.Prelude.{◌≡◌, Bool, List, ℕ, ◌≤◌, ◌<◌, drop, Some, Ok, Err}
+use Rattle.std.specs.Prelude.{◌≡◌, Bool, List, [], ℕ, ◌≤◌, ◌<◌, drop, Some, Ok, Err}
 use Rattle.std.proofs.Math.Path.{refl}
-use Rattle.std.proofs.Common.{sym, ap, ap₂, ◌∙◌, arith, le-ltb, lt-ltb, ltb-false}
+use Rattle.std.proofs.Common.{sym, ap, ap₂, ◌∙◌, arith, lt-ltb, ltb-false}
 use Rattle.std.proofs.Math.Bool.{true, false}
 use Rattle.std.proofs.Math.Dec.{ltb}
 use Rattle.std.proofs.Math.ListN.{length}
@@ -15,7 +15,7 @@ use Rattle.settings.specs.Settings.{settings}
 use Rattle.writer.specs.Writing as W
 use Rattle.writer.specs.Writing.{writing}
 use Rattle.writer.specs.Types as WA
-use Rattle.refusals.specs.Refusals.{no_room, reading_number, reading_place, hunting_number, hunting_place}
+use Rattle.refusals.specs.Refusals.{success, no_room, reading_number, reading_place, hunting_number, hunting_place}
 use Rattle.refusals.proofs.Laws.{writing_no_success, reading_no_success, hunting_no_success}
 use Rattle.reader.specs.Reading as R
 use Rattle.reader.specs.Reading.{reading}
@@ -31,6 +31,7 @@ use Rattle.hunting.specs.declared.Counted.{Counted}
 use Rattle.refusals.specs.declared.Hunting as GR
 use Rattle.hunting.specs.Types as GA
 use Rattle.entries.specs.Entries.{answer_numbers, summary_numbers, Told, numbers, refusal, Given, given, returned, answered, returning, told_of, given_of, dsr_write, dsr_read}
+use Rattle.entries.specs.Laws.{tells_numbers, tells_refusal, returns_told}
 use Rattle.entries.specs.Bits.{counted_numbers, numbers_of, bits_told, bits_given, dsr_read_bits}
 
 -- octets beyond what is laid over a buffer's front stay
@@ -60,13 +61,15 @@ module _ (rate kind : ℕ) (indices out : List ℕ) where
 module _ (w : ℕ) (a : List ℕ) (p : ℕ) (i r : List ℕ) (g : Given) where
   -- a success, with room for its numbers, is 0, both buffers and its numbers; numbers beyond them and the place stay
   pub told_success : w ≤ length a → (l : List ℕ) → g.told ≡ numbers l → returning w a p i r g ≡ returned 0 g.index g.report (over a 0 w l) p
-  unfolding returning
-  told_success h l e = rw (le-ltb (length a) w h) (ap (answered w a p g.index g.report) e)
+  told_success h l e =
+      let told : returned success [] [] (over a 0 w l) p ≡ answered w a p [] [] (numbers l) = tells_numbers w a p (numbers l) l (over a 0 w l) refl refl in
+      sym (returns_told w a p i r g h (numbers l) g.index g.report (over a 0 w l) success p (ap (λ (t : Told). given t g.index g.report) (sym e)) told)
 
   -- a refusal is its number and its place, and the answer stays
   pub told_refused : w ≤ length a → (n q : ℕ) → g ≡ given (refusal n q) i r → returning w a p i r g ≡ returned n i r a q
-  unfolding returning
-  told_refused h n q e = rw (le-ltb (length a) w h) (ap (λ (x : Given). answered w a p x.index x.report x.told) e)
+  told_refused h n q e =
+      let told : returned n [] [] a q ≡ answered w a p [] [] (refusal n q) = tells_refusal w a p (refusal n q) n q n q refl refl refl in
+      sym (returns_told w a p i r g h (refusal n q) i r a n q (sym e) told)
 
   -- no room is 99, and all stays
   pub told_no_room : length a < w → returning w a p i r g ≡ returned no_room i r a p

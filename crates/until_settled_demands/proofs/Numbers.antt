@@ -2,41 +2,28 @@
 -- Assumes nothing.
 use Rattle.std.specs.Prelude.{ℕ, ◌≤◌, ◌≡◌, length, Some, Ok, Err}
 use Rattle.std.proofs.Math.Path.{refl}
-use Rattle.std.proofs.Common.{ap, sym}
+use Rattle.std.proofs.Common.{ap}
 use mathlib.Core.List.{List, []}
 use Rattle.lists.specs.Parts.{over}
 use Rattle.choices.specs.declared.Choices.{Choices}
 use Rattle.refusals.proofs.Laws.{reading_no_success}
-use Rattle.refusals.specs.Refusals.{success, reading_number, reading_place}
+use Rattle.refusals.specs.Refusals.{reading_number, reading_place}
 use Rattle.refusals.specs.declared.Reading.{Reading as Refusal}
-use Rattle.entries.specs.Entries.{Told, numbers, refusal, given, returned, answered}
-use Rattle.entries.specs.Laws.{tells_numbers, tells_refusal, returns_told}
+use Rattle.entries.specs.Entries.{returned, answered}
 use Rattle.entries.specs.Settle.{settle_numbers, beginning_numbers, settle_told, settle_given, dsr_settle}
 use Rattle.until_settled.specs.declared.Beginning.{Beginning}
 use Rattle.until_settled.specs.Types.{Answer}
 use Rattle.until_settled.specs.UntilSettled.{until_settled}
-use Rattle.dsr_demands.specs.Calls.{told_zero}
+use Rattle.dsr_demands.specs.Calls.{told_success, told_refused, told_zero}
 
 module _ (octets answer : List ℕ) (place : ℕ) where
   -- ---- each answer in numbers, with room for three
   module _ (ch : Choices) (room : settle_numbers ≤ length answer) where
-    -- what the entry returns once its answer is told
-    tells : (t : Told) (a : List ℕ) (n p : ℕ) → t ≡ settle_told (until_settled ch octets) → returned n [] [] a p ≡ answered settle_numbers answer place [] [] t
-        → dsr_settle octets (Some ch) answer place ≡ returned n [] [] a p
-    tells t a n p e et =
-        sym (returns_told settle_numbers answer place [] [] (settle_given (until_settled ch octets)) room t [] [] a n p (ap (λ (x : Told). given x [] []) e) et)
-
     pub c_settled : (b : Beginning) → until_settled ch octets ≡ Ok b → dsr_settle octets (Some ch) answer place ≡ returned 0 [] [] (over answer 0 settle_numbers (beginning_numbers b)) place
-    c_settled b e =
-        let l = beginning_numbers b in
-        let a = over answer 0 settle_numbers l in
-        tells (numbers l) a success place (sym (ap settle_told e)) (tells_numbers settle_numbers answer place (numbers l) l a refl refl)
+    c_settled b e = told_success settle_numbers answer place [] [] (settle_given (until_settled ch octets)) room (beginning_numbers b) (ap settle_told e)
 
     pub c_settle_refused : (r : Refusal) → until_settled ch octets ≡ Err r → dsr_settle octets (Some ch) answer place ≡ returned (reading_number r) [] [] answer (reading_place r)
-    c_settle_refused r e =
-        let n = reading_number r in
-        let p = reading_place r in
-        tells (refusal n p) answer n p (sym (ap settle_told e)) (tells_refusal settle_numbers answer place (refusal n p) n p n p refl refl refl)
+    c_settle_refused r e = told_refused settle_numbers answer place [] [] (settle_given (until_settled ch octets)) room (reading_number r) (reading_place r) (ap settle_given e)
 
   -- 0 is of settings, with room for them
   pub settle_zero : (ch : Choices) → (dsr_settle octets (Some ch) answer place).number ≡ 0 → (settle_numbers ≤ length answer) × ((b : Beginning) × (until_settled ch octets ≡ Ok b))
